@@ -1,0 +1,45 @@
+ghost use Rattle.std.specs.Prelude.{◌≡◌, IfOk};
+
+use mr_text::{Block, Cause};
+use std::alloc::AllocError;
+
+/// What a node answers to one leg of a request.
+#[derive(Debug, Drop)]
+pub enum LegReply {
+    /// A get found an item.
+    Hit {
+        /// The number that was set with the item.
+        flags: u32,
+        /// The data.
+        block: Block,
+    },
+    /// A get found none.
+    Miss,
+    /// A set was performed.
+    Stored,
+    /// A delete found an item.
+    Deleted,
+    /// A delete found none.
+    NotFound,
+    /// The leg wasn't performed, or isn't known to be.
+    Failed(Cause),
+}
+
+impl LegReply {
+    /// An equal reply.
+    pub fn copy(&self) -> Result<LegReply, AllocError>
+        ensures { IfOk result (λ reply. reply ≡ self.now) }
+    {
+        Ok(match self {
+            LegReply::Hit { flags, block } => LegReply::Hit {
+                flags: *flags,
+                block: block.copy()?,
+            },
+            LegReply::Miss => LegReply::Miss,
+            LegReply::Stored => LegReply::Stored,
+            LegReply::Deleted => LegReply::Deleted,
+            LegReply::NotFound => LegReply::NotFound,
+            LegReply::Failed(cause) => LegReply::Failed(cause.copy()?),
+        })
+    }
+}

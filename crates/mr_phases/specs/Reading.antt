@@ -1,0 +1,7 @@
+-- A reading of a clock, in seconds, beside the hops of the schedule in which it stands.
+use Rattle.std.specs.Prelude.{ℕ, List}
+use Rattle.mr_phases.specs.Schedule.{Hop}
+
+pub record Reading : Type 0 where
+  pub hops : List Hop
+  pub reading : ℕ

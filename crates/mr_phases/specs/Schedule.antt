@@ -1,0 +1,83 @@
+-- Migrations in a row: hop j moves from pool j to pool j + 1. One migration is a list of one hop.
+use Rattle.std.specs.Prelude.{ℕ, ◌+◌, ◌*◌, ◌^◌, ◌<◌, ◌≤◌, List, [], ◌∷◌, length, min, nat_lt, if◌then◌else◌, All}
+use Rattle.mr_phases.specs.declared.phase_name.PhaseName.{PhaseName}
+use Rattle.mr_phases.specs.declared.phase_name.PhaseName.TheVariants.{OldOnly, BothReadOld, BothReadNew, NewOnly}
+
+-- one migration: its first second, and how long each of its two middle phases lasts
+pub record Hop : Type 0 where
+  pub start : ℕ
+  pub interval : ℕ
+
+abbrev pub one_hop : ℕ → ℕ → List Hop
+one_hop start interval = record { start = start; interval = interval } ∷ []
+
+-- where a reading stands in a hop: each bound belongs to the later phase
+abbrev pub phase_in : Hop → ℕ → PhaseName
+phase_in h t =
+    if nat_lt t h.start then OldOnly
+    else if nat_lt t (h.start + h.interval) then BothReadOld
+    else if nat_lt t (h.start + 2 * h.interval) then BothReadNew
+    else NewOnly
+
+-- the range of readings of each phase, half open
+abbrev pub StandsIn : PhaseName → Hop → ℕ → Type 0
+StandsIn OldOnly h t = t < h.start
+StandsIn BothReadOld h t = (h.start ≤ t) × (t < h.start + h.interval)
+StandsIn BothReadNew h t = (h.start + h.interval ≤ t) × (t < h.start + 2 * h.interval)
+StandsIn NewOnly h t = h.start + 2 * h.interval ≤ t
+
+-- the number of the hop in force, and its phase
+pub record Standing : Type 0 where
+  pub hop : ℕ
+  pub phase : PhaseName
+
+-- the last hop whose start is reached, else the first, whose number is given
+abbrev pub standing_from : ℕ → Hop → List Hop → ℕ → Standing
+standing_from number h [] t = record { hop = number; phase = phase_in h t }
+standing_from number h (g ∷ gs) t =
+    if nat_lt t g.start then record { hop = number; phase = phase_in h t }
+    else standing_from (number + 1) g gs t
+
+-- without a hop everything stays in the first pool
+abbrev pub standing_of : List Hop → ℕ → Standing
+standing_of [] t = record { hop = 0; phase = OldOnly }
+standing_of (h ∷ hs) t = standing_from 0 h hs t
+
+abbrev pub hop_of : List Hop → ℕ → ℕ
+hop_of hops t = (standing_of hops t).hop
+
+abbrev pub phase_of : List Hop → ℕ → PhaseName
+phase_of hops t = (standing_of hops t).phase
+
+abbrev pub first_start : List Hop → ℕ
+first_start [] = 0
+first_start (h ∷ hs) = h.start
+
+abbrev pub first_interval : List Hop → ℕ
+first_interval [] = 0
+first_interval (h ∷ hs) = h.interval
+
+abbrev pub least_from : Hop → List Hop → ℕ
+least_from h [] = h.interval
+least_from h (g ∷ gs) = min h.interval (least_from g gs)
+
+-- the least interval of all hops
+abbrev pub least_interval : List Hop → ℕ
+least_interval [] = 0
+least_interval (h ∷ hs) = least_from h hs
+
+abbrev pub IsChainFrom : Hop → List Hop → Type 0
+IsChainFrom h [] = Unit {0}
+IsChainFrom h (g ∷ gs) = (h.start + 2 * h.interval ≤ g.start) × IsChainFrom g gs
+
+-- each hop starts no earlier than the one before it has ended
+abbrev pub IsChain : List Hop → Type 0
+IsChain [] = Unit {0}
+IsChain (h ∷ hs) = IsChainFrom h hs
+
+-- what every schedule keeps: at least one hop, one after the other, each of a second or more, all ended within a u64
+pub record IsSchedule (hops : List Hop) : Type 0 where
+  pub begins : 0 < length hops
+  pub chain : IsChain hops
+  pub lasts : All (λ h. 0 < h.interval) hops
+  pub fits : All (λ h. h.start + 2 * h.interval < 2 ^ 64) hops

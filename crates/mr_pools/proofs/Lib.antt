@@ -1,0 +1,3 @@
+pub mod NodeNameLemmas
+pub mod PoolLemmas
+pub mod RoutingLemmas

@@ -1,0 +1,7 @@
+pub mod Hash
+pub mod Limits
+pub mod Making
+pub mod NodeName
+pub mod Pool
+pub mod PoolError
+pub mod Routing

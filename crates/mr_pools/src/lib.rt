@@ -1,0 +1,19 @@
+//! Where keys are kept: named nodes, the pools that they form, the hashes that place a key in a pool, and the
+//! routing of a migration from one pool to another.
+#![tactic(auto)]
+
+mod error;
+mod hash;
+mod limits;
+mod name;
+mod pool;
+mod routing;
+#[cfg(test)]
+mod tests;
+
+pub use error::PoolError;
+pub use hash::{Fnv1a32, KeyHash, NamedHash, SumHash};
+pub use limits::{MAX_NAME, MAX_NODES};
+pub use name::NodeName;
+pub use pool::Pool;
+pub use routing::Routing;

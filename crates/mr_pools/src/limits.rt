@@ -1,0 +1,7 @@
+//! The limits of pools.
+
+/// The longest name of a node, in bytes.
+pub const MAX_NAME: usize = 255;
+
+/// The most nodes of one pool.
+pub const MAX_NODES: usize = 1024;

@@ -1,0 +1,12 @@
+pub mod Bytes
+pub mod Keys
+pub mod Numbers
+pub mod Words
+pub mod Texts
+pub mod Shapes
+pub mod Values
+pub mod Lines
+pub mod Blocks
+pub mod RequestReading
+pub mod Fitting
+pub mod Nexts

@@ -1,0 +1,40 @@
+-- A request that was found at the front of some bytes, over the program's own types for it.
+use Rattle.std.specs.Prelude.{◌≡◌, ℕ, ◌≤◌, List, length, Option, Some, None, Result, Ok, Err}
+use Rattle.mr_text.specs.Block.{IsBlock}
+use Rattle.mr_text.specs.Key.{IsKey}
+use Rattle.mr_text.specs.CommandView.{AreKeys}
+use Rattle.mr_text.specs.Text.{words_of}
+use Rattle.mr_text.specs.Reading.{Reading, request_reading}
+use Rattle.mr_text.specs.Reading.Reading.{Waits, Gives, Refused}
+use Rattle.mr_text.specs.declared.reading.commands.Command.{Command}
+use Rattle.mr_text.specs.declared.reading.commands.Command.TheVariants.{Get, Set, Delete, Quit}
+use Rattle.mr_text.specs.declared.reading.requests.FoundRequest.{FoundRequest}
+use Rattle.mr_text.specs.declared.reading.requests.RefusedText.{RefusedText}
+use Rattle.mr_text.specs.declared.request.Request.{Request}
+use Rattle.mr_text.specs.declared.request.Request.TheVariants as request
+
+-- the request that a line and a block say
+abbrev pub request_said : Command → List ℕ → Request
+request_said (Get keys count) block = request.Get (words_of keys.now)
+request_said (Set key flags exptime block_length noreply) block = request.Set key.now flags exptime block noreply
+request_said (Delete key noreply) block = request.Delete key.now noreply
+request_said Quit block = request.Quit
+
+abbrev pub said_request : FoundRequest → Request
+said_request found = request_said found.command found.block.now
+
+-- keys are keys, and the block is one
+abbrev pub IsGood : Command → List ℕ → Type 0
+IsGood (Get keys count) block = AreKeys (words_of keys.now) count
+IsGood (Set key flags exptime block_length noreply) block = IsKey key.now × IsBlock block
+IsGood (Delete key noreply) block = IsKey key.now
+IsGood Quit block = Unit {0}
+
+abbrev pub IsWhole : FoundRequest → Type 0
+IsWhole found = IsGood found.command found.block.now
+
+-- what the reading of the bytes gives
+abbrev pub IsFound : List ℕ → Result (Option FoundRequest) RefusedText → Type 0
+IsFound bytes (Ok None) = request_reading bytes ≡ Waits
+IsFound bytes (Ok (Some found)) = (request_reading bytes ≡ Gives (said_request found) found.length) × IsWhole found × (found.length ≤ length bytes)
+IsFound bytes (Err refused) = (request_reading bytes ≡ Refused refused.refusal refused.length) × (refused.length ≤ length bytes)

@@ -1,0 +1,107 @@
+//! The texts of the named causes.
+
+ghost use Rattle.std.specs.Prelude.{◌≡◌, ◌↔◌, IsTrue, IfOk, IfNone};
+ghost use Rattle.mr_text.specs.CauseText.{cause_named, text_of};
+ghost use Rattle.mr_text.specs.NamedText.{IsNamedText};
+
+use crate::cause::Cause;
+use std::alloc::AllocError;
+
+impl Cause {
+    /// The text, as it stands behind the word of an error.
+    pub fn text(&self) -> &[u8]
+        ensures { result.now ≡ text_of self.now }
+    {
+        match self {
+            Cause::LineTooLong => b"line too long",
+            Cause::BadKey => b"bad key",
+            Cause::BadNumber => b"bad number",
+            Cause::WrongWords => b"wrong words",
+            Cause::DataTooLong => b"data too long",
+            Cause::BadDataEnd => b"bad data end",
+            Cause::LegLost => b"leg lost",
+            Cause::Busy => b"busy",
+            Cause::OutOfMemory => b"out of memory",
+            Cause::ClockFault => b"clock fault",
+            Cause::BookFull => b"book full",
+            Cause::NumbersSpent => b"numbers spent",
+            Cause::NodeRefused => b"node refused",
+            Cause::Other(line) => line.as_bytes(),
+        }
+    }
+
+    /// An equal cause.
+    pub fn copy(&self) -> Result<Cause, AllocError>
+        ensures { IfOk result (λ cause. cause ≡ self.now) }
+    {
+        Ok(match self {
+            Cause::LineTooLong => Cause::LineTooLong,
+            Cause::BadKey => Cause::BadKey,
+            Cause::BadNumber => Cause::BadNumber,
+            Cause::WrongWords => Cause::WrongWords,
+            Cause::DataTooLong => Cause::DataTooLong,
+            Cause::BadDataEnd => Cause::BadDataEnd,
+            Cause::LegLost => Cause::LegLost,
+            Cause::Busy => Cause::Busy,
+            Cause::OutOfMemory => Cause::OutOfMemory,
+            Cause::ClockFault => Cause::ClockFault,
+            Cause::BookFull => Cause::BookFull,
+            Cause::NumbersSpent => Cause::NumbersSpent,
+            Cause::NodeRefused => Cause::NodeRefused,
+            Cause::Other(line) => Cause::Other(line.copy()?),
+        })
+    }
+}
+
+/// The cause that has this text for its name.
+pub(crate) fn named_cause(text: &[u8]) -> Option<Cause>
+    ensures { result ≡ cause_named text.now }
+{
+    if text == b"line too long".as_slice() {
+        return Some(Cause::LineTooLong);
+    }
+    if text == b"bad key".as_slice() {
+        return Some(Cause::BadKey);
+    }
+    if text == b"bad number".as_slice() {
+        return Some(Cause::BadNumber);
+    }
+    if text == b"wrong words".as_slice() {
+        return Some(Cause::WrongWords);
+    }
+    if text == b"data too long".as_slice() {
+        return Some(Cause::DataTooLong);
+    }
+    if text == b"bad data end".as_slice() {
+        return Some(Cause::BadDataEnd);
+    }
+    if text == b"leg lost".as_slice() {
+        return Some(Cause::LegLost);
+    }
+    if text == b"busy".as_slice() {
+        return Some(Cause::Busy);
+    }
+    if text == b"out of memory".as_slice() {
+        return Some(Cause::OutOfMemory);
+    }
+    if text == b"clock fault".as_slice() {
+        return Some(Cause::ClockFault);
+    }
+    if text == b"book full".as_slice() {
+        return Some(Cause::BookFull);
+    }
+    if text == b"numbers spent".as_slice() {
+        return Some(Cause::NumbersSpent);
+    }
+    if text == b"node refused".as_slice() {
+        return Some(Cause::NodeRefused);
+    }
+    None
+}
+
+/// Whether the text is a named cause's.
+pub(crate) fn is_named_text(text: &[u8]) -> bool
+    ensures { IsTrue result ↔ IsNamedText text.now }
+{
+    named_cause(text).is_some()
+}

@@ -1,0 +1,9 @@
+//! Counts and texts that only contracts see: they never overflow and take no memory, since a program stores none of them.
+
+mod bytes;
+mod count;
+mod roll;
+mod tally;
+
+pub use bytes::GhostBytes;
+pub use tally::GhostCount;

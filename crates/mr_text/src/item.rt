@@ -1,0 +1,29 @@
+ghost use Rattle.std.specs.Prelude.{◌≡◌, IfOk};
+
+use crate::block::Block;
+use crate::key::Key;
+use std::alloc::AllocError;
+
+/// A key with what is kept under it.
+#[derive(Debug, Drop)]
+pub struct Item {
+    /// The name.
+    pub key: Key,
+    /// A number that the client chose, given back as it came.
+    pub flags: u32,
+    /// The data.
+    pub block: Block,
+}
+
+impl Item {
+    /// An equal item.
+    pub fn copy(&self) -> Result<Item, AllocError>
+        ensures { IfOk result (λ item. item ≡ self.now) }
+    {
+        Ok(Item {
+            key: self.key.copy()?,
+            flags: self.flags,
+            block: self.block.copy()?,
+        })
+    }
+}

@@ -1,0 +1,43 @@
+//! The classic memcached text protocol: requests and replies, read from a stream in any pieces and written canonically.
+#![tactic(auto)]
+
+mod block;
+mod cause;
+mod cause_text;
+mod counting;
+mod error;
+mod fails_at;
+mod fixed_buffer;
+mod item;
+mod item_list;
+mod kept;
+mod key;
+mod key_list;
+mod limits;
+mod line;
+mod reading;
+mod reply;
+mod request;
+mod request_reader;
+mod sink;
+mod source;
+mod writing;
+
+pub use block::Block;
+pub use cause::Cause;
+pub use counting::{GhostBytes, GhostCount};
+pub use error::{ReadFault, TextError, WriteFault};
+pub use fails_at::FailsAt;
+pub use fixed_buffer::{FIXED_BUFFER, FixedBuffer, write_reply_at_once};
+pub use item::Item;
+pub use item_list::ItemList;
+pub use key::Key;
+pub use key_list::KeyList;
+pub use limits::{MAX_BLOCK, MAX_ERROR_TEXT, MAX_ITEMS, MAX_KEY, MAX_LINE};
+pub use line::Line;
+pub use reply::Reply;
+pub use request::Request;
+pub use request_reader::RequestReader;
+pub use sink::{OverWriter, Sink};
+pub use source::{OverReader, Source};
+pub use writing::{write_reply, write_request};

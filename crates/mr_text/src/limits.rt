@@ -1,0 +1,16 @@
+//! The limits of the text, in bytes but for the count of items.
+
+/// The longest key.
+pub const MAX_KEY: usize = 250;
+
+/// The longest line, without its line end.
+pub const MAX_LINE: usize = 8192;
+
+/// The longest block.
+pub const MAX_BLOCK: usize = 8192;
+
+/// The longest text of an error that has no name: what a line has room for behind its word and a space.
+pub const MAX_ERROR_TEXT: usize = 8179;
+
+/// The most items of one reply.
+pub const MAX_ITEMS: usize = 4094;

@@ -1,0 +1,192 @@
+ghost use Rattle.std.specs.Prelude.{◌≡◌, ◌≤◌, length, IfOk};
+ghost use Rattle.std.specs.List.{list_any};
+ghost use Rattle.std.specs.Str.{bytes_eq};
+ghost use Rattle.mr_text.specs.Commands.{block_command_words};
+ghost use Rattle.mr_text.specs.Text.{words_of};
+ghost use Rattle.mr_text.specs.Reading.{command_line, line_of_shape, get_shape, set_shape, delete_shape, quit_shape, noreply_of, without_zero};
+ghost use Rattle.mr_text.specs.CommandView.{IsCommand, IsGoodLine};
+ghost use Rattle.mr_text.specs.declared.limits.TheConstants.{MAX_LINE};
+
+use crate::error::TextError;
+use crate::key::is_key;
+use crate::limits::MAX_BLOCK;
+use crate::reading::numbers::{number_up_to, signed_number};
+use crate::reading::words::next_word;
+
+/// What the line of a request says, over the line's own bytes.
+#[derive(Clone, Copy)]
+pub(crate) enum Command<'a> {
+    /// So many keys, with spaces between them.
+    Get {
+        keys: &'a [u8],
+        count: usize,
+    },
+    /// A block of this length is to follow.
+    Set {
+        key: &'a [u8],
+        flags: u32,
+        exptime: i64,
+        block_length: usize,
+        noreply: bool,
+    },
+    Delete {
+        key: &'a [u8],
+        noreply: bool,
+    },
+    Quit,
+}
+
+/// What the line of a request says, no longer than a line may be.
+pub(crate) fn command_of(line: &[u8]) -> Result<Command<'_>, TextError>
+    requires { length line.now ≤ MAX_LINE }
+    ensures command { IsCommand (command_line (words_of line.now)) result }
+    ensures good { IfOk result IsGoodLine }
+{
+    said(line)
+}
+
+#[tactic(auto, unfolding(crate::specs::Reading::shape_of))]
+fn said(line: &[u8]) -> Result<Command<'_>, TextError>
+    ensures { IsCommand (command_line (words_of line.now)) result }
+{
+    let Some((word, arguments)) = next_word(line) else {
+        return Err(TextError::UnknownCommand { closes: false });
+    };
+    if word == b"get".as_slice() {
+        return get(arguments);
+    }
+    if word == b"set".as_slice() {
+        return set(arguments);
+    }
+    if word == b"delete".as_slice() {
+        return delete(arguments);
+    }
+    if word == b"quit".as_slice() {
+        return quit(arguments);
+    }
+    Err(TextError::UnknownCommand {
+        closes: is_followed_by_block(word),
+    })
+}
+
+/// Whether a block follows the line of this command, which isn't served.
+fn is_followed_by_block(word: &[u8]) -> bool
+    ensures { result ≡ list_any (bytes_eq word.now) block_command_words }
+{
+    word == b"add".as_slice()
+        || word == b"replace".as_slice()
+        || word == b"append".as_slice()
+        || word == b"prepend".as_slice()
+        || word == b"cas".as_slice()
+}
+
+fn get(arguments: &[u8]) -> Result<Command<'_>, TextError>
+    ensures { IsCommand (line_of_shape (get_shape (words_of arguments.now))) result }
+{
+    let mut count = 0;
+    let mut rest = arguments;
+    while let Some((key, after)) = next_word(rest) {
+        if !is_key(key) {
+            return Err(TextError::BadKey);
+        }
+        count += 1;
+        rest = after;
+    }
+    if count == 0 {
+        return Err(TextError::WrongWords);
+    }
+    Ok(Command::Get {
+        keys: arguments,
+        count,
+    })
+}
+
+fn set(arguments: &[u8]) -> Result<Command<'_>, TextError>
+    ensures { IsCommand (line_of_shape (set_shape (words_of arguments.now))) result }
+{
+    let Some((key, rest)) = next_word(arguments) else {
+        return Err(TextError::WrongWords);
+    };
+    let Some((flags, rest)) = next_word(rest) else {
+        return Err(TextError::WrongWords);
+    };
+    let Some((exptime, rest)) = next_word(rest) else {
+        return Err(TextError::WrongWords);
+    };
+    let Some((bytes, options)) = next_word(rest) else {
+        return Err(TextError::WrongWords);
+    };
+    let Some(noreply) = noreply(options) else {
+        return Err(TextError::WrongWords);
+    };
+    if !is_key(key) {
+        return Err(TextError::BadKey);
+    }
+    let Some(flags) = number_up_to(u64::from(u32::MAX), flags) else {
+        return Err(TextError::BadNumber);
+    };
+    let Some(exptime) = signed_number(exptime) else {
+        return Err(TextError::BadNumber);
+    };
+    let Some(block_length) = number_up_to(u64::MAX, bytes) else {
+        return Err(TextError::BadNumber);
+    };
+    if block_length > MAX_BLOCK as u64 {
+        return Err(TextError::DataTooLong);
+    }
+    Ok(Command::Set {
+        key,
+        flags: flags as u32,
+        exptime,
+        block_length: block_length as usize,
+        noreply,
+    })
+}
+
+fn delete(arguments: &[u8]) -> Result<Command<'_>, TextError>
+    ensures { IsCommand (line_of_shape (delete_shape (words_of arguments.now))) result }
+{
+    let Some((key, options)) = next_word(arguments) else {
+        return Err(TextError::WrongWords);
+    };
+    let Some(noreply) = noreply(without_zero(options)) else {
+        return Err(TextError::WrongWords);
+    };
+    if !is_key(key) {
+        return Err(TextError::BadKey);
+    }
+    Ok(Command::Delete { key, noreply })
+}
+
+fn quit(arguments: &[u8]) -> Result<Command<'_>, TextError>
+    ensures { IsCommand (line_of_shape (quit_shape (words_of arguments.now))) result }
+{
+    if next_word(arguments).is_some() {
+        return Err(TextError::WrongWords);
+    }
+    Ok(Command::Quit)
+}
+
+/// Whether the words behind all others ask for no answer; None where they say anything else.
+fn noreply(options: &[u8]) -> Option<bool>
+    ensures { result ≡ noreply_of (words_of options.now) }
+{
+    let Some((word, rest)) = next_word(options) else {
+        return Some(false);
+    };
+    if next_word(rest).is_none() && word == b"noreply".as_slice() {
+        Some(true)
+    } else {
+        None
+    }
+}
+
+/// The words without a first 0, which says nothing.
+fn without_zero(options: &[u8]) -> &[u8]
+    ensures { words_of result.now ≡ without_zero (words_of options.now) }
+{
+    match next_word(options) {
+        Some((word, rest)) if word == b"0".as_slice() => rest,
+        _ => options,
+    }
+}

@@ -1,0 +1,47 @@
+ghost use Rattle.std.specs.Prelude.{◌≡◌, ◌<◌, ◌≤◌, length, IfSome, IfOk, MatchResult, MatchOption};
+ghost use Rattle.mr_text.specs.Reading.{byte_place, line_reading, line_reading_at, line_read_to};
+ghost use Rattle.mr_text.specs.Reading.Reading.{Waits, Gives, Refused};
+ghost use Rattle.mr_text.specs.Text.{without_carriage_return};
+
+use crate::error::TextError;
+use crate::limits::MAX_LINE;
+use memchr::memchr;
+
+/// The place of the first such byte.
+pub(crate) fn place_of_byte(wanted: u8, bytes: &[u8]) -> Option<usize>
+    ensures place { result ≡ byte_place wanted bytes.now }
+    ensures within { IfSome result (λ place. place < length bytes.now) }
+{
+    memchr(wanted, bytes)
+}
+
+/// The bytes without the one carriage return at their end, if there is one.
+fn without_carriage_return(bytes: &[u8]) -> &[u8]
+    ensures { result.now ≡ without_carriage_return bytes.now }
+{
+    match bytes {
+        [front @ .., b'\r'] => front,
+        _ => bytes,
+    }
+}
+
+/// The first line and the length of its bytes, its end included; None where its end isn't there yet.
+#[tactic(auto, unfolding(crate::specs::Reading::line_reading))]
+pub(crate) fn line_at(bytes: &[u8]) -> Result<Option<(&[u8], usize)>, TextError>
+    ensures reading { MatchResult result
+        (λ found. MatchOption found (line_reading bytes.now ≡ Waits) (λ l. line_reading bytes.now ≡ Gives l.0.now l.1))
+        (λ refusal. line_reading bytes.now ≡ Refused refusal 0) }
+    ensures within { IfOk result (λ found. IfSome found (λ l. (l.1 ≤ length bytes.now) × (length l.0.now ≤ MAX_LINE))) }
+{
+    let Some(place) = place_of_byte(b'\n', bytes) else {
+        if bytes.len() >= MAX_LINE + 2 {
+            return Err(TextError::LineTooLong);
+        }
+        return Ok(None);
+    };
+    let line = without_carriage_return(&bytes[..place]);
+    if line.len() > MAX_LINE {
+        return Err(TextError::LineTooLong);
+    }
+    Ok(Some((line, place + 1)))
+}

@@ -1,0 +1,116 @@
+ghost use Rattle.std.specs.Prelude.{◌≡◌, ◌≤◌, length, IfOk};
+ghost use Rattle.mr_text.specs.RequestView.{IsFound, IsWhole, said_request};
+ghost use Rattle.mr_text.specs.CommandView.{AreKeys};
+ghost use Rattle.mr_text.specs.Text.{words_of};
+
+use crate::block::Block;
+use crate::error::TextError;
+use crate::key::Key;
+use crate::key_list::KeyList;
+use crate::reading::blocks::has_block;
+use crate::reading::commands::{Command, command_of};
+use crate::reading::lines::line_at;
+use crate::reading::words::next_word;
+use crate::request::Request;
+use std::alloc::{AllocError, Global};
+
+/// A whole request at the front of some bytes, over these bytes.
+#[derive(Clone, Copy)]
+pub(crate) struct FoundRequest<'a> {
+    pub(crate) command: Command<'a>,
+    /// The block of a set.
+    pub(crate) block: &'a [u8],
+    /// How many bytes spell the request.
+    pub(crate) length: usize,
+}
+
+/// A refusal, and the length of the line that reading goes on behind, where it does.
+#[derive(Clone, Copy)]
+pub(crate) struct RefusedText {
+    pub(crate) refusal: TextError,
+    pub(crate) length: usize,
+}
+
+/// The request at the front of the bytes; None where more bytes are needed.
+#[tactic(auto, unfolding(crate::specs::Reading::request_reading))]
+pub(crate) fn request_at(bytes: &[u8]) -> Result<Option<FoundRequest<'_>>, RefusedText>
+    ensures { IsFound bytes.now result }
+{
+    let found = match line_at(bytes) {
+        Ok(found) => found,
+        Err(refusal) => return Err(RefusedText { refusal, length: 0 }),
+    };
+    let Some((line, line_length)) = found else {
+        return Ok(None);
+    };
+    let command = match command_of(line) {
+        Ok(command) => command,
+        Err(refusal) => {
+            return Err(RefusedText {
+                refusal,
+                length: line_length,
+            });
+        }
+    };
+    let Command::Set { block_length, .. } = command else {
+        return Ok(Some(FoundRequest {
+            command,
+            block: &[],
+            length: line_length,
+        }));
+    };
+    let behind = &bytes[line_length..];
+    match has_block(block_length, behind) {
+        Ok(true) => Ok(Some(FoundRequest {
+            command,
+            block: &behind[..block_length],
+            length: line_length + block_length + 2,
+        })),
+        Ok(false) => Ok(None),
+        Err(refusal) => Err(RefusedText { refusal, length: 0 }),
+    }
+}
+
+/// The request that was found, with bytes of its own.
+pub(crate) fn request_of(alloc: Global, found: &FoundRequest<'_>) -> Result<Request, AllocError>
+    requires { IsWhole found.now }
+    ensures { IfOk result (λ request. request ≡ said_request found.now) }
+{
+    Ok(match &found.command {
+        Command::Get { keys, count } => Request::Get {
+            keys: keys_of(alloc, keys, *count)?,
+        },
+        Command::Set {
+            key,
+            flags,
+            exptime,
+            block_length: _,
+            noreply,
+        } => Request::Set {
+            key: Key::of(alloc, key)?,
+            flags: *flags,
+            exptime: *exptime,
+            block: Block::of(alloc, found.block)?,
+            noreply: *noreply,
+        },
+        Command::Delete { key, noreply } => Request::Delete {
+            key: Key::of(alloc, key)?,
+            noreply: *noreply,
+        },
+        Command::Quit => Request::Quit,
+    })
+}
+
+/// The words as keys.
+fn keys_of(alloc: Global, words: &[u8], count: usize) -> Result<KeyList, AllocError>
+    requires { AreKeys (words_of words.now) count }
+    ensures { IfOk result (λ keys. keys ≡ words_of words.now) }
+{
+    let mut keys = Vec::with_capacity(alloc, count)?;
+    let mut rest = words;
+    while let Some((word, after)) = next_word(rest) {
+        keys.push(Key::of(alloc, word)?)?;
+        rest = after;
+    }
+    Ok(KeyList::of(keys))
+}
