@@ -1,5 +1,5 @@
 -- A block and the line end behind it are there where the reading finds them.
-use Rattle.std.proofs.Common.{◌≡◌, ◌≢◌, ℕ, zero, suc, ◌+◌, ◌-◌, ◌<◌, ◌≤◌, ◌==◌, Bool, true, false, not, List, [], ◌∷◌, ◌++◌, length, take, drop, get_or, Result, Ok, Err, refl, sym, ◌∙◌, ap, subst, arith, if◌then◌else◌, inl, inr, ◌⊎◌, nat_le, leb-true, leb-false, le-leb, eqb-true, eq-eqb, length-append, length-drop, append_assoc, get_or-drop, drop-drop, add-zero}
+use Rattle.std.proofs.Common.{◌≡◌, ◌≢◌, ℕ, ◌+◌, ◌<◌, ◌≤◌, ◌==◌, Bool, true, false, not, List, [], ◌∷◌, ◌++◌, length, take, drop, get_or, Result, Ok, Err, refl, sym, ◌∙◌, ap, subst, arith, if◌then◌else◌, inl, inr, nat_le, leb-false, eqb-true, length-append, length-drop, append_assoc, get_or-drop, drop-drop, add-zero}
 use Rattle.std.proofs.lemmas.Bool.{lt-leb, ne_eqb, eqb-false}
 use Rattle.std.proofs.Math.Seq.{get_or-append_seam}
 use Rattle.std.proofs.lemmas.List.{length-take-le, take-append-drop, get_or-append-add, take_more}

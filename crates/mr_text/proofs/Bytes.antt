@@ -1,6 +1,6 @@
 -- The place of a byte, as a search finds it and as it splits the bytes.
-use Rattle.std.proofs.Common.{◌≡◌, ◌≢◌, ℕ, zero, suc, ◌+◌, ◌-◌, ◌<◌, ◌≤◌, ◌==◌, Bool, true, false, List, [], ◌∷◌, ◌++◌, Option, Some, None, length, get_or, take, drop, refl, ap, sym, ◌∙◌, arith, option_map, if◌then◌else◌, add-one, Contains, eqb-true, eq-eqb}
-use Rattle.memchr.specs.Find.{IsFirstByte, is_byte, NoneBefore, Nowhere}
+use Rattle.std.proofs.Common.{◌≡◌, ℕ, zero, suc, ◌+◌, ◌<◌, ◌==◌, Bool, true, false, List, [], ◌∷◌, ◌++◌, Option, Some, None, length, get_or, take, drop, refl, ap, sym, ◌∙◌, arith, option_map, if◌then◌else◌, add-one, Contains, eqb-true, eq-eqb}
+use Rattle.memchr.specs.Find.{IsFirstByte, is_byte}
 use Rattle.mr_text.specs.Reading.{byte_place}
 
 -- a search that says where the first such byte is

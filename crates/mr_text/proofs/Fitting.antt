@@ -1,13 +1,11 @@
 -- The keys of a line that was read fit a line.
-use Rattle.std.proofs.Common.{◌≡◌, ℕ, ◌+◌, ◌-◌, ◌<◌, ◌≤◌, ◌==◌, Bool, true, false, not, List, [], ◌∷◌, length, All, Result, Ok, Err, refl, sym, ◌∙◌, ap, subst, arith, if◌then◌else◌, cond, filter, sum_by, codes, IfOk}
+use Rattle.std.proofs.Common.{◌≡◌, ℕ, ◌+◌, ◌<◌, ◌≤◌, ◌==◌, Bool, true, false, not, List, [], ◌∷◌, length, Result, Ok, Err, refl, ◌∙◌, ap, subst, arith, if◌then◌else◌, cond, filter, sum_by, codes, IfOk}
 use Rattle.std.proofs.lemmas.List.Sums.{sum_by-cons}
-use Rattle.mr_text.specs.Key.{IsKey, HasKey, FitLine, get_line_length}
+use Rattle.mr_text.specs.Key.{FitLine}
 use Rattle.mr_text.specs.Text.{words_of, pieces_of, begun_with, is_empty}
-use Rattle.mr_text.specs.Commands.{Shape, HasShape}
-use Rattle.mr_text.specs.Commands.Shape.{GetShape}
-use Rattle.mr_text.specs.CommandView.{said_by, IsCounted, IsCommand, IsGoodLine, AreKeys}
-use Rattle.mr_text.specs.Reading.{CommandLine, command_line}
-use Rattle.mr_text.specs.declared.limits.TheConstants.{MAX_LINE, MAX_BLOCK}
+use Rattle.mr_text.specs.CommandView.{said_by, IsCounted, IsCommand, IsGoodLine}
+use Rattle.mr_text.specs.Reading.{command_line}
+use Rattle.mr_text.specs.declared.limits.TheConstants.{MAX_LINE}
 use Rattle.mr_text.specs.declared.error.TextError.{TextError}
 use Rattle.mr_text.specs.declared.reading.commands.Command.{Command}
 use Rattle.mr_text.specs.declared.reading.commands.Command.TheVariants.{Get, Set, Delete, Quit}

@@ -10,3 +10,12 @@ pub mod Blocks
 pub mod RequestReading
 pub mod Fitting
 pub mod Nexts
+pub mod ReplyLines
+pub mod ReplyErrors
+pub mod ReplySteps
+pub mod ReplyFirst
+pub mod ReplyReading
+pub mod RequestNexts
+pub mod ReplyNexts
+pub mod OneLine
+pub mod Reached

@@ -1,14 +1,12 @@
 -- A line is there where the reading finds it.
-use Rattle.std.proofs.Common.{◌≡◌, ◌≢◌, ℕ, zero, suc, ◌+◌, ◌-◌, ◌<◌, ◌≤◌, Bool, true, false, List, [], ◌∷◌, ◌++◌, length, take, drop, Option, Some, None, refl, sym, ◌∙◌, ap, subst, arith, if◌then◌else◌, inl, inr, ◌⊎◌, nat_le, nat_lt, leb-true, leb-false, le-leb, ltb-true, ltb-false, lt-ltb, le-ltb, append_assoc, length-append, get_or, get_or-drop, add-zero}
-use Rattle.std.proofs.Math.Seq.{take-append_seam, drop-append_seam}
-use Rattle.std.proofs.lemmas.List.{length-take-le, take-append-drop, take_more}
-use Rattle.mr_text.specs.Line.{HasLineFeed}
+use Rattle.std.proofs.Common.{◌≡◌, ℕ, ◌+◌, ◌≤◌, Bool, true, false, List, [], ◌∷◌, ◌++◌, length, take, drop, Option, Some, None, refl, sym, ◌∙◌, ap, arith, if◌then◌else◌, inl, inr, nat_le, nat_lt, leb-true, le-leb, ltb-true, ltb-false, lt-ltb, le-ltb, append_assoc, length-append, get_or, get_or-drop, add-zero}
+use Rattle.std.proofs.Math.Seq.{take-append_seam}
+use Rattle.std.proofs.lemmas.List.{take-append-drop, take_more}
 use Rattle.mr_text.specs.Text.{IsLine, without_carriage_return}
 use Rattle.mr_text.specs.Requests.{BeginsWithLongLine}
-use Rattle.mr_text.specs.Reading.{Reading, byte_place, line_reading, line_reading_at, line_read_to}
+use Rattle.mr_text.specs.Reading.{Reading, byte_place, line_reading, line_reading_at}
 use Rattle.mr_text.specs.Reading.Reading.{Waits, Gives, Refused}
 use Rattle.mr_text.specs.declared.limits.TheConstants.{MAX_LINE}
-use Rattle.mr_text.specs.declared.error.TextError.{TextError}
 use Rattle.mr_text.specs.declared.error.TextError.TheVariants.{LineTooLong}
 use Rattle.mr_text.proofs.Bytes.{SplitsAt, place_splits, place_behind, place_none, none_place}
 

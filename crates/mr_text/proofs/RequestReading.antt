@@ -1,24 +1,23 @@
 -- The reading of requests finds what the relations say, and nothing else.
-use Rattle.std.proofs.Common.{◌≡◌, ◌≢◌, ℕ, zero, suc, ◌+◌, ◌-◌, ◌<◌, ◌≤◌, Bool, true, false, List, [], ◌∷◌, ◌++◌, length, take, drop, Option, Some, None, Result, Ok, Err, refl, sym, ◌∙◌, ap, subst, arith, inl, inr, ◌⊎◌, ℤ, append_assoc, length-append, length-drop}
+use Rattle.std.proofs.Common.{◌≡◌, ℕ, ◌+◌, ◌-◌, ◌<◌, ◌≤◌, Bool, true, false, List, ◌∷◌, ◌++◌, length, take, drop, Result, Ok, Err, refl, sym, ◌∙◌, ap, subst, arith, inl, inr, ◌⊎◌, ℤ, append_assoc, length-append, length-drop}
 use Rattle.std.proofs.Math.Seq.{take-append_seam, drop-append_seam}
 use Rattle.std.proofs.lemmas.List.{length-take-le, take-append-drop}
-use Rattle.mr_text.specs.Block.{IsBlock}
 use Rattle.mr_text.specs.Commands.{Shape, HasShape, IsUnknown, AreWrong, HasKeys, Numbers}
 use Rattle.mr_text.specs.Commands.Shape.{GetShape, SetShape, DeleteShape, QuitShape}
-use Rattle.mr_text.specs.Requests.{IsLineOfWords, IsLineOfShape, IsSetLine, SpellsSet, SpellsRequest, BeginsWithWords, BeginsWithLongLine, HasBadKey, HasBadNumber, BeginsWithSet, EndsBadly, HasBadDataEnd, RefusesRequest, SkipsLine, block_end}
-use Rattle.mr_text.specs.Text.{IsLine, words_of, IsNumber, IsSigned}
+use Rattle.mr_text.specs.Requests.{IsLineOfWords, IsLineOfShape, IsSetLine, SpellsSet, SpellsRequest, BeginsWithWords, HasBadKey, HasBadNumber, BeginsWithSet, HasBadDataEnd, RefusesRequest, SkipsLine, block_end}
+use Rattle.mr_text.specs.Text.{words_of}
 use Rattle.mr_text.specs.Reading.{Reading, CommandLine, line_reading, command_line, line_of_shape, line_of, shape_of, block_reading, set_reading, request_of_line, request_of_reading, request_reading}
 use Rattle.mr_text.specs.Reading.Reading.{Waits, Gives, Refused}
 use Rattle.mr_text.specs.Reading.CommandLine.{GetLine, SetLine, DeleteLine, QuitLine}
-use Rattle.mr_text.specs.declared.limits.TheConstants.{MAX_LINE, MAX_BLOCK}
+use Rattle.mr_text.specs.declared.limits.TheConstants.{MAX_BLOCK}
 use Rattle.mr_text.specs.declared.error.TextError.{TextError}
 use Rattle.mr_text.specs.declared.error.TextError.TheVariants.{LineTooLong, BadKey, BadNumber, WrongWords, DataTooLong, BadDataEnd, UnknownCommand, Truncated, Closed, OutOfMemory}
 use Rattle.mr_text.specs.declared.request.Request.{Request}
 use Rattle.mr_text.specs.declared.request.Request.TheVariants.{Get, Set, Delete, Quit}
 use Rattle.mr_text.proofs.Blocks.{block_found, bad_found, IsBlockRead, BlockIs, block_is}
 use Rattle.mr_text.proofs.Lines.{line_found, long_found, IsRead, LineIs, line_is}
-use Rattle.mr_text.proofs.Shapes.{shape_found, one_shape, ShapeIs, shape_is, unknown_found, wrong_found}
-use Rattle.mr_text.proofs.Values.{Says, says, ReadNumbers, number_found, signed_found}
+use Rattle.mr_text.proofs.Shapes.{shape_found, ShapeIs, shape_is, unknown_found, wrong_found}
+use Rattle.mr_text.proofs.Values.{Says, says, ReadNumbers, signed_found}
 
 -- what is read of a line of these words
 pub words_found : (start after : List ℕ) (words : List (List ℕ)) → IsLineOfWords start words

@@ -1,14 +1,13 @@
 -- Words have a shape where the reading of words finds it.
-use Rattle.std.proofs.Common.{◌≡◌, ◌≢◌, ℕ, zero, suc, ◌<◌, ◌≤◌, Bool, true, false, List, [], ◌∷◌, length, Contains, Option, Some, None, Result, Ok, Err, refl, sym, ◌∙◌, ap, subst, arith, codes, if◌then◌else◌, inl, inr, ◌⊎◌, IsTrue, ◌↔◌}
+use Rattle.std.proofs.Common.{◌≡◌, ℕ, Bool, true, false, List, [], ◌∷◌, Contains, Option, Some, None, Result, Ok, Err, refl, sym, ◌∙◌, ap, subst, arith, codes, if◌then◌else◌, inl, inr, ◌⊎◌, IsTrue, ◌↔◌}
 use Rattle.std.specs.Str.{bytes_eq}
 use Rattle.std.specs.List.{list_any}
-use Rattle.mr_text.specs.Key.{HasKey}
 use Rattle.mr_text.specs.Commands.{Shape, HasShape, IsUnknown, AreWrong, command_words, block_command_words}
 use Rattle.mr_text.specs.Commands.Shape.{GetShape, SetShape, DeleteShape, QuitShape}
 use Rattle.mr_text.specs.Reading.{shape_of, get_shape, set_shape, set_shape_with, delete_shape, delete_shape_with, quit_shape, noreply_of, without_zero}
 use Rattle.mr_text.specs.declared.error.TextError.{TextError}
 use Rattle.mr_text.specs.declared.error.TextError.TheVariants.{LineTooLong, BadKey, BadNumber, WrongWords, DataTooLong, BadDataEnd, UnknownCommand, Truncated, Closed, OutOfMemory}
-use Rattle.mr_text.proofs.Texts.{text_true, true_text, text_false, among_true, true_among}
+use Rattle.mr_text.proofs.Texts.{text_true, among_true, true_among}
 
 -- words of a shape are read so
 pub shape_found : (words : List (List ℕ)) (shape : Shape) → HasShape words shape → shape_of words ≡ Ok shape

@@ -1,11 +1,11 @@
 -- What the words of a shape say, as the reading finds it.
-use Rattle.std.proofs.Common.{◌≡◌, ◌≢◌, ℕ, zero, suc, ◌+◌, ◌-◌, ◌*◌, ◌^◌, ◌<◌, ◌≤◌, ◌==◌, ◌&&◌, Bool, true, false, List, [], ◌∷◌, length, All, get_or, Option, Some, None, Result, Ok, Err, refl, sym, ◌∙◌, ap, subst, arith, if◌then◌else◌, inl, inr, ◌⊎◌, nat_le, nat_lt, leb-true, le-leb, ltb-true, ltb-false, lt-ltb, le-ltb, option_map, ℤ, pos, negsuc, neg_ℤ, ◌≤ℤ◌, rules, eqb-true, eq-eqb}
+use Rattle.std.proofs.Common.{◌≡◌, ℕ, zero, suc, ◌-◌, ◌^◌, ◌<◌, ◌≤◌, ◌==◌, ◌&&◌, Bool, true, false, List, [], ◌∷◌, length, All, get_or, Option, Some, None, Result, Ok, Err, refl, sym, ap, subst, arith, if◌then◌else◌, inl, inr, ◌⊎◌, nat_le, nat_lt, leb-true, le-leb, ltb-true, ltb-false, option_map, ℤ, pos, neg_ℤ, rules, eqb-true}
 use Rattle.std.specs.List.{list_all}
 use Rattle.std.specs.Char.{is_ascii_digit, IsAsciiDigit}
 use Rattle.std.proofs.lemmas.List.Sums.{AllPass-from_list_all, list_all-from_AllPass}
 use Rattle.mr_text.specs.Key.{IsKey, key_test}
-use Rattle.mr_text.specs.Text.{IsDigits, IsNumber, IsSigned, number_of_digits}
-use Rattle.mr_text.specs.Commands.{Shape, HasKeys, Numbers, IsExptime}
+use Rattle.mr_text.specs.Text.{IsNumber, IsSigned, number_of_digits}
+use Rattle.mr_text.specs.Commands.{Shape, Numbers, IsExptime}
 use Rattle.mr_text.specs.Commands.Shape.{GetShape, SetShape, DeleteShape, QuitShape}
 use Rattle.mr_text.specs.Reading.{CommandLine, number_in, signed_in, line_of, set_values}
 use Rattle.mr_text.specs.Reading.CommandLine.{GetLine, SetLine, DeleteLine, QuitLine}
@@ -26,7 +26,7 @@ digit_true byte e = let both = and_true (nat_le 48 byte) (nat_le byte 57) e in (
 true_digit : (byte : ℕ) → IsAsciiDigit byte → is_ascii_digit byte ≡ true
 true_digit byte h = let low : nat_le 48 byte ≡ true = le-leb 48 byte h.0 in let high : nat_le byte 57 ≡ true = le-leb byte 57 h.1 in rw (low, high) refl
 
-abbrev NumberIs : ℕ → List ℕ → Option ℕ → Type 0
+abbrev pub NumberIs : ℕ → List ℕ → Option ℕ → Type 0
 NumberIs greatest word None = (n : ℕ) → n ≤ greatest → ¬ IsNumber word n
 NumberIs greatest word (Some n) = IsNumber word n × (n ≤ greatest)
 
@@ -40,7 +40,7 @@ number_found greatest word n h fits =
     let small : nat_le (number_of_digits word) greatest ≡ true = le-leb (number_of_digits word) greatest (omega arith) in
     rw (some, each, small) (ap Some value)
 
-number_is : (greatest : ℕ) (word : List ℕ) → NumberIs greatest word (number_in greatest word)
+pub number_is : (greatest : ℕ) (word : List ℕ) → NumberIs greatest word (number_in greatest word)
 unfolding number_in
 number_is greatest word = go (nat_le 1 (length word) && list_all is_ascii_digit word && nat_le (number_of_digits word) greatest) refl
   where
@@ -105,11 +105,11 @@ signed_found (byte ∷ bytes) z (inr (digits, n, word_is, is, z_is)) fits =
     let found = number_found (2 ^ 63) digits n is small in
     rw (byte_is, bytes_are, found) (ap Some (sym z_is))
 
-abbrev SignedIs : List ℕ → Option ℤ → Type 0
+abbrev pub SignedIs : List ℕ → Option ℤ → Type 0
 SignedIs word None = (z : ℤ) → IsSigned word z → ¬ IsExptime z
 SignedIs word (Some z) = IsSigned word z × IsExptime z
 
-signed_is : (word : List ℕ) → SignedIs word (signed_in word)
+pub signed_is : (word : List ℕ) → SignedIs word (signed_in word)
 signed_is [] = none
   where
     none : (z : ℤ) → IsSigned [] z → ¬ IsExptime z

@@ -1,5 +1,5 @@
 -- The texts of the named causes.
-use Rattle.std.specs.Prelude.{ℕ, List, Bool, Option, Some, None, codes, if◌then◌else◌}
+use Rattle.std.specs.Prelude.{ℕ, List, Option, Some, None, codes, if◌then◌else◌}
 use Rattle.std.specs.Str.{bytes_eq}
 use Rattle.mr_text.specs.declared.cause.Cause.{Cause}
 use Rattle.mr_text.specs.declared.cause.Cause.TheVariants.{LineTooLong, BadKey, BadNumber, WrongWords, DataTooLong, BadDataEnd, LegLost, Busy, OutOfMemory, ClockFault, BookFull, NumbersSpent, NodeRefused, Other}

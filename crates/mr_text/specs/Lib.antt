@@ -17,3 +17,7 @@ pub mod CommandView
 pub mod RequestView
 pub mod Canonical
 pub mod FixedBuffer
+pub mod Replies
+pub mod ReplyReading
+pub mod ReplyView
+pub mod ReplySteps

@@ -4,7 +4,7 @@ use Rattle.mr_text.specs.Block.{IsBlock}
 use Rattle.mr_text.specs.Key.{IsKey}
 use Rattle.mr_text.specs.CommandView.{AreKeys}
 use Rattle.mr_text.specs.Text.{words_of}
-use Rattle.mr_text.specs.Reading.{Reading, request_reading}
+use Rattle.mr_text.specs.Reading.{request_reading}
 use Rattle.mr_text.specs.Reading.Reading.{Waits, Gives, Refused}
 use Rattle.mr_text.specs.declared.reading.commands.Command.{Command}
 use Rattle.mr_text.specs.declared.reading.commands.Command.TheVariants.{Get, Set, Delete, Quit}

@@ -1,7 +1,7 @@
 -- What a reader answers, of requests or of replies, for the bytes that it has not read yet.
 use Rattle.std.specs.Prelude.{◌≡◌, ◌≢◌, ℕ, Bool, true, false, List, [], ◌++◌, ◌||◌, not, IsTrue, Option, Some, None, Result, Ok, Err}
 use Rattle.mr_text.specs.declared.error.TextError.{TextError}
-use Rattle.mr_text.specs.declared.error.TextError.TheVariants.{LineTooLong, BadKey, BadNumber, WrongWords, DataTooLong, BadDataEnd, UnknownCommand, Truncated, Closed, OutOfMemory}
+use Rattle.mr_text.specs.declared.error.TextError.TheVariants.{UnknownCommand, Truncated, Closed, OutOfMemory}
 
 -- a reader as contracts see it: the bytes that it stands for and hasn't read, whether the input ended, whether it is closed
 pub record ReaderView : Type 0 where

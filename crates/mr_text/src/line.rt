@@ -39,6 +39,14 @@ impl Line {
         if has_line_feed(bytes) || is_named_text(bytes) {
             return Err(TextError::WrongWords);
         }
+        Ok(Line::of(alloc, bytes)?)
+    }
+
+    /// The text of bytes that are known to be one.
+    pub(crate) fn of(alloc: Global, bytes: &[u8]) -> Result<Line, AllocError>
+        requires { IsErrorText bytes.now }
+        ensures { IfOk result (λ line. line ≡ bytes.now) }
+    {
         let bytes = Vec::from_slice(alloc, bytes)?;
         Ok(Line { bytes })
     }

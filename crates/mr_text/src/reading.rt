@@ -4,5 +4,7 @@ pub(crate) mod blocks;
 pub(crate) mod commands;
 pub(crate) mod lines;
 pub(crate) mod numbers;
+pub(crate) mod replies;
+pub(crate) mod reply_lines;
 pub(crate) mod requests;
 pub(crate) mod words;

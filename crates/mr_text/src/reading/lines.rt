@@ -1,6 +1,7 @@
 ghost use Rattle.std.specs.Prelude.{◌≡◌, ◌<◌, ◌≤◌, length, IfSome, IfOk, MatchResult, MatchOption};
 ghost use Rattle.mr_text.specs.Reading.{byte_place, line_reading, line_reading_at, line_read_to};
 ghost use Rattle.mr_text.specs.Reading.Reading.{Waits, Gives, Refused};
+ghost use Rattle.mr_text.specs.Line.{HasLineFeed};
 ghost use Rattle.mr_text.specs.Text.{without_carriage_return};
 
 use crate::error::TextError;
@@ -32,6 +33,7 @@ pub(crate) fn line_at(bytes: &[u8]) -> Result<Option<(&[u8], usize)>, TextError>
         (λ found. MatchOption found (line_reading bytes.now ≡ Waits) (λ l. line_reading bytes.now ≡ Gives l.0.now l.1))
         (λ refusal. line_reading bytes.now ≡ Refused refusal 0) }
     ensures within { IfOk result (λ found. IfSome found (λ l. (l.1 ≤ length bytes.now) × (length l.0.now ≤ MAX_LINE))) }
+    ensures one_line { IfOk result (λ found. IfSome found (λ l. ¬ HasLineFeed l.0.now)) }
 {
     let Some(place) = place_of_byte(b'\n', bytes) else {
         if bytes.len() >= MAX_LINE + 2 {

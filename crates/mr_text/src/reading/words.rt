@@ -1,11 +1,12 @@
-ghost use Rattle.std.specs.Prelude.{◌≡◌, ◌≢◌, ◌∷◌, [], ◌<◌, ◌≤◌, length, slice_get, Some, IfSome, MatchOption};
+ghost use Rattle.std.specs.Prelude.{◌≡◌, ◌≢◌, ◌∷◌, [], ◌<◌, ◌≤◌, drop, length, slice_get, Some, IfSome, MatchOption};
 ghost use Rattle.mr_text.specs.Text.{words_of};
-ghost use Rattle.mr_text.specs.Reading.{noreply_of, without_zero};
+ghost use Rattle.mr_text.specs.ReplyReading.{drop_spaces};
 
 use crate::reading::lines::place_of_byte;
 
 /// The bytes from the first that isn't a space.
 fn without_spaces(mut bytes: &[u8]) -> &[u8]
+    ensures bytes { result.now ≡ drop_spaces bytes.entry.now }
     ensures words { words_of result.now ≡ words_of bytes.entry.now }
     ensures length { length result.now ≤ length bytes.entry.now }
     ensures start { slice_get result.now 0 ≢ Some 32 }
@@ -19,6 +20,7 @@ fn without_spaces(mut bytes: &[u8]) -> &[u8]
 /// The first word, and what follows it; None where there is no word.
 pub(crate) fn next_word(bytes: &[u8]) -> Option<(&[u8], &[u8])>
     ensures words { MatchOption result (words_of bytes.now ≡ []) (λ w. words_of bytes.now ≡ w.0.now ∷ words_of w.1.now) }
+    ensures behind { IfSome result (λ w. w.1.now ≡ drop (length w.0.now) (drop_spaces bytes.now)) }
     ensures shorter { IfSome result (λ w. length w.1.now < length bytes.now) }
 {
     let bytes = without_spaces(bytes);

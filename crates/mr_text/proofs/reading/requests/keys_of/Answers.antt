@@ -1,4 +1,4 @@
-use Rattle.std.proofs.Common.{◌≡◌, ℕ, suc, ◌+◌, ◌<◌, List, [], ◌∷◌, ◌++◌, length, All, append_assoc, refl, sym, ◌∙◌, ap, subst, arith}
+use Rattle.std.proofs.Common.{ℕ, suc, List, [], ◌∷◌, ◌++◌, All, append_assoc, sym, ◌∙◌, ap, subst, arith}
 use Rattle.mr_text.specs.Key.{IsKey}
 use Rattle.mr_text.specs.Text.{words_of}
 use Rattle.mr_text.proofs.reading.requests.keys_of.Goals as goal

@@ -1,4 +1,4 @@
-use Rattle.std.proofs.Common.{◌≡◌, ◌++◌, ◌≤◌, ◌+◌, length, All, vec_len, vec_capacity}
+use Rattle.std.proofs.Common.{◌≡◌, ◌++◌, length, All}
 use Rattle.mr_text.specs.Key.{IsKey}
 use Rattle.mr_text.specs.Text.{words_of}
 use Rattle.mr_text.proofs.reading.requests.keys_of.Given as goal

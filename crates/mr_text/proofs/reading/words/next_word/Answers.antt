@@ -1,5 +1,4 @@
-use Rattle.std.proofs.Common.{◌≡◌, ◌<◌, ◌≤◌, ℕ, length, drop, arith, length-drop, sym, ◌∙◌, rules}
-use Rattle.mr_text.specs.Text.{words_of}
+use Rattle.std.proofs.Common.{◌<◌, length, arith, sym, ◌∙◌, rules}
 use Rattle.mr_text.proofs.Words.{words_at, word_end}
 use Rattle.mr_text.proofs.reading.words.next_word.Goals as goal
 

@@ -1,0 +1,162 @@
+-- The text of replies: which bytes spell which reply, and which bytes are refused and how.
+use Rattle.std.specs.Prelude.{◌≡◌, ◌≢◌, ℕ, zero, suc, ◌^◌, ◌<◌, ◌≤◌, ◌⊎◌, Bool, true, false, List, [], ◌∷◌, ◌++◌, length, All, Contains, codes, unwrap_or}
+use Rattle.mr_text.specs.Block.{IsBlock}
+use Rattle.mr_text.specs.CauseText.{cause_named}
+use Rattle.mr_text.specs.Key.{IsKey}
+use Rattle.mr_text.specs.Requests.{IsLineOfWords, BeginsWithWords, BeginsWithLongLine, EndsBadly, block_end}
+use Rattle.mr_text.specs.Text.{IsLine, IsNumber}
+use Rattle.mr_text.specs.declared.cause.Cause.{Cause}
+use Rattle.mr_text.specs.declared.cause.Cause.TheVariants.{Other}
+use Rattle.mr_text.specs.declared.item.Item.{Item}
+use Rattle.mr_text.specs.declared.limits.TheConstants.{MAX_LINE, MAX_BLOCK, MAX_ITEMS}
+use Rattle.mr_text.specs.declared.error.TextError.{TextError}
+use Rattle.mr_text.specs.declared.error.TextError.TheVariants.{LineTooLong, BadKey, BadNumber, WrongWords, DataTooLong, BadDataEnd, UnknownCommand, Truncated, Closed, OutOfMemory}
+use Rattle.mr_text.specs.declared.reply.Reply.{Reply}
+use Rattle.mr_text.specs.declared.reply.Reply.TheVariants.{Items, Stored, Deleted, NotFound, Error, ClientError, ServerError}
+
+-- the numbers of a VALUE line
+pub record ItemNumbers (flags_word length_word : List ℕ) (flags block_length : ℕ) : Type 0 where
+  pub flags_is : IsNumber flags_word flags
+  pub flags_fits : flags < 2 ^ 32
+  pub length_is : IsNumber length_word block_length
+  pub length_fits : block_length < 2 ^ 64
+
+-- the words of a VALUE line
+abbrev pub item_words : List ℕ → List ℕ → List ℕ → List (List ℕ)
+item_words key flags_word length_word = codes "VALUE" ∷ key ∷ flags_word ∷ length_word ∷ []
+
+-- the bytes are the line before an item's block
+pub record IsItemLine (bytes key : List ℕ) (flags block_length : ℕ) : Type 0 where
+  pub flags_word : List ℕ
+  pub length_word : List ℕ
+  pub is_line : IsLineOfWords bytes (item_words key flags_word length_word)
+  pub is_key : IsKey key
+  pub numbers : ItemNumbers flags_word length_word flags block_length
+
+-- the bytes are an item: its line, the block and the line end behind it
+pub record SpellsItem (bytes : List ℕ) (item : Item) : Type 0 where
+  pub line : List ℕ
+  pub is_line : IsItemLine line item.key item.flags (length item.block)
+  pub is_block : IsBlock item.block
+  pub follows : bytes ≡ line ++ (item.block ++ block_end)
+
+-- the bytes begin with these items, one behind the other, and the rest comes after them
+abbrev pub BeginsWithItems : List ℕ → List Item → List ℕ → Type 0
+BeginsWithItems bytes [] rest = bytes ≡ rest
+BeginsWithItems bytes (item ∷ items) rest =
+    (front : List ℕ) × (behind : List ℕ) × (bytes ≡ front ++ behind) × SpellsItem front item × BeginsWithItems behind items rest
+
+-- the bytes are a line with this word, and behind it nothing or a space and the text, as it stands
+pub record IsErrorLine (bytes word text : List ℕ) : Type 0 where
+  pub line : List ℕ
+  pub is_line : IsLine bytes line
+  pub not_long : length line ≤ MAX_LINE
+  pub spaces : List ℕ
+  pub are_spaces : All (λ byte. byte ≡ 32) spaces
+  pub tail : List ℕ
+  pub splits : line ≡ spaces ++ (word ++ tail)
+  pub behind : ((tail ≡ []) × (text ≡ [])) ⊎ (tail ≡ 32 ∷ text)
+
+-- the cause that a text tells
+abbrev pub cause_of : List ℕ → Cause
+cause_of text = unwrap_or (cause_named text) (Other text)
+
+abbrev pub TellsCause : List ℕ → List ℕ → Cause → Type 0
+TellsCause bytes word cause = (text : List ℕ) × IsErrorLine bytes word text × (cause ≡ cause_of text)
+
+-- the bytes, all of them, are this reply
+abbrev pub SpellsReply : List ℕ → Reply → Type 0
+SpellsReply bytes (Items items) =
+    (rest : List ℕ) × BeginsWithItems bytes items rest × IsLineOfWords rest (codes "END" ∷ []) × (length items ≤ MAX_ITEMS)
+SpellsReply bytes Stored = IsLineOfWords bytes (codes "STORED" ∷ [])
+SpellsReply bytes Deleted = IsLineOfWords bytes (codes "DELETED" ∷ [])
+SpellsReply bytes NotFound = IsLineOfWords bytes (codes "NOT_FOUND" ∷ [])
+SpellsReply bytes Error = IsLineOfWords bytes (codes "ERROR" ∷ [])
+SpellsReply bytes (ClientError cause) = TellsCause bytes (codes "CLIENT_ERROR") cause
+SpellsReply bytes (ServerError cause) = TellsCause bytes (codes "SERVER_ERROR") cause
+
+-- the words that are a reply's first line by themselves
+abbrev pub lone_words : List (List ℕ)
+lone_words = codes "STORED" ∷ codes "DELETED" ∷ codes "NOT_FOUND" ∷ codes "ERROR" ∷ codes "END" ∷ []
+
+-- the words that begin a reply
+abbrev pub reply_words : List (List ℕ)
+reply_words =
+    codes "STORED" ∷ codes "DELETED" ∷ codes "NOT_FOUND" ∷ codes "ERROR" ∷ codes "END" ∷ codes "VALUE" ∷ codes "CLIENT_ERROR" ∷ codes "SERVER_ERROR" ∷ []
+
+-- a first line without words, or whose first word begins no reply
+abbrev pub IsUnknownReply : List (List ℕ) → Type 0
+IsUnknownReply [] = Unit {0}
+IsUnknownReply (word ∷ words) = ¬ Contains reply_words word
+
+-- how many items may still come
+abbrev pub HasRoom : ℕ → Type 0
+HasRoom count = count < MAX_ITEMS
+
+-- The words of a line are wrong behind so many items. In the first line a lone word has others behind it, or a VALUE isn't followed by
+-- three words; behind an item only END alone, or a VALUE followed by three words, may come, as long as there is room.
+abbrev pub AreWrongReply : ℕ → List (List ℕ) → Type 0
+AreWrongReply zero [] = ⊥
+AreWrongReply zero (word ∷ words) = (Contains lone_words word × (words ≢ [])) ⊎ ((word ≡ codes "VALUE") × (length words ≢ 3))
+AreWrongReply (suc count) words =
+    (words ≢ codes "END" ∷ []) ×
+    ((key : List ℕ) (flags_word : List ℕ) (length_word : List ℕ) → HasRoom (suc count) → words ≢ item_words key flags_word length_word)
+
+-- the bytes begin with a VALUE line of these words, for which there is room, and these come after it
+pub record BeginsWithItemWords (count : ℕ) (bytes key flags_word length_word after : List ℕ) : Type 0 where
+  pub line : List ℕ
+  pub splits : bytes ≡ line ++ after
+  pub is_line : IsLineOfWords line (item_words key flags_word length_word)
+  pub room : HasRoom count
+
+-- the same with a good key and good numbers
+pub record BeginsWithItemLine (count : ℕ) (bytes : List ℕ) (block_length : ℕ) (after : List ℕ) : Type 0 where
+  pub line : List ℕ
+  pub key : List ℕ
+  pub flags : ℕ
+  pub splits : bytes ≡ line ++ after
+  pub is_line : IsItemLine line key flags block_length
+  pub room : HasRoom count
+
+pub record HasBadItemKey (count : ℕ) (bytes : List ℕ) : Type 0 where
+  pub key : List ℕ
+  pub flags_word : List ℕ
+  pub length_word : List ℕ
+  pub after : List ℕ
+  pub begins : BeginsWithItemWords count bytes key flags_word length_word after
+  pub bad : ¬ IsKey key
+
+pub record HasBadItemNumber (count : ℕ) (bytes : List ℕ) : Type 0 where
+  pub key : List ℕ
+  pub flags_word : List ℕ
+  pub length_word : List ℕ
+  pub after : List ℕ
+  pub begins : BeginsWithItemWords count bytes key flags_word length_word after
+  pub is_key : IsKey key
+  pub bad : (flags block_length : ℕ) → ¬ ItemNumbers flags_word length_word flags block_length
+
+-- behind so many items the bytes begin with what is refused so
+abbrev pub RefusesBehind : ℕ → TextError → List ℕ → Type 0
+RefusesBehind count LineTooLong bytes = BeginsWithLongLine bytes
+RefusesBehind count (UnknownCommand true) bytes = (count ≡ 0) × (words : List (List ℕ)) × BeginsWithWords bytes words × IsUnknownReply words
+RefusesBehind count (UnknownCommand false) bytes = ⊥
+RefusesBehind count WrongWords bytes = (words : List (List ℕ)) × BeginsWithWords bytes words × AreWrongReply count words
+RefusesBehind count BadKey bytes = HasBadItemKey count bytes
+RefusesBehind count BadNumber bytes = HasBadItemNumber count bytes
+RefusesBehind count DataTooLong bytes = (block_length : ℕ) × (after : List ℕ) × BeginsWithItemLine count bytes block_length after × (MAX_BLOCK < block_length)
+RefusesBehind count BadDataEnd bytes =
+    (block_length : ℕ) × (after : List ℕ) × BeginsWithItemLine count bytes block_length after × (block_length ≤ MAX_BLOCK) × EndsBadly block_length after
+RefusesBehind count Truncated bytes = ⊥
+RefusesBehind count Closed bytes = ⊥
+RefusesBehind count OutOfMemory bytes = ⊥
+
+-- the bytes begin with what is refused so: behind some items that are whole, and that a reply may have
+abbrev pub RefusesReply : TextError → List ℕ → Type 0
+RefusesReply refusal bytes = (items : List Item) × (rest : List ℕ) × BeginsWithItems bytes items rest × (length items ≤ MAX_ITEMS) × RefusesBehind (length items) refusal rest
+
+-- no reply closes its reader, and no line is skipped
+abbrev pub is_no_last : Reply → Bool
+is_no_last reply = false
+
+abbrev pub SkipsNone : List ℕ → List ℕ → Type 0
+SkipsNone bytes after = ⊥

@@ -1,0 +1,164 @@
+ghost use Rattle.std.specs.Prelude.{◌≡◌, ◌≤◌, drop, length, IfOk};
+ghost use Rattle.mr_text.specs.Text.{words_of};
+ghost use Rattle.mr_text.specs.ReplyReading.{ReplyLine, first_line, next_line, item_line, item_line_within, lone_line, drop_spaces};
+ghost use Rattle.mr_text.specs.ReplyReading.ReplyLine.{EndLine, LoneLine};
+ghost use Rattle.mr_text.specs.ReplyView.{IsLine, IsGoodItem, HasOneLine, IsOneLine, said_by};
+ghost use Rattle.mr_text.specs.Line.{HasLineFeed};
+ghost use Rattle.mr_text.specs.declared.limits.TheConstants.{MAX_LINE};
+
+use crate::error::TextError;
+use crate::key::is_key;
+use crate::limits::MAX_BLOCK;
+use crate::reading::numbers::number_up_to;
+use crate::reading::words::next_word;
+
+/// What a line of a reply says, over the line's own bytes.
+#[derive(Clone, Copy)]
+pub(crate) enum SaidLine<'a> {
+    /// A block of this length is to follow.
+    Item {
+        key: &'a [u8],
+        flags: u32,
+        block_length: usize,
+    },
+    End,
+    Stored,
+    Deleted,
+    NotFound,
+    Error,
+    ClientError(&'a [u8]),
+    ServerError(&'a [u8]),
+}
+
+/// What the first line of a reply says.
+#[tactic(auto, unfolding(crate::specs::ReplyReading::first_line))]
+pub(crate) fn first_line_of(line: &[u8]) -> Result<SaidLine<'_>, TextError>
+    requires one_line { ¬ HasLineFeed line.now }
+    requires not_long { length line.now ≤ MAX_LINE }
+    ensures line { IsLine (first_line line.now (words_of line.now)) result }
+    ensures text { IfOk result HasOneLine }
+{
+    let Some((word, rest)) = next_word(line) else {
+        return Err(TextError::UnknownCommand { closes: true });
+    };
+    if word == b"STORED".as_slice() {
+        return alone(SaidLine::Stored, rest);
+    }
+    if word == b"DELETED".as_slice() {
+        return alone(SaidLine::Deleted, rest);
+    }
+    if word == b"NOT_FOUND".as_slice() {
+        return alone(SaidLine::NotFound, rest);
+    }
+    if word == b"ERROR".as_slice() {
+        return alone(SaidLine::Error, rest);
+    }
+    if word == b"END".as_slice() {
+        return alone(SaidLine::End, rest);
+    }
+    if word == b"VALUE".as_slice() {
+        return item(rest);
+    }
+    if word == b"CLIENT_ERROR".as_slice() {
+        return Ok(SaidLine::ClientError(error_text(line, 12, rest)));
+    }
+    if word == b"SERVER_ERROR".as_slice() {
+        return Ok(SaidLine::ServerError(error_text(line, 12, rest)));
+    }
+    Err(TextError::UnknownCommand { closes: true })
+}
+
+/// What a line behind an item says, with room for so many more items.
+pub(crate) fn next_line_of(room: usize, line: &[u8]) -> Result<SaidLine<'_>, TextError>
+    ensures line { IsLine (next_line room (words_of line.now)) result }
+    ensures good { IfOk result (IsGoodItem room) }
+{
+    next_said(room, line)
+}
+
+#[tactic(auto, unfolding(crate::specs::ReplyReading::next_line))]
+fn next_said(room: usize, line: &[u8]) -> Result<SaidLine<'_>, TextError>
+    ensures { IsLine (next_line room (words_of line.now)) result }
+{
+    let Some((word, rest)) = next_word(line) else {
+        return Err(TextError::WrongWords);
+    };
+    if word == b"END".as_slice() {
+        return alone(SaidLine::End, rest);
+    }
+    if word == b"VALUE".as_slice() {
+        return item_within(room, rest);
+    }
+    Err(TextError::WrongWords)
+}
+
+/// The text of an error: what follows its word and one space, in a line of so many bytes.
+fn error_text<'a>(line: &[u8], word_length: usize, rest: &'a [u8]) -> &'a [u8]
+    requires word { 12 ≤ word_length }
+    requires behind { rest.now ≡ drop word_length (drop_spaces line.now) }
+    requires one_line { ¬ HasLineFeed line.now }
+    requires not_long { length line.now ≤ MAX_LINE }
+    ensures text { result.now ≡ drop 1 rest.now }
+    ensures one_line { IsOneLine result.now }
+{
+    match rest {
+        [_, text @ ..] => text,
+        [] => rest,
+    }
+}
+
+/// A line whose word stands alone.
+fn alone<'a>(line: SaidLine<'a>, rest: &[u8]) -> Result<SaidLine<'a>, TextError>
+    ensures line { IsLine (lone_line (said_by line.entry) (words_of rest.now)) result }
+    ensures same { IfOk result (λ said. said ≡ line.entry) }
+{
+    if next_word(rest).is_some() {
+        return Err(TextError::WrongWords);
+    }
+    Ok(line)
+}
+
+fn item_within(room: usize, words: &[u8]) -> Result<SaidLine<'_>, TextError>
+    ensures { IsLine (item_line_within room (words_of words.now)) result }
+{
+    if room == 0 {
+        return Err(TextError::WrongWords);
+    }
+    item(words)
+}
+
+/// The words behind VALUE.
+fn item(words: &[u8]) -> Result<SaidLine<'_>, TextError>
+    ensures line { IsLine (item_line (words_of words.now)) result }
+    ensures text { IfOk result HasOneLine }
+{
+    let Some((key, rest)) = next_word(words) else {
+        return Err(TextError::WrongWords);
+    };
+    let Some((flags, rest)) = next_word(rest) else {
+        return Err(TextError::WrongWords);
+    };
+    let Some((bytes, rest)) = next_word(rest) else {
+        return Err(TextError::WrongWords);
+    };
+    if next_word(rest).is_some() {
+        return Err(TextError::WrongWords);
+    }
+    if !is_key(key) {
+        return Err(TextError::BadKey);
+    }
+    let Some(flags) = number_up_to(u64::from(u32::MAX), flags) else {
+        return Err(TextError::BadNumber);
+    };
+    let Some(block_length) = number_up_to(u64::MAX, bytes) else {
+        return Err(TextError::BadNumber);
+    };
+    if block_length > MAX_BLOCK as u64 {
+        return Err(TextError::DataTooLong);
+    }
+    Ok(SaidLine::Item {
+        key,
+        flags: flags as u32,
+        block_length: block_length as usize,
+    })
+}
