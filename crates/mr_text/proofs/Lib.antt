@@ -18,4 +18,5 @@ pub mod ReplyReading
 pub mod RequestNexts
 pub mod ReplyNexts
 pub mod OneLine
+pub mod OneReading
 pub mod Reached

@@ -13,6 +13,7 @@ mod item_list;
 mod kept;
 mod key;
 mod key_list;
+pub mod laws;
 mod limits;
 mod line;
 mod reading;
@@ -22,6 +23,8 @@ mod request;
 mod request_reader;
 mod sink;
 mod source;
+#[cfg(test)]
+mod tests;
 mod writing;
 
 pub use block::Block;

@@ -1,0 +1,169 @@
+//! Which requests lines say, and how other lines are refused.
+use super::{add_repeated, answers_in_two, gives, gives_all};
+use crate::{Key, KeyList, TextError};
+use std::alloc::Global;
+use std::test::Fail;
+
+#[test]
+fn lines_say_requests(rt: HostRuntime) -> Result<(), Fail> {
+    let table = b"get k\r\n|get k\r\n;|\
+        get k\n|get k\r\n;|\
+        \x20 get  k   k b \n|get k k b\r\n;|\
+        get k noreply\r\n|get k noreply\r\n;|\
+        get get\r\nget set\r\n|get get\r\nget set\r\n;|\
+        get \x80\xff\r\n|get \x80\xff\r\n;|\
+        delete k\r\n|delete k\r\n;|\
+        delete k 0\r\n|delete k\r\n;|\
+        delete k noreply\r\n|delete k noreply\r\n;|\
+        delete k 0 noreply\r\n|delete k noreply\r\n;|\
+        delete noreply\r\n|delete noreply\r\n;|\
+        delete 0 0\r\n|delete 0\r\n;|\
+        delete noreply noreply\r\n|delete noreply noreply\r\n;|\
+        set k 0 0 0\r\n\r\n|set k 0 0 0\r\n\r\n;|\
+        set k 0 0 1\nv\r\n|set k 0 0 1\r\nv\r\n;|\
+        set k 7 9 1 noreply\r\n\n\r\n|set k 7 9 1 noreply\r\n\n\r\n;|\
+        set noreply 0 0 1 noreply\r\nv\r\n|set noreply 0 0 1 noreply\r\nv\r\n;|\
+        set k 0 0 6\r\nquit\r\n\r\nquit\r\n|set k 0 0 6\r\nquit\r\n\r\nquit\r\n<9>|\
+        quit\r\nget k\r\n|quit\r\n<9>|";
+    gives_all(&rt, rt.alloc(), table)
+}
+
+#[test]
+fn numbers_have_ranges(rt: HostRuntime) -> Result<(), Fail> {
+    let table = b"set k 000 00 0001\r\nv\r\n|set k 0 0 1\r\nv\r\n;|\
+        set k 0 -0 1\r\nv\r\n|set k 0 0 1\r\nv\r\n;|\
+        set k 0 -000 1\r\nv\r\n|set k 0 0 1\r\nv\r\n;|\
+        set k 0 -007 1\r\nv\r\n|set k 0 -7 1\r\nv\r\n;|\
+        set k 00000000004294967295 0 1\r\nv\r\n|set k 4294967295 0 1\r\nv\r\n;|\
+        set k 4294967296 0 1\r\n|<3><9>|\
+        set k 0 9223372036854775807 1\r\nv\r\n|set k 0 9223372036854775807 1\r\nv\r\n;|\
+        set k 0 -9223372036854775808 1\r\nv\r\n|set k 0 -9223372036854775808 1\r\nv\r\n;|\
+        set k 0 9223372036854775808 1\r\n|<3><9>|\
+        set k 0 -9223372036854775809 1\r\n|<3><9>|\
+        set k +5 0 1\r\n|<3><9>|\
+        set k 0 +5 1\r\n|<3><9>|\
+        set k -0 0 1\r\n|<3><9>|\
+        set k 0 - 1\r\n|<3><9>|\
+        set k 0 --1 1\r\n|<3><9>|\
+        set k 0 0 -1\r\n|<3><9>|\
+        set k 0 0 0x1\r\n|<3><9>|\
+        set k 0 0 8193\r\n|<5><9>|\
+        set k 0 0 18446744073709551615\r\n|<5><9>|\
+        set k 0 0 18446744073709551616\r\n|<3><9>|";
+    gives_all(&rt, rt.alloc(), table)
+}
+
+#[test]
+fn other_lines_are_refused_in_order(rt: HostRuntime) -> Result<(), Fail> {
+    let table = b"gets k\r\nget k\r\n|<7>get k\r\n;|\
+        \r\n\n  \r\nget k\r\n|<7><7><7>get k\r\n;|\
+        GET k\r\nget k\r\n|<7>get k\r\n;|\
+        get\tk\r\n|<7>;|\
+        quit\r\r\nget k\r\n|<7>get k\r\n;|\
+        cas k 0 0 1 5\r\nget k\r\n|<7 closes><9>|\
+        add\n|<7 closes><9>|\
+        \x20replace k\n|<7 closes><9>|\
+        append k\n|<7 closes><9>|\
+        prepend k\n|<7 closes><9>|\
+        Cas\nadds\n|<7><7>;|\
+        get\r\n|<4><9>|\
+        quit now\r\n|<4><9>|\
+        set k x y\r\n|<4><9>|\
+        set k 0 0 1 x\r\n|<4><9>|\
+        set k 0 0 1 noreply x\r\n|<4><9>|\
+        set \x01 x y z w\r\n|<4><9>|\
+        delete\r\n|<4><9>|\
+        delete k 5\r\n|<4><9>|\
+        delete \x01 5\r\n|<4><9>|\
+        delete k 00\r\n|<4><9>|\
+        delete k 0 0\r\n|<4><9>|\
+        delete k noreply 0\r\n|<4><9>|\
+        delete k noreply noreply\r\n|<4><9>|\
+        get k \x7f\r\n|<2><9>|\
+        get k\r\r\n|<2><9>|\
+        get k\r \n|<2><9>|\
+        get k\x00\n|<2><9>|\
+        set \x7f x 0 8193\r\n|<2><9>|\
+        set k 0 x 8193\r\n|<3><9>|";
+    gives_all(&rt, rt.alloc(), table)
+}
+
+#[test]
+fn block_needs_its_end(rt: HostRuntime) -> Result<(), Fail> {
+    let table = b"set k 0 0 1\r\nv\n|<6><9>|\
+        set k 0 0 1\r\nvX|<6><9>|\
+        set k 0 0 1\r\nv\r\r|<6><9>|\
+        set k 0 0 0 noreply\r\nv|<6><9>|\
+        set k 0 0 1\r\nv\r|;|";
+    gives_all(&rt, rt.alloc(), table)
+}
+
+#[test]
+fn key_of_251_bytes_is_refused(rt: HostRuntime) -> Result<(), Fail> {
+    let alloc = rt.alloc();
+    let mut line = Vec::from_slice(alloc, b"get ")?;
+    add_repeated(&mut line, b'x', 251)?;
+    line.extend_from_slice(b"\r\nget k\r\n")?;
+    gives(&rt, alloc, &line, b"<2><9>")
+}
+
+/// A line of `get k` and so many spaces.
+fn spaced_line(alloc: Global, spaces: usize, end: &[u8]) -> Result<Vec<u8>, Fail> {
+    let mut line = Vec::from_slice(alloc, b"get k")?;
+    add_repeated(&mut line, b' ', spaces)?;
+    line.extend_from_slice(end)?;
+    Ok(line)
+}
+
+#[test]
+fn line_of_8192_bytes_is_read(rt: HostRuntime) -> Result<(), Fail> {
+    let alloc = rt.alloc();
+    gives(&rt, alloc, &spaced_line(alloc, 8187, b"\n")?, b"get k\r\n;")?;
+    gives(
+        &rt,
+        alloc,
+        &spaced_line(alloc, 8187, b"\r\n")?,
+        b"get k\r\n;",
+    )?;
+    gives(&rt, alloc, &spaced_line(alloc, 8188, b"\n")?, b"<1><9>")?;
+    gives(&rt, alloc, &spaced_line(alloc, 8188, b"\r\n")?, b"<1><9>")
+}
+
+#[test]
+fn line_without_end_is_refused_at_8194_bytes(rt: HostRuntime) -> Result<(), Fail> {
+    let alloc = rt.alloc();
+    let line = spaced_line(alloc, 8187, b"x")?;
+    gives(&rt, alloc, &line, b";")?;
+    let ended = answers_in_two(alloc, &line, b"", true)?;
+    assert_eq!(rt; ended.as_slice(), b"<8><9>".as_slice());
+    let longer = answers_in_two(alloc, &line, b"x", false)?;
+    assert_eq!(rt; longer.as_slice(), b"<1><9>".as_slice());
+    gives(&rt, alloc, &spaced_line(alloc, 8187, b"\r")?, b";")?;
+    gives(&rt, alloc, &spaced_line(alloc, 9995, b"")?, b"<1><9>")
+}
+
+/// The line of a get of so many keys `k`, and what `KeyList` says of them.
+fn line_of_keys(alloc: Global, count: usize) -> Result<(Vec<u8>, Option<TextError>), Fail> {
+    let mut line = Vec::from_slice(alloc, b"get")?;
+    let mut keys = Vec::new(alloc);
+    for _ in 0..count {
+        line.extend_from_slice(b" k")?;
+        keys.push(Key::new(alloc, b"k")?)?;
+    }
+    line.extend_from_slice(b"\r\n")?;
+    Ok((line, KeyList::new(keys).err()))
+}
+
+#[test]
+fn get_of_4094_keys_is_read(rt: HostRuntime) -> Result<(), Fail> {
+    let alloc = rt.alloc();
+    let (line, refusal) = line_of_keys(alloc, 4094)?;
+    assert_eq!(rt; line.len(), 8193);
+    assert_eq!(rt; refusal, None);
+    let mut answers = line.clone()?;
+    answers.push(b';')?;
+    gives(&rt, alloc, &line, &answers)?;
+    let (line, refusal) = line_of_keys(alloc, 4095)?;
+    assert_eq!(rt; refusal, Some(TextError::LineTooLong));
+    gives(&rt, alloc, &line, b"<1><9>")
+}

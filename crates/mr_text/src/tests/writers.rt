@@ -1,0 +1,226 @@
+//! The bytes that requests and replies are written as.
+ghost use Rattle.std.specs.Prelude.{Some};
+
+use super::{add_repeated, reply_text, request_text};
+use crate::{
+    Block, Cause, FailsAt, FixedBuffer, GhostCount, Item, ItemList, Key, KeyList, Line, OverWriter,
+    Reply, Request, Sink, WriteFault, write_reply, write_reply_at_once, write_request,
+};
+use std::alloc::Global;
+use std::process::Abort;
+use std::test::Fail;
+
+/// A sink that keeps what it is given, and counts the writes.
+#[derive(Drop)]
+struct CountedWrites {
+    bytes: Vec<u8>,
+    writes: u64,
+    failures: GhostCount,
+}
+
+impl CountedWrites {
+    fn new(alloc: Global) -> CountedWrites {
+        CountedWrites {
+            bytes: Vec::new(alloc),
+            writes: 0,
+            failures: GhostCount::new(),
+        }
+    }
+}
+
+impl Sink for CountedWrites {
+    ghost written = { λ s. s.bytes.items };
+
+    ghost contents = { λ s. Some s.bytes.items };
+
+    ghost failures = { λ s. s.failures };
+
+    fn write_all(&mut self, bytes: &[u8]) -> Result<(), WriteFault> {
+        self.writes = self.writes.saturating_add(1);
+        match self.bytes.extend_from_slice(bytes) {
+            Ok(()) => Ok(()),
+            Err(_) => {
+                self.failures.add_one();
+                Err(WriteFault)
+            }
+        }
+    }
+}
+
+/// Asserts what a request and its copy are written as.
+fn is_request(rt: &impl Abort, alloc: Global, request: &Request, text: &[u8]) -> Result<(), Fail> {
+    assert_eq!(rt; request_text(alloc, request)?.as_slice(), text);
+    assert_eq!(rt; request_text(alloc, &request.copy()?)?.as_slice(), text);
+    Ok(())
+}
+
+/// Asserts what a reply and its copy are written as.
+fn is_reply(rt: &impl Abort, alloc: Global, reply: &Reply, text: &[u8]) -> Result<(), Fail> {
+    assert_eq!(rt; reply_text(alloc, reply)?.as_slice(), text);
+    assert_eq!(rt; reply_text(alloc, &reply.copy()?)?.as_slice(), text);
+    Ok(())
+}
+
+fn get(alloc: Global) -> Result<Request, Fail> {
+    let mut keys = Vec::new(alloc);
+    keys.push(Key::new(alloc, b"k")?)?;
+    keys.push(Key::new(alloc, b"b")?)?;
+    let keys = KeyList::new(keys)?;
+    Ok(Request::Get { keys })
+}
+
+fn set(alloc: Global, block: &[u8], exptime: i64, noreply: bool) -> Result<Request, Fail> {
+    let key = Key::new(alloc, b"k")?;
+    let block = Block::new(alloc, block)?;
+    Ok(Request::Set {
+        key,
+        flags: 0,
+        exptime,
+        block,
+        noreply,
+    })
+}
+
+fn delete(alloc: Global, noreply: bool) -> Result<Request, Fail> {
+    let key = Key::new(alloc, b"k")?;
+    Ok(Request::Delete { key, noreply })
+}
+
+#[test]
+fn requests_are_written(rt: HostRuntime) -> Result<(), Fail> {
+    let alloc = rt.alloc();
+    is_request(&rt, alloc, &get(alloc)?, b"get k b\r\n")?;
+    is_request(&rt, alloc, &delete(alloc, false)?, b"delete k\r\n")?;
+    is_request(&rt, alloc, &delete(alloc, true)?, b"delete k noreply\r\n")?;
+    is_request(&rt, alloc, &Request::Quit, b"quit\r\n")
+}
+
+#[test]
+fn sets_are_written(rt: HostRuntime) -> Result<(), Fail> {
+    let alloc = rt.alloc();
+    let request = set(alloc, b"a\r\nb", 10, false)?;
+    is_request(&rt, alloc, &request, b"set k 0 10 4\r\na\r\nb\r\n")?;
+    let request = set(alloc, b"", -1, true)?;
+    is_request(&rt, alloc, &request, b"set k 0 -1 0 noreply\r\n\r\n")?;
+    let request = set(alloc, b"v", i64::MIN, false)?;
+    is_request(
+        &rt,
+        alloc,
+        &request,
+        b"set k 0 -9223372036854775808 1\r\nv\r\n",
+    )?;
+    let request = set(alloc, b"v", i64::MAX, false)?;
+    is_request(
+        &rt,
+        alloc,
+        &request,
+        b"set k 0 9223372036854775807 1\r\nv\r\n",
+    )
+}
+
+fn one_item(alloc: Global, flags: u32, block: &[u8]) -> Result<Reply, Fail> {
+    let key = Key::new(alloc, b"k")?;
+    let block = Block::new(alloc, block)?;
+    let mut items = Vec::new(alloc);
+    items.push(Item { key, flags, block })?;
+    Ok(Reply::Items(ItemList::new(items)))
+}
+
+fn other(alloc: Global, text: &[u8]) -> Result<Reply, Fail> {
+    Ok(Reply::ServerError(Cause::Other(Line::new(alloc, text)?)))
+}
+
+#[test]
+fn replies_are_written(rt: HostRuntime) -> Result<(), Fail> {
+    let alloc = rt.alloc();
+    let none = Reply::Items(ItemList::new(Vec::new(alloc)));
+    is_reply(&rt, alloc, &none, b"END\r\n")?;
+    let item = one_item(alloc, 0, b"v")?;
+    is_reply(&rt, alloc, &item, b"VALUE k 0 1\r\nv\r\nEND\r\n")?;
+    let item = one_item(alloc, 4294967295, b"")?;
+    is_reply(&rt, alloc, &item, b"VALUE k 4294967295 0\r\n\r\nEND\r\n")?;
+    is_reply(&rt, alloc, &Reply::Stored, b"STORED\r\n")?;
+    is_reply(&rt, alloc, &Reply::Deleted, b"DELETED\r\n")?;
+    is_reply(&rt, alloc, &Reply::NotFound, b"NOT_FOUND\r\n")?;
+    is_reply(&rt, alloc, &Reply::Error, b"ERROR\r\n")
+}
+
+#[test]
+fn errors_are_written(rt: HostRuntime) -> Result<(), Fail> {
+    let alloc = rt.alloc();
+    let reply = Reply::ClientError(Cause::BadKey);
+    is_reply(&rt, alloc, &reply, b"CLIENT_ERROR bad key\r\n")?;
+    let reply = Reply::ClientError(Cause::Busy);
+    is_reply(&rt, alloc, &reply, b"CLIENT_ERROR busy\r\n")?;
+    let reply = Reply::ServerError(Cause::LegLost);
+    is_reply(&rt, alloc, &reply, b"SERVER_ERROR leg lost\r\n")?;
+    is_reply(&rt, alloc, &other(alloc, b"")?, b"SERVER_ERROR \r\n")?;
+    is_reply(
+        &rt,
+        alloc,
+        &other(alloc, b" a\r")?,
+        b"SERVER_ERROR  a\r\r\n",
+    )
+}
+
+#[test]
+fn short_reply_takes_one_write(rt: HostRuntime) -> Result<(), Fail> {
+    let alloc = rt.alloc();
+    let mut buffer = FixedBuffer::new();
+    let mut sink = CountedWrites::new(alloc);
+    let item = one_item(alloc, 0, b"v")?;
+    write_reply_at_once(&item, &mut buffer, &mut sink)?;
+    assert_eq!(rt; sink.writes, 1);
+    write_reply_at_once(&Reply::Stored, &mut buffer, &mut sink)?;
+    assert_eq!(rt; sink.writes, 2);
+    let wanted = b"VALUE k 0 1\r\nv\r\nEND\r\nSTORED\r\n".as_slice();
+    assert_eq!(rt; sink.bytes.as_slice(), wanted);
+    Ok(())
+}
+
+/// Asserts whether a reply with so many bytes of data is written at once, and that it is written as ever.
+fn is_at_once(rt: &impl Abort, alloc: Global, length: usize, at_once: bool) -> Result<(), Fail> {
+    let mut block = Vec::new(alloc);
+    add_repeated(&mut block, b'x', length)?;
+    let reply = one_item(alloc, 0, &block)?;
+    let text = reply_text(alloc, &reply)?;
+    let mut buffer = FixedBuffer::new();
+    let mut sink = CountedWrites::new(alloc);
+    write_reply_at_once(&reply, &mut buffer, &mut sink)?;
+    assert_eq!(rt; text.len(), length.saturating_add(23));
+    assert_eq!(rt; sink.bytes.as_slice(), text.as_slice());
+    assert_eq!(rt; sink.writes == 1, at_once);
+    Ok(())
+}
+
+#[test]
+fn reply_of_4096_bytes_takes_one_write(rt: HostRuntime) -> Result<(), Fail> {
+    // Beside the data, the line of the item, `END` and the line ends have 23 bytes.
+    is_at_once(&rt, rt.alloc(), 4073, true)?;
+    is_at_once(&rt, rt.alloc(), 4074, false)
+}
+
+#[test]
+fn writers_pass_on_faults(rt: HostRuntime) -> Result<(), Fail> {
+    let alloc = rt.alloc();
+    let reply = one_item(alloc, 0, b"v")?;
+    for call in 1..6 {
+        let mut sink = FailsAt::new(OverWriter::new(Vec::new(alloc)), call);
+        assert_eq!(rt; write_reply(&reply, &mut sink), Err(WriteFault), "{call}");
+    }
+    let request = set(alloc, b"v", 0, true)?;
+    for call in 1..6 {
+        let mut sink = FailsAt::new(OverWriter::new(Vec::new(alloc)), call);
+        assert_eq!(rt;
+            write_request(&request, &mut sink),
+            Err(WriteFault),
+            "{call}"
+        );
+    }
+    let mut buffer = FixedBuffer::new();
+    let mut sink = FailsAt::new(OverWriter::new(Vec::new(alloc)), 1);
+    let fault = write_reply_at_once(&reply, &mut buffer, &mut sink);
+    assert_eq!(rt; fault, Err(WriteFault));
+    assert_eq!(rt; sink.into_inner().into_inner().as_slice(), b"".as_slice());
+    Ok(())
+}
