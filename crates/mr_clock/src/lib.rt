@@ -1,0 +1,12 @@
+//! Clocks: readings in whole seconds since the epoch.
+#![tactic(auto)]
+
+mod clock;
+mod error;
+mod fixed_clock;
+mod list_clock;
+
+pub use clock::Clock;
+pub use error::ClockFault;
+pub use fixed_clock::FixedClock;
+pub use list_clock::ListClock;

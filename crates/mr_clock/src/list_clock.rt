@@ -1,0 +1,73 @@
+ghost use Rattle.std.specs.Prelude.{◌≡◌, ◌+◌, ◌<◌, MatchResult};
+
+use crate::clock::Clock;
+use crate::error::ClockFault;
+use mr_text::GhostCount;
+use std::marker::Model;
+
+#[cfg(test)]
+mod tests;
+
+/// A clock that gives the members of a list in order, `None` as a fault, and then its last member for good.
+/// Without members it always fails.
+#[derive(Drop)]
+pub struct ListClock {
+    readings: Vec<Option<u64>>,
+    next: usize,
+    failures: GhostCount,
+}
+
+impl Model for ListClock {
+    ghost use Rattle.std.specs.Prelude.{drop};
+    ghost use Rattle.mr_clock.specs.Script.{Script};
+
+    ghost Value = { Script };
+
+    ghost view = { λ c. record { left = drop c.next c.readings.items; failures = c.failures } };
+}
+
+impl ListClock {
+    ghost use Rattle.std.specs.Prelude.{◌≡◌};
+
+    /// A clock of these readings, in seconds since the epoch.
+    pub fn new(readings: Vec<Option<u64>>) -> ListClock
+        ensures left { result.left ≡ readings.items }
+        ensures failures { result.failures ≡ 0 }
+    {
+        ListClock {
+            readings,
+            next: 0,
+            failures: GhostCount::new(),
+        }
+    }
+}
+
+impl Clock for ListClock {
+    ghost use Rattle.mr_clock.specs.Script.{Reads, first_reading, left_after};
+
+    ghost failures = { λ c. c.failures };
+
+    ghost reads = { Reads };
+
+    fn now(&mut self) -> Result<u64, ClockFault>
+        ensures reading { MatchResult result
+            (λ reading. first_reading self.old.left ≡ Some reading)
+            (λ _. first_reading self.old.left ≡ None) }
+        ensures left { self.new.left ≡ left_after self.old.left }
+        ensures failures { MatchResult result
+            (λ _. self.new.failures ≡ self.old.failures)
+            (λ _. self.new.failures ≡ self.old.failures + 1) }
+    {
+        let reading = self.readings.get(self.next).copied().flatten();
+        if self.readings.len().saturating_sub(self.next) > 1 {
+            self.next += 1;
+        }
+        match reading {
+            Some(seconds) => Ok(seconds),
+            None => {
+                self.failures.add_one();
+                Err(ClockFault)
+            }
+        }
+    }
+}

@@ -1,0 +1,113 @@
+//! A join under way, as a type by the number of sides that are to answer yet.
+ghost use Rattle.std.specs.Prelude.{◌≡◌, [], ◌∷◌, IfOk, IfErr};
+
+use crate::joined::Joined;
+use crate::leg_reply::LegReply;
+use mr_phases::Side;
+use std::marker::Model;
+
+/// Both sides are to answer yet.
+#[derive(Debug, Drop)]
+pub struct Two;
+
+/// One side is to answer yet. The other one did, or isn't awaited.
+#[derive(Debug, Drop)]
+pub struct One {
+    awaited: Side,
+    other: Option<LegReply>,
+}
+
+impl Model for Two {
+    ghost use Rattle.std.specs.Prelude.{[], ◌∷◌};
+    ghost use Rattle.mr_phases.specs.declared.side.Side.TheVariants.{Old, New};
+    ghost use Rattle.mr_join.specs.Sides.{JoiningView, no_replies};
+
+    ghost Value = { JoiningView };
+
+    ghost view = { λ _. record { awaits = Old ∷ New ∷ []; came = no_replies } };
+}
+
+impl Model for One {
+    ghost use Rattle.std.specs.Prelude.{[], ◌∷◌};
+    ghost use Rattle.mr_join.specs.Sides.{JoiningView, came_from, other_side};
+
+    ghost Value = { JoiningView };
+
+    ghost view = { λ o. record { awaits = o.awaited ∷ []; came = came_from (other_side o.awaited) o.other } };
+}
+
+/// A join of the replies of a request's legs. `Joining<Two>` becomes `Joining<One>` by a first reply, and that becomes
+/// `Joined` by the reply of the side that is left: one reply alone can't finish what awaits two.
+#[derive(Debug, Drop)]
+pub struct Joining<S> {
+    state: S,
+}
+
+impl<S> Model for Joining<S> {
+    ghost Value = { S };
+
+    ghost view = { λ j. j.state };
+}
+
+impl Joining<Two> {
+    ghost use Rattle.mr_phases.specs.declared.side.Side.TheVariants.{Old, New};
+    ghost use Rattle.mr_join.specs.Sides.{no_replies, with_reply, other_side};
+
+    /// Awaits both sides.
+    pub fn two() -> Joining<Two>
+        ensures awaits { result.awaits ≡ Old ∷ New ∷ [] }
+        ensures came { result.came ≡ no_replies }
+    {
+        Joining { state: Two }
+    }
+
+    /// Takes the first reply, of either side; the other side is awaited from then on.
+    pub fn take(self, side: Side, reply: LegReply) -> Joining<One>
+        ensures awaits { result.awaits ≡ other_side side ∷ [] }
+        ensures came { result.came ≡ with_reply no_replies side reply }
+    {
+        let awaited = match side {
+            Side::Old => Side::New,
+            Side::New => Side::Old,
+        };
+        Joining {
+            state: One {
+                awaited,
+                other: Some(reply),
+            },
+        }
+    }
+}
+
+impl Joining<One> {
+    ghost use Rattle.mr_join.specs.Sides.{no_replies, with_reply};
+
+    /// Awaits that side alone.
+    pub fn one(side: Side) -> Joining<One>
+        ensures awaits { result.awaits ≡ side ∷ [] }
+        ensures came { result.came ≡ no_replies }
+    {
+        Joining {
+            state: One {
+                awaited: side,
+                other: None,
+            },
+        }
+    }
+
+    /// Takes the last reply. Where its side isn't the one awaited, both are handed back as they were.
+    pub fn take(self, side: Side, reply: LegReply) -> Result<Joined, (Joining<One>, LegReply)>
+        ensures joined { IfOk result (λ joined. (self.awaits ≡ side ∷ []) × (joined ≡ with_reply self.came side reply)) }
+        ensures refused { IfErr result (λ back. (¬ (self.awaits ≡ side ∷ [])) × (back.0 ≡ self) × (back.1 ≡ reply)) }
+    {
+        if side != self.state.awaited {
+            return Err((self, reply));
+        }
+        let One { awaited, other } = self.state;
+        Ok(match (awaited, other) {
+            (_, None) => Joined::of_one(awaited, reply),
+            (Side::Old, Some(new)) => Joined::of_both(reply, new),
+            (Side::New, Some(old)) => Joined::of_both(old, reply),
+        })
+    }
+}
