@@ -20,3 +20,7 @@ pub mod ReplyNexts
 pub mod OneLine
 pub mod OneReading
 pub mod Reached
+pub mod CanonicalWords
+pub mod CanonicalNumbers
+pub mod CanonicalRequests
+pub mod CanonicalReplies

@@ -21,3 +21,4 @@ pub mod Replies
 pub mod ReplyReading
 pub mod ReplyView
 pub mod ReplySteps
+pub mod Valid

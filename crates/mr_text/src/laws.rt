@@ -1,10 +1,20 @@
-//! The laws of the text, for requests and for replies.
-ghost use Rattle.std.specs.Prelude.{◌≡◌, ℕ, List, [], ◌++◌};
-ghost use Rattle.mr_text.specs.Requests.{SpellsRequest, RefusesRequest};
-ghost use Rattle.mr_text.specs.Replies.{SpellsReply, RefusesReply};
-ghost use Rattle.mr_text.specs.declared.error.TextError.{TextError};
+//! The laws of the text, which hold of every request and every reply that the types of this crate can hold.
+ghost use Rattle.std.specs.Prelude.{◌≡◌, ℕ, List, [], ◌++◌, All};
 ghost use Rattle.mr_text.specs.declared.request.Request.{Request};
 ghost use Rattle.mr_text.specs.declared.reply.Reply.{Reply};
+ghost use Rattle.mr_text.specs.declared.error.TextError.{TextError};
+ghost use Rattle.mr_text.specs.Commands.{IsExptime};
+ghost use Rattle.mr_text.specs.Key.{IsKey};
+ghost use Rattle.mr_text.specs.Canonical.{canonical_request, canonical_reply};
+ghost use Rattle.mr_text.specs.Requests.{SpellsRequest, RefusesRequest};
+ghost use Rattle.mr_text.specs.Replies.{SpellsReply, RefusesReply};
+ghost use Rattle.mr_text.specs.Valid.{IsFlags, IsValidRequest, IsValidItem, IsValidCause, IsValidReply};
+
+use crate::cause::Cause;
+use crate::item::Item;
+use crate::key::Key;
+use crate::reply::Reply;
+use crate::request::Request;
 
 /// No request's spelling is a proper prefix of another's, and no bytes spell two requests.
 pub fn requests_are_prefix_free()
@@ -43,3 +53,101 @@ pub fn replies_have_one_refusal()
     ensures { (bytes : List ℕ) (refusal other : TextError)
         → RefusesReply refusal bytes → RefusesReply other bytes → refusal ≡ other }
 {}
+
+/// The canonical text of a request spells that request: a reader that comes to it gives it, whatever follows.
+pub fn canonical_request_is_read()
+    ensures { (request : Request) → IsValidRequest request
+        → SpellsRequest (canonical_request request) request }
+{}
+
+/// The canonical text of a reply spells that reply: a reader that comes to it gives it, whatever follows.
+pub fn canonical_reply_is_read()
+    ensures { (reply : Reply) → IsValidReply reply
+        → SpellsReply (canonical_reply reply) reply }
+{}
+
+/// Every request is one that the laws speak of.
+pub fn request_is_valid(request: &Request)
+    ensures { IsValidRequest request.now }
+{
+    match request {
+        Request::Get { keys } => each_is_key(keys.as_slice()),
+        Request::Set {
+            key,
+            flags,
+            exptime,
+            block,
+            ..
+        } => {
+            key.as_bytes();
+            are_flags(*flags);
+            is_exptime(*exptime);
+            block.as_bytes();
+        }
+        Request::Delete { key, .. } => {
+            key.as_bytes();
+        }
+        Request::Quit => {}
+    }
+}
+
+/// Every reply is one that the laws speak of.
+pub fn reply_is_valid(reply: &Reply)
+    ensures { IsValidReply reply.now }
+{
+    match reply {
+        Reply::Items(items) => each_is_item(items.as_slice()),
+        Reply::ClientError(cause) => is_cause(cause),
+        Reply::ServerError(cause) => is_cause(cause),
+        Reply::Stored => {}
+        Reply::Deleted => {}
+        Reply::NotFound => {}
+        Reply::Error => {}
+    }
+}
+
+/// What a list of keys holds are keys.
+fn each_is_key(keys: &[Key])
+    ensures { All IsKey keys.now }
+{
+    for key in keys {
+        key.as_bytes();
+    }
+}
+
+/// Flags fit their field.
+fn are_flags(flags: u32)
+    ensures { IsFlags flags }
+{}
+
+/// The moment at which an item expires fits its field.
+fn is_exptime(exptime: i64)
+    ensures { IsExptime exptime }
+{}
+
+/// An item's parts are what they must be.
+fn is_item(item: &Item)
+    ensures { IsValidItem item.now }
+{
+    item.key.as_bytes();
+    are_flags(item.flags);
+    item.block.as_bytes();
+}
+
+/// What a list of items holds are items.
+fn each_is_item(items: &[Item])
+    ensures { All IsValidItem items.now }
+{
+    for item in items {
+        is_item(item);
+    }
+}
+
+/// A cause is named, or its text is no name.
+fn is_cause(cause: &Cause)
+    ensures { IsValidCause cause.now }
+{
+    if let Cause::Other(text) = cause {
+        text.as_bytes();
+    }
+}
