@@ -14,7 +14,7 @@ use Rattle.mr_text.specs.Valid.{IsValidItem, AreValidItems, IsValidCause, IsVali
 use Rattle.mr_text.specs.declared.cause.Cause.{Cause}
 use Rattle.mr_text.specs.declared.cause.Cause.TheVariants.{LineTooLong, BadKey, BadNumber, WrongWords, DataTooLong, BadDataEnd, LegLost, Busy, OutOfMemory, ClockFault, BookFull, NumbersSpent, NodeRefused, Other}
 use Rattle.mr_text.specs.declared.item.Item.{Item}
-use Rattle.mr_text.specs.declared.limits.TheConstants.{MAX_LINE, MAX_BLOCK, MAX_KEY, MAX_ERROR_TEXT}
+use Rattle.mr_text.specs.Limits.{MAX_LINE, MAX_BLOCK, MAX_KEY, MAX_ERROR_TEXT}
 use Rattle.mr_text.specs.declared.reply.Reply.{Reply}
 use Rattle.mr_text.specs.declared.reply.Reply.TheVariants.{Items, Stored, Deleted, NotFound, Error, ClientError, ServerError}
 use Rattle.mr_text.proofs.CanonicalWords.{IsWord, joined, joined_line, text_line}

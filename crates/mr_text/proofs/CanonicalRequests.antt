@@ -8,7 +8,7 @@ use Rattle.mr_text.specs.Commands.Shape.{GetShape, SetShape, DeleteShape, QuitSh
 use Rattle.mr_text.specs.Key.{IsKey, FitLine}
 use Rattle.mr_text.specs.Requests.{IsLineOfWords, IsLineOfShape, SpellsSet, SpellsRequest}
 use Rattle.mr_text.specs.Valid.{IsValidGet, IsValidSet, IsValidRequest}
-use Rattle.mr_text.specs.declared.limits.TheConstants.{MAX_LINE, MAX_KEY, MAX_BLOCK}
+use Rattle.mr_text.specs.Limits.{MAX_LINE, MAX_KEY, MAX_BLOCK}
 use Rattle.mr_text.specs.declared.request.Request.{Request}
 use Rattle.mr_text.specs.declared.request.Request.TheVariants.{Get, Set, Delete, Quit}
 use Rattle.mr_text.proofs.CanonicalWords.{AreWords, joined, joined_line}

@@ -6,7 +6,7 @@ use Rattle.mr_text.specs.Canonical.{spaced, line_end}
 use Rattle.mr_text.specs.Line.{HasLineFeed}
 use Rattle.mr_text.specs.Requests.{IsLineOfWords}
 use Rattle.mr_text.specs.Text.{IsLine, words_of, pieces_of, is_empty, without_carriage_return}
-use Rattle.mr_text.specs.declared.limits.TheConstants.{MAX_LINE}
+use Rattle.mr_text.specs.Limits.{MAX_LINE}
 
 -- neither a space nor a control character
 abbrev pub IsVisible : ℕ → Type 0

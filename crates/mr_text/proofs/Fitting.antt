@@ -5,7 +5,7 @@ use Rattle.mr_text.specs.Key.{FitLine}
 use Rattle.mr_text.specs.Text.{words_of, pieces_of, begun_with, is_empty}
 use Rattle.mr_text.specs.CommandView.{said_by, IsCounted, IsCommand, IsGoodLine}
 use Rattle.mr_text.specs.Reading.{command_line}
-use Rattle.mr_text.specs.declared.limits.TheConstants.{MAX_LINE}
+use Rattle.mr_text.specs.Limits.{MAX_LINE}
 use Rattle.mr_text.specs.declared.error.TextError.{TextError}
 use Rattle.mr_text.specs.declared.reading.commands.Command.{Command}
 use Rattle.mr_text.specs.declared.reading.commands.Command.TheVariants.{Get, Set, Delete, Quit}

@@ -3,7 +3,7 @@ use Rattle.std.proofs.Common.{◌≡◌, ℕ, ◌==◌, ◌&&◌, Bool, true, fa
 use Rattle.std.specs.List.{list_all}
 use Rattle.std.proofs.lemmas.List.Sums.{AllPass-from_list_all, list_all-from_AllPass}
 use Rattle.mr_text.specs.Key.{IsKey, IsKeyByte, key_test, key_byte_test}
-use Rattle.mr_text.specs.declared.limits.TheConstants.{MAX_KEY}
+use Rattle.mr_text.specs.Limits.{MAX_KEY}
 
 pub and_true : (a b : Bool) → (a && b) ≡ true → (a ≡ true) × (b ≡ true)
 and_true true true e = (refl, refl)

@@ -4,7 +4,7 @@ use Rattle.mr_text.specs.Line.{HasLineFeed}
 use Rattle.mr_text.specs.Text.{without_carriage_return}
 use Rattle.mr_text.specs.ReplyReading.{drop_spaces}
 use Rattle.mr_text.specs.ReplyView.{IsOneLine}
-use Rattle.mr_text.specs.declared.limits.TheConstants.{MAX_LINE}
+use Rattle.mr_text.specs.Limits.{MAX_LINE}
 
 pub drop_one_line : (n : ℕ) (bytes : List ℕ) → ¬ HasLineFeed bytes → ¬ HasLineFeed (drop n bytes)
 drop_one_line n bytes h (k, within, at) =

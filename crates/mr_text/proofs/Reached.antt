@@ -6,7 +6,7 @@ use Rattle.mr_text.specs.Reading.Reading.{Waits, Gives, Refused}
 use Rattle.mr_text.specs.ReplyReading.{step_reading, with_items, items_by, items_reading}
 use Rattle.mr_text.specs.ReplyReading.Step.{ItemStep, EndStep}
 use Rattle.mr_text.specs.declared.item.Item.{Item}
-use Rattle.mr_text.specs.declared.limits.TheConstants.{MAX_ITEMS}
+use Rattle.mr_text.specs.Limits.{MAX_ITEMS}
 use Rattle.mr_text.specs.declared.error.TextError.{TextError}
 use Rattle.mr_text.proofs.ReplyReading.{items-suc, items-zero, end_of, refused_of}
 

@@ -6,7 +6,7 @@ use Rattle.mr_text.specs.Replies.{ItemNumbers, item_words}
 use Rattle.mr_text.specs.Reading.{number_in}
 use Rattle.mr_text.specs.ReplyReading.{ReplyLine, item_values, item_line, item_line_within, lone_line, next_line}
 use Rattle.mr_text.specs.ReplyReading.ReplyLine.{ItemLine, EndLine, LoneLine}
-use Rattle.mr_text.specs.declared.limits.TheConstants.{MAX_BLOCK}
+use Rattle.mr_text.specs.Limits.{MAX_BLOCK}
 use Rattle.mr_text.specs.declared.error.TextError.{TextError}
 use Rattle.mr_text.specs.declared.error.TextError.TheVariants.{LineTooLong, BadKey, BadNumber, WrongWords, DataTooLong, BadDataEnd, UnknownCommand, Truncated, Closed, OutOfMemory}
 use Rattle.mr_text.specs.ReplyView.{IsLine, IsGoodItem}

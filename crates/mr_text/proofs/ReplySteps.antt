@@ -11,7 +11,7 @@ use Rattle.mr_text.specs.ReplyReading.{ReplyLine, Step, next_line, item_line, it
 use Rattle.mr_text.specs.ReplyReading.ReplyLine.{ItemLine, EndLine, LoneLine}
 use Rattle.mr_text.specs.ReplyReading.Step.{ItemStep, EndStep}
 use Rattle.mr_text.specs.declared.item.Item.{Item}
-use Rattle.mr_text.specs.declared.limits.TheConstants.{MAX_BLOCK, MAX_ITEMS}
+use Rattle.mr_text.specs.Limits.{MAX_BLOCK, MAX_ITEMS}
 use Rattle.mr_text.specs.declared.error.TextError.{TextError}
 use Rattle.mr_text.specs.declared.error.TextError.TheVariants.{LineTooLong, BadKey, BadNumber, WrongWords, DataTooLong, BadDataEnd, UnknownCommand, Truncated, Closed, OutOfMemory}
 use Rattle.mr_text.proofs.Blocks.{block_found, bad_found, IsBlockRead, BlockIs, block_is}

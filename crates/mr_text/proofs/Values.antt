@@ -9,7 +9,7 @@ use Rattle.mr_text.specs.Commands.{Shape, Numbers, IsExptime}
 use Rattle.mr_text.specs.Commands.Shape.{GetShape, SetShape, DeleteShape, QuitShape}
 use Rattle.mr_text.specs.Reading.{CommandLine, number_in, signed_in, line_of, set_values}
 use Rattle.mr_text.specs.Reading.CommandLine.{GetLine, SetLine, DeleteLine, QuitLine}
-use Rattle.mr_text.specs.declared.limits.TheConstants.{MAX_BLOCK}
+use Rattle.mr_text.specs.Limits.{MAX_BLOCK}
 use Rattle.mr_text.specs.declared.error.TextError.{TextError}
 use Rattle.mr_text.specs.declared.error.TextError.TheVariants.{BadKey, BadNumber, DataTooLong}
 use Rattle.mr_text.proofs.Keys.{and_true, key_test-true, key_test-false, IsKey-test}

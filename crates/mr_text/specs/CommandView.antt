@@ -1,7 +1,7 @@
 -- What a line that was read says, over the program's own type for it.
 use Rattle.std.specs.Prelude.{◌≡◌, ℕ, ◌≤◌, List, length, All, Result, Ok, Err}
 use Rattle.mr_text.specs.Key.{IsKey, HasKey, FitLine}
-use Rattle.mr_text.specs.declared.limits.TheConstants.{MAX_BLOCK}
+use Rattle.mr_text.specs.Limits.{MAX_BLOCK}
 use Rattle.mr_text.specs.Reading.{CommandLine}
 use Rattle.mr_text.specs.Reading.CommandLine.{GetLine, SetLine, DeleteLine, QuitLine}
 use Rattle.mr_text.specs.Text.{words_of}

@@ -1,7 +1,7 @@
 -- What a key is: the bytes that name an item.
 use Rattle.std.specs.Prelude.{◌≡◌, ◌≢◌, ℕ, ◌+◌, ◌<◌, ◌≤◌, ◌⊎◌, ◌==◌, ◌&&◌, Bool, not, nat_lt, nat_le, List, [], length, All, sum_by, Result, Ok, Err}
 use Rattle.std.specs.List.{list_all}
-use Rattle.mr_text.specs.declared.limits.TheConstants.{MAX_KEY, MAX_LINE}
+use Rattle.mr_text.specs.Limits.{MAX_KEY, MAX_LINE}
 use Rattle.mr_text.specs.declared.error.TextError.{TextError}
 use Rattle.mr_text.specs.declared.error.TextError.TheVariants.{WrongWords, LineTooLong}
 

@@ -1,3 +1,4 @@
+pub mod Limits
 pub mod Count
 pub mod Roll
 pub mod Key

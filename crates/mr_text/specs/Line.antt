@@ -1,6 +1,6 @@
 -- What the text of an error is that has no name of its own.
 use Rattle.std.specs.Prelude.{◌≡◌, ℕ, ◌<◌, ◌≤◌, ◌⊎◌, List, length, Contains, Result, Ok, Err}
-use Rattle.mr_text.specs.declared.limits.TheConstants.{MAX_ERROR_TEXT}
+use Rattle.mr_text.specs.Limits.{MAX_ERROR_TEXT}
 use Rattle.mr_text.specs.declared.error.TextError.{TextError}
 use Rattle.mr_text.specs.declared.error.TextError.TheVariants.{LineTooLong, WrongWords, OutOfMemory}
 use Rattle.mr_text.specs.NamedText.{IsNamedText}

@@ -7,7 +7,7 @@ use Rattle.mr_text.specs.Key.{key_test}
 use Rattle.mr_text.specs.Commands.{Shape, block_command_words}
 use Rattle.mr_text.specs.Commands.Shape.{GetShape, SetShape, DeleteShape, QuitShape}
 use Rattle.mr_text.specs.Text.{words_of, number_of_digits, without_carriage_return}
-use Rattle.mr_text.specs.declared.limits.TheConstants.{MAX_LINE, MAX_BLOCK}
+use Rattle.mr_text.specs.Limits.{MAX_LINE, MAX_BLOCK}
 use Rattle.mr_text.specs.declared.error.TextError.{TextError}
 use Rattle.mr_text.specs.declared.error.TextError.TheVariants.{LineTooLong, BadKey, BadNumber, WrongWords, DataTooLong, BadDataEnd, UnknownCommand}
 use Rattle.mr_text.specs.declared.request.Request.{Request}

@@ -8,7 +8,7 @@ use Rattle.mr_text.specs.Text.{IsLine, IsNumber}
 use Rattle.mr_text.specs.declared.cause.Cause.{Cause}
 use Rattle.mr_text.specs.declared.cause.Cause.TheVariants.{Other}
 use Rattle.mr_text.specs.declared.item.Item.{Item}
-use Rattle.mr_text.specs.declared.limits.TheConstants.{MAX_LINE, MAX_BLOCK, MAX_ITEMS}
+use Rattle.mr_text.specs.Limits.{MAX_LINE, MAX_BLOCK, MAX_ITEMS}
 use Rattle.mr_text.specs.declared.error.TextError.{TextError}
 use Rattle.mr_text.specs.declared.error.TextError.TheVariants.{LineTooLong, BadKey, BadNumber, WrongWords, DataTooLong, BadDataEnd, UnknownCommand, Truncated, Closed, OutOfMemory}
 use Rattle.mr_text.specs.declared.reply.Reply.{Reply}

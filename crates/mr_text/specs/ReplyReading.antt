@@ -7,7 +7,7 @@ use Rattle.mr_text.specs.Reading.Reading.{Waits, Gives, Refused}
 use Rattle.mr_text.specs.Replies.{cause_of}
 use Rattle.mr_text.specs.Text.{words_of}
 use Rattle.mr_text.specs.declared.item.Item.{Item}
-use Rattle.mr_text.specs.declared.limits.TheConstants.{MAX_BLOCK, MAX_ITEMS}
+use Rattle.mr_text.specs.Limits.{MAX_BLOCK, MAX_ITEMS}
 use Rattle.mr_text.specs.declared.error.TextError.{TextError}
 use Rattle.mr_text.specs.declared.error.TextError.TheVariants.{BadKey, BadNumber, WrongWords, DataTooLong, UnknownCommand}
 use Rattle.mr_text.specs.declared.reply.Reply.{Reply}

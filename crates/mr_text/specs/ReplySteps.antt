@@ -9,7 +9,7 @@ use Rattle.mr_text.specs.Reading.Reading.{Waits, Gives, Refused}
 use Rattle.mr_text.specs.ReplyReading.{Step, step_reading, items_reading, reply_reading}
 use Rattle.mr_text.specs.ReplyReading.Step.{ItemStep, EndStep}
 use Rattle.mr_text.specs.declared.item.Item.{Item}
-use Rattle.mr_text.specs.declared.limits.TheConstants.{MAX_ITEMS}
+use Rattle.mr_text.specs.Limits.{MAX_ITEMS}
 use Rattle.mr_text.specs.declared.error.TextError.{TextError}
 use Rattle.mr_text.specs.declared.reading.reply_lines.SaidLine.{SaidLine}
 use Rattle.mr_text.specs.declared.reading.reply_lines.SaidLine.TheVariants as said

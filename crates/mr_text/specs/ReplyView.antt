@@ -5,7 +5,7 @@ use Rattle.mr_text.specs.Line.{HasLineFeed}
 use Rattle.mr_text.specs.Replies.{cause_of}
 use Rattle.mr_text.specs.ReplyReading.{ReplyLine}
 use Rattle.mr_text.specs.ReplyReading.ReplyLine.{ItemLine, EndLine, LoneLine}
-use Rattle.mr_text.specs.declared.limits.TheConstants.{MAX_BLOCK, MAX_ERROR_TEXT}
+use Rattle.mr_text.specs.Limits.{MAX_BLOCK, MAX_ERROR_TEXT}
 use Rattle.mr_text.specs.declared.error.TextError.{TextError}
 use Rattle.mr_text.specs.declared.reading.reply_lines.SaidLine.{SaidLine}
 use Rattle.mr_text.specs.declared.reading.reply_lines.SaidLine.TheVariants.{Item, End, Stored, Deleted, NotFound, Error, ClientError, ServerError}

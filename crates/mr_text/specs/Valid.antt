@@ -7,7 +7,7 @@ use Rattle.mr_text.specs.Line.{IsErrorText}
 use Rattle.mr_text.specs.declared.cause.Cause.{Cause}
 use Rattle.mr_text.specs.declared.cause.Cause.TheVariants.{Other}
 use Rattle.mr_text.specs.declared.item.Item.{Item}
-use Rattle.mr_text.specs.declared.limits.TheConstants.{MAX_ITEMS}
+use Rattle.mr_text.specs.Limits.{MAX_ITEMS}
 use Rattle.mr_text.specs.declared.reply.Reply.{Reply}
 use Rattle.mr_text.specs.declared.reply.Reply.TheVariants.{Items, Stored, Deleted, NotFound, Error, ClientError, ServerError}
 use Rattle.mr_text.specs.declared.request.Request.{Request}

@@ -80,6 +80,7 @@ impl<D: Source> Source for FailsAt<D> {
         ensures until { self.new.until ≡ self.old.until - 1 }
         ensures own { self.new.own_failures ≡ (if self.old.until == 1 then self.old.own_failures + 1 else self.old.own_failures) }
         ensures turn { self.old.until ≡ 1 → IsErr result }
+        ensures idle { self.old.until ≡ 1 → self.new.inner ≡ self.old.inner }
         ensures device { self.old.until ≢ 1 → OnErr result (D.failures self.old.inner < D.failures self.new.inner) }
     {
         if self.takes_failing_turn() {
@@ -97,7 +98,9 @@ impl<D: Sink> Sink for FailsAt<D> {
     ghost failures = { λ f. D.failures f.inner + f.own_failures };
 
     fn write_all(&mut self, bytes: &[u8]) -> Result<(), WriteFault>
-        ensures written { OnOk result (D.written self.new.inner ≡ D.written self.old.inner ++ bytes.now) }
+        ensures written { MatchResult result
+            (λ _. D.written self.new.inner ≡ D.written self.old.inner ++ bytes.now)
+            (λ _. D.written self.new.inner ≡ D.written self.old.inner) }
         ensures contents { OnOk result (Appends (D.contents self.old.inner) (D.contents self.new.inner) bytes.now) }
         ensures failures { MatchResult result
             (λ _. D.failures self.new.inner + self.new.own_failures ≡ D.failures self.old.inner + self.old.own_failures)
@@ -105,6 +108,7 @@ impl<D: Sink> Sink for FailsAt<D> {
         ensures until { self.new.until ≡ self.old.until - 1 }
         ensures own { self.new.own_failures ≡ (if self.old.until == 1 then self.old.own_failures + 1 else self.old.own_failures) }
         ensures turn { self.old.until ≡ 1 → IsErr result }
+        ensures idle { self.old.until ≡ 1 → self.new.inner ≡ self.old.inner }
         ensures device { self.old.until ≢ 1 → OnErr result (D.failures self.old.inner < D.failures self.new.inner) }
     {
         if self.takes_failing_turn() {

@@ -68,7 +68,9 @@ impl Sink for FixedBuffer {
     ghost failures = { λ b. b.failures };
 
     fn write_all(&mut self, bytes: &[u8]) -> Result<(), WriteFault>
-        ensures written { OnOk result (self.new.bytes ≡ self.old.bytes ++ bytes.now) }
+        ensures written { MatchResult result
+            (λ _. self.new.bytes ≡ self.old.bytes ++ bytes.now)
+            (λ _. self.new.bytes ≡ self.old.bytes) }
         ensures contents { OnOk result (Appends (Some self.old.bytes) (Some self.new.bytes) bytes.now) }
         ensures failures { MatchResult result (λ _. self.new.failures ≡ self.old.failures) (λ _. self.old.failures < self.new.failures) }
 

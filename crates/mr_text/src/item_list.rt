@@ -14,7 +14,7 @@ pub struct ItemList {
 impl Model for ItemList {
     ghost use Rattle.std.specs.Prelude.{List, ◌≤◌, length};
     ghost use Rattle.mr_text.specs.declared.item.Item.{Item};
-    ghost use Rattle.mr_text.specs.declared.limits.TheConstants.{MAX_ITEMS};
+    ghost use Rattle.mr_text.specs.Limits.{MAX_ITEMS};
 
     ghost Value = { List Item };
 

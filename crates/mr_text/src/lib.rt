@@ -45,4 +45,4 @@ pub use request::Request;
 pub use request_reader::RequestReader;
 pub use sink::{OverWriter, Sink};
 pub use source::{OverReader, Source};
-pub use writing::{write_reply, write_request};
+pub use writing::{write_item, write_reply, write_request, write_server_error};

@@ -111,8 +111,7 @@ impl ReplyReader {
             × (self.new ≡ record self.old { closed = true })) }
     {
         if self.ended && !self.kept.as_slice().is_empty() {
-            self.closed = true;
-            return Err(TextError::Truncated);
+            return Err(self.refuse(TextError::Truncated));
         }
         Ok(None)
     }

@@ -18,7 +18,9 @@ pub trait Sink {
 
     /// Writes all the bytes. How many went out before a fault isn't known.
     fn write_all(&mut self, bytes: &[u8]) -> Result<(), WriteFault>
-        ensures written { OnOk result (written self.new ≡ written self.old ++ bytes.now) }
+        ensures written { MatchResult result
+            (λ _. written self.new ≡ written self.old ++ bytes.now)
+            (λ _. written self.new ≡ written self.old) }
         ensures contents { OnOk result (Appends (contents self.old) (contents self.new) bytes.now) }
         ensures failures { MatchResult result
             (λ _. failures self.new ≡ failures self.old)

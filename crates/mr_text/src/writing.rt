@@ -4,6 +4,7 @@ ghost use Rattle.std.specs.Prelude.{◌≡◌, ◌<◌, ◌++◌, length, decima
 ghost use Rattle.std.specs.Fmt.{signed_decimal};
 ghost use Rattle.mr_text.specs.Canonical.{canonical_request, canonical_reply, spaced, noreply_text, line_end, set_line_text, value_line_text, item_text};
 ghost use Rattle.mr_text.specs.CauseText.{text_of};
+ghost use Rattle.mr_text.specs.declared.reply.Reply.TheVariants.{ServerError};
 
 use crate::block::Block;
 use crate::cause::Cause;
@@ -70,8 +71,16 @@ pub fn write_reply<W: Sink>(reply: &Reply, writer: &mut W) -> Result<(), WriteFa
         Reply::NotFound => writer.write_all(b"NOT_FOUND\r\n"),
         Reply::Error => writer.write_all(b"ERROR\r\n"),
         Reply::ClientError(cause) => write_error(b"CLIENT_ERROR ", cause, writer),
-        Reply::ServerError(cause) => write_error(b"SERVER_ERROR ", cause, writer),
+        Reply::ServerError(cause) => write_server_error(cause, writer),
     }
+}
+
+/// Writes the reply SERVER_ERROR with a cause. A fault is the writer's.
+pub fn write_server_error<W: Sink>(cause: &Cause, writer: &mut W) -> Result<(), WriteFault>
+    ensures written { OnOk result (W.written writer.new ≡ W.written writer.old ++ canonical_reply (ServerError cause.now)) }
+    ensures failures { MatchResult result (λ _. W.failures writer.new ≡ W.failures writer.old) (λ _. W.failures writer.old < W.failures writer.new) }
+{
+    write_error(b"SERVER_ERROR ", cause, writer)
 }
 
 /// A word that isn't the first.
@@ -137,17 +146,23 @@ fn write_items<W: Sink>(items: &[Item], writer: &mut W) -> Result<(), WriteFault
     ensures failures { MatchResult result (λ _. W.failures writer.new ≡ W.failures writer.old) (λ _. W.failures writer.old < W.failures writer.new) }
 {
     for item in items {
-        write_item(item, writer)?;
+        write_item(&item.key, item.flags, &item.block, writer)?;
     }
     Ok(())
 }
 
-fn write_item<W: Sink>(item: &Item, writer: &mut W) -> Result<(), WriteFault>
-    ensures written { OnOk result (W.written writer.new ≡ W.written writer.old ++ item_text item.now) }
+/// Writes an item of a get's reply: its line, and the block behind it. A fault is the writer's.
+pub fn write_item<W: Sink>(
+    key: &Key,
+    flags: u32,
+    block: &Block,
+    writer: &mut W,
+) -> Result<(), WriteFault>
+    ensures written { OnOk result (W.written writer.new ≡ W.written writer.old ++ item_text (record { key = key.now; flags = flags; block = block.now })) }
     ensures failures { MatchResult result (λ _. W.failures writer.new ≡ W.failures writer.old) (λ _. W.failures writer.old < W.failures writer.new) }
 {
-    write_value_line(&item.key, item.flags, item.block.as_bytes().len(), writer)?;
-    write_block(&item.block, writer)
+    write_value_line(key, flags, block.as_bytes().len(), writer)?;
+    write_block(block, writer)
 }
 
 fn write_value_line<W: Sink>(

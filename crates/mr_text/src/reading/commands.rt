@@ -5,7 +5,7 @@ ghost use Rattle.mr_text.specs.Commands.{block_command_words};
 ghost use Rattle.mr_text.specs.Text.{words_of};
 ghost use Rattle.mr_text.specs.Reading.{command_line, line_of_shape, get_shape, set_shape, delete_shape, quit_shape, noreply_of, without_zero};
 ghost use Rattle.mr_text.specs.CommandView.{IsCommand, IsGoodLine};
-ghost use Rattle.mr_text.specs.declared.limits.TheConstants.{MAX_LINE};
+ghost use Rattle.mr_text.specs.Limits.{MAX_LINE};
 
 use crate::error::TextError;
 use crate::key::is_key;

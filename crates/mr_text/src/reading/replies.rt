@@ -7,7 +7,7 @@ ghost use Rattle.mr_text.specs.Replies.{cause_of};
 ghost use Rattle.mr_text.specs.ReplyReading.{item_step, items_reading};
 ghost use Rattle.mr_text.specs.ReplySteps.{IsStep, IsItemStep, IsCount, HasItems, IsFoundItems, IsFoundReply, IsWholeReply, SaysReply, lone_reply};
 ghost use Rattle.mr_text.specs.ReplyView.{HasOneLine, IsOneLine};
-ghost use Rattle.mr_text.specs.declared.limits.TheConstants.{MAX_BLOCK, MAX_ITEMS};
+ghost use Rattle.mr_text.specs.Limits.{MAX_BLOCK, MAX_ITEMS};
 ghost use Rattle.mr_text.specs.declared.reply.Reply.{Reply};
 
 use crate::block::Block;

@@ -4,7 +4,7 @@ ghost use Rattle.mr_text.specs.ReplyReading.{ReplyLine, first_line, next_line, i
 ghost use Rattle.mr_text.specs.ReplyReading.ReplyLine.{EndLine, LoneLine};
 ghost use Rattle.mr_text.specs.ReplyView.{IsLine, IsGoodItem, HasOneLine, IsOneLine, said_by};
 ghost use Rattle.mr_text.specs.Line.{HasLineFeed};
-ghost use Rattle.mr_text.specs.declared.limits.TheConstants.{MAX_LINE};
+ghost use Rattle.mr_text.specs.Limits.{MAX_LINE};
 
 use crate::error::TextError;
 use crate::key::is_key;

@@ -181,16 +181,21 @@ fn item_lists_keep_order(rt: HostRuntime) -> Result<(), Fail> {
     Ok(())
 }
 
+/// Asserts a refusal's number.
+fn is_numbered(rt: &impl Abort, refusal: TextError, number: u8) {
+    assert_eq!(rt; refusal.number(), number);
+}
+
 #[test]
 fn refusals_have_numbers(rt: HostRuntime) {
-    assert_eq!(rt; TextError::LineTooLong.number(), 1);
-    assert_eq!(rt; TextError::BadKey.number(), 2);
-    assert_eq!(rt; TextError::BadNumber.number(), 3);
-    assert_eq!(rt; TextError::WrongWords.number(), 4);
-    assert_eq!(rt; TextError::DataTooLong.number(), 5);
-    assert_eq!(rt; TextError::BadDataEnd.number(), 6);
-    assert_eq!(rt; TextError::UnknownCommand { closes: true }.number(), 7);
-    assert_eq!(rt; TextError::Truncated.number(), 8);
-    assert_eq!(rt; TextError::Closed.number(), 9);
-    assert_eq!(rt; TextError::OutOfMemory.number(), 10);
+    is_numbered(&rt, TextError::LineTooLong, 1);
+    is_numbered(&rt, TextError::BadKey, 2);
+    is_numbered(&rt, TextError::BadNumber, 3);
+    is_numbered(&rt, TextError::WrongWords, 4);
+    is_numbered(&rt, TextError::DataTooLong, 5);
+    is_numbered(&rt, TextError::BadDataEnd, 6);
+    is_numbered(&rt, TextError::UnknownCommand { closes: true }, 7);
+    is_numbered(&rt, TextError::Truncated, 8);
+    is_numbered(&rt, TextError::Closed, 9);
+    is_numbered(&rt, TextError::OutOfMemory, 10);
 }

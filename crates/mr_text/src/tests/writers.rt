@@ -48,16 +48,22 @@ impl Sink for CountedWrites {
 }
 
 /// Asserts what a request and its copy are written as.
-fn is_request(rt: &impl Abort, alloc: Global, request: &Request, text: &[u8]) -> Result<(), Fail> {
-    assert_eq!(rt; request_text(alloc, request)?.as_slice(), text);
-    assert_eq!(rt; request_text(alloc, &request.copy()?)?.as_slice(), text);
+fn is_request(rt: &impl Abort, alloc: Global, request: Request, text: &[u8]) -> Result<(), Fail> {
+    let copy = request.copy()?;
+    let written = request_text(alloc, &request)?;
+    assert_eq!(rt; written.as_slice(), text);
+    let written = request_text(alloc, &copy)?;
+    assert_eq!(rt; written.as_slice(), text);
     Ok(())
 }
 
 /// Asserts what a reply and its copy are written as.
-fn is_reply(rt: &impl Abort, alloc: Global, reply: &Reply, text: &[u8]) -> Result<(), Fail> {
-    assert_eq!(rt; reply_text(alloc, reply)?.as_slice(), text);
-    assert_eq!(rt; reply_text(alloc, &reply.copy()?)?.as_slice(), text);
+fn is_reply(rt: &impl Abort, alloc: Global, reply: Reply, text: &[u8]) -> Result<(), Fail> {
+    let copy = reply.copy()?;
+    let written = reply_text(alloc, &reply)?;
+    assert_eq!(rt; written.as_slice(), text);
+    let written = reply_text(alloc, &copy)?;
+    assert_eq!(rt; written.as_slice(), text);
     Ok(())
 }
 
@@ -89,31 +95,33 @@ fn delete(alloc: Global, noreply: bool) -> Result<Request, Fail> {
 #[test]
 fn requests_are_written(rt: HostRuntime) -> Result<(), Fail> {
     let alloc = rt.alloc();
-    is_request(&rt, alloc, &get(alloc)?, b"get k b\r\n")?;
-    is_request(&rt, alloc, &delete(alloc, false)?, b"delete k\r\n")?;
-    is_request(&rt, alloc, &delete(alloc, true)?, b"delete k noreply\r\n")?;
-    is_request(&rt, alloc, &Request::Quit, b"quit\r\n")
+    is_request(&rt, alloc, get(alloc)?, b"get k b\r\n")?;
+    is_request(&rt, alloc, delete(alloc, false)?, b"delete k\r\n")?;
+    is_request(&rt, alloc, delete(alloc, true)?, b"delete k noreply\r\n")?;
+    is_request(&rt, alloc, Request::Quit, b"quit\r\n")
+}
+
+/// Asserts what a set of `v` with this moment is written as.
+fn is_set_at(rt: &impl Abort, alloc: Global, exptime: i64, text: &[u8]) -> Result<(), Fail> {
+    is_request(rt, alloc, set(alloc, b"v", exptime, false)?, text)
 }
 
 #[test]
 fn sets_are_written(rt: HostRuntime) -> Result<(), Fail> {
     let alloc = rt.alloc();
-    let request = set(alloc, b"a\r\nb", 10, false)?;
-    is_request(&rt, alloc, &request, b"set k 0 10 4\r\na\r\nb\r\n")?;
-    let request = set(alloc, b"", -1, true)?;
-    is_request(&rt, alloc, &request, b"set k 0 -1 0 noreply\r\n\r\n")?;
-    let request = set(alloc, b"v", i64::MIN, false)?;
-    is_request(
+    let request = set(alloc, b"a\r\nb", 10, true)?;
+    is_request(&rt, alloc, request, b"set k 0 10 4 noreply\r\na\r\nb\r\n")?;
+    is_set_at(&rt, alloc, -1, b"set k 0 -1 1\r\nv\r\n")?;
+    is_set_at(
         &rt,
         alloc,
-        &request,
+        i64::MIN,
         b"set k 0 -9223372036854775808 1\r\nv\r\n",
     )?;
-    let request = set(alloc, b"v", i64::MAX, false)?;
-    is_request(
+    is_set_at(
         &rt,
         alloc,
-        &request,
+        i64::MAX,
         b"set k 0 9223372036854775807 1\r\nv\r\n",
     )
 }
@@ -131,36 +139,34 @@ fn other(alloc: Global, text: &[u8]) -> Result<Reply, Fail> {
 }
 
 #[test]
-fn replies_are_written(rt: HostRuntime) -> Result<(), Fail> {
+fn items_are_written(rt: HostRuntime) -> Result<(), Fail> {
     let alloc = rt.alloc();
-    let none = Reply::Items(ItemList::new(Vec::new(alloc)));
-    is_reply(&rt, alloc, &none, b"END\r\n")?;
+    let none = ItemList::new(Vec::new(alloc));
+    is_reply(&rt, alloc, Reply::Items(none), b"END\r\n")?;
     let item = one_item(alloc, 0, b"v")?;
-    is_reply(&rt, alloc, &item, b"VALUE k 0 1\r\nv\r\nEND\r\n")?;
+    is_reply(&rt, alloc, item, b"VALUE k 0 1\r\nv\r\nEND\r\n")?;
     let item = one_item(alloc, 4294967295, b"")?;
-    is_reply(&rt, alloc, &item, b"VALUE k 4294967295 0\r\n\r\nEND\r\n")?;
-    is_reply(&rt, alloc, &Reply::Stored, b"STORED\r\n")?;
-    is_reply(&rt, alloc, &Reply::Deleted, b"DELETED\r\n")?;
-    is_reply(&rt, alloc, &Reply::NotFound, b"NOT_FOUND\r\n")?;
-    is_reply(&rt, alloc, &Reply::Error, b"ERROR\r\n")
+    is_reply(&rt, alloc, item, b"VALUE k 4294967295 0\r\n\r\nEND\r\n")
+}
+
+#[test]
+fn plain_replies_are_written(rt: HostRuntime) -> Result<(), Fail> {
+    let alloc = rt.alloc();
+    is_reply(&rt, alloc, Reply::Stored, b"STORED\r\n")?;
+    is_reply(&rt, alloc, Reply::Deleted, b"DELETED\r\n")?;
+    is_reply(&rt, alloc, Reply::NotFound, b"NOT_FOUND\r\n")?;
+    is_reply(&rt, alloc, Reply::Error, b"ERROR\r\n")
 }
 
 #[test]
 fn errors_are_written(rt: HostRuntime) -> Result<(), Fail> {
     let alloc = rt.alloc();
-    let reply = Reply::ClientError(Cause::BadKey);
-    is_reply(&rt, alloc, &reply, b"CLIENT_ERROR bad key\r\n")?;
-    let reply = Reply::ClientError(Cause::Busy);
-    is_reply(&rt, alloc, &reply, b"CLIENT_ERROR busy\r\n")?;
-    let reply = Reply::ServerError(Cause::LegLost);
-    is_reply(&rt, alloc, &reply, b"SERVER_ERROR leg lost\r\n")?;
-    is_reply(&rt, alloc, &other(alloc, b"")?, b"SERVER_ERROR \r\n")?;
-    is_reply(
-        &rt,
-        alloc,
-        &other(alloc, b" a\r")?,
-        b"SERVER_ERROR  a\r\r\n",
-    )
+    let refused = Reply::ClientError(Cause::BadKey);
+    is_reply(&rt, alloc, refused, b"CLIENT_ERROR bad key\r\n")?;
+    let failed = Reply::ServerError(Cause::LegLost);
+    is_reply(&rt, alloc, failed, b"SERVER_ERROR leg lost\r\n")?;
+    is_reply(&rt, alloc, other(alloc, b"")?, b"SERVER_ERROR \r\n")?;
+    is_reply(&rt, alloc, other(alloc, b" a\r")?, b"SERVER_ERROR  a\r\r\n")
 }
 
 #[test]
@@ -200,27 +206,37 @@ fn reply_of_4096_bytes_takes_one_write(rt: HostRuntime) -> Result<(), Fail> {
     is_at_once(&rt, rt.alloc(), 4074, false)
 }
 
+/// Asserts that a reply isn't written where this write fails.
+fn is_not_written(rt: &impl Abort, alloc: Global, reply: &Reply, call: u64) {
+    let mut sink = FailsAt::new(OverWriter::new(Vec::new(alloc)), call);
+    assert_eq!(rt; write_reply(reply, &mut sink), Err(WriteFault), "{call}");
+}
+
 #[test]
-fn writers_pass_on_faults(rt: HostRuntime) -> Result<(), Fail> {
-    let alloc = rt.alloc();
-    let reply = one_item(alloc, 0, b"v")?;
+fn reply_passes_on_faults(rt: HostRuntime) -> Result<(), Fail> {
+    let reply = one_item(rt.alloc(), 0, b"v")?;
     for call in 1..6 {
-        let mut sink = FailsAt::new(OverWriter::new(Vec::new(alloc)), call);
-        assert_eq!(rt; write_reply(&reply, &mut sink), Err(WriteFault), "{call}");
+        is_not_written(&rt, rt.alloc(), &reply, call);
     }
-    let request = set(alloc, b"v", 0, true)?;
-    for call in 1..6 {
-        let mut sink = FailsAt::new(OverWriter::new(Vec::new(alloc)), call);
-        assert_eq!(rt;
-            write_request(&request, &mut sink),
-            Err(WriteFault),
-            "{call}"
-        );
-    }
-    let mut buffer = FixedBuffer::new();
-    let mut sink = FailsAt::new(OverWriter::new(Vec::new(alloc)), 1);
-    let fault = write_reply_at_once(&reply, &mut buffer, &mut sink);
-    assert_eq!(rt; fault, Err(WriteFault));
-    assert_eq!(rt; sink.into_inner().into_inner().as_slice(), b"".as_slice());
     Ok(())
+}
+
+#[test]
+fn request_passes_on_faults(rt: HostRuntime) -> Result<(), Fail> {
+    let request = set(rt.alloc(), b"v", 0, true)?;
+    for call in 1..6 {
+        let mut sink = FailsAt::new(OverWriter::new(Vec::new(rt.alloc())), call);
+        let written = write_request(&request, &mut sink);
+        assert_eq!(rt; written, Err(WriteFault), "{call}");
+    }
+    Ok(())
+}
+
+#[test]
+fn reply_at_once_passes_on_a_fault(rt: HostRuntime) {
+    let mut buffer = FixedBuffer::new();
+    let mut sink = FailsAt::new(OverWriter::new(Vec::new(rt.alloc())), 1);
+    let written = write_reply_at_once(&Reply::Stored, &mut buffer, &mut sink);
+    assert_eq!(rt; written, Err(WriteFault));
+    assert_eq!(rt; sink.into_inner().into_inner().as_slice(), b"".as_slice());
 }

@@ -1,5 +1,5 @@
 use Rattle.std.proofs.Common.{◌≡◌, ◌+◌, take, length, sum_by}
-use Rattle.mr_text.specs.declared.limits.TheConstants.{MAX_LINE}
+use Rattle.mr_text.specs.Limits.{MAX_LINE}
 use Rattle.mr_text.proofs.key_list.fit_line.Given as goal
 
 -- the room left and the keys so far fill the line

@@ -1,0 +1,6 @@
+pub mod ItemLemmas
+pub mod KeptLemmas
+pub mod StepLemmas
+pub mod SessionLemmas
+pub mod ServiceLemmas
+pub mod GetLemmas

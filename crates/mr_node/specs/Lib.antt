@@ -1,0 +1,11 @@
+pub mod NodeError
+pub mod Expiry
+pub mod Items
+pub mod Recency
+pub mod CacheStep
+pub mod Kinds
+pub mod Outcome
+pub mod KindLaw
+pub mod Output
+pub mod Session
+pub mod Step

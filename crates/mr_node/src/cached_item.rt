@@ -1,0 +1,14 @@
+use mr_text::{Block, Key};
+
+/// An item in a cache.
+#[derive(Debug, Drop)]
+pub struct CachedItem {
+    /// The name.
+    pub key: Key,
+    /// A number that the client chose, given back as it came.
+    pub flags: u32,
+    /// The data.
+    pub block: Block,
+    /// The moment from which on the item is expired, in seconds since the epoch. With none it never expires.
+    pub expires_at: Option<u64>,
+}

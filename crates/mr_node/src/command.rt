@@ -1,0 +1,48 @@
+ghost use Rattle.std.specs.Prelude.{◌≡◌, IfOk};
+
+use mr_text::{Block, Key};
+use std::alloc::AllocError;
+
+/// What a cache is told to do.
+#[derive(Debug, Drop)]
+pub enum NodeCommand {
+    /// To give the item under this key.
+    Get(Key),
+    /// To keep an item.
+    Set {
+        /// The name.
+        key: Key,
+        /// A number given back with the item.
+        flags: u32,
+        /// When the item expires: 0 never; a negative number at once; up to 2,592,000 so many seconds from now;
+        /// above that at this moment, in seconds since the epoch.
+        exptime: i64,
+        /// The data.
+        block: Block,
+    },
+    /// To drop the item under this key.
+    Delete(Key),
+}
+
+impl NodeCommand {
+    /// An equal command.
+    pub fn copy(&self) -> Result<NodeCommand, AllocError>
+        ensures { IfOk result (λ command. command ≡ self.now) }
+    {
+        Ok(match self {
+            NodeCommand::Get(key) => NodeCommand::Get(key.copy()?),
+            NodeCommand::Set {
+                key,
+                flags,
+                exptime,
+                block,
+            } => NodeCommand::Set {
+                key: key.copy()?,
+                flags: *flags,
+                exptime: *exptime,
+                block: block.copy()?,
+            },
+            NodeCommand::Delete(key) => NodeCommand::Delete(key.copy()?),
+        })
+    }
+}

@@ -1,0 +1,23 @@
+//! One memory cache: what it keeps, in order of use, and the service of requests over it.
+#![tactic(auto)]
+
+mod cache_node;
+mod cached_item;
+mod command;
+mod ended;
+mod error;
+mod expiry;
+pub mod laws;
+mod outcome;
+mod perform;
+mod recency;
+mod service;
+
+pub use cache_node::CacheNode;
+pub use cached_item::CachedItem;
+pub use command::NodeCommand;
+pub use ended::Ended;
+pub use error::NodeError;
+pub use expiry::MAX_RELATIVE_EXPTIME;
+pub use perform::Perform;
+pub use service::{READ_LENGTH, serve};

@@ -1,0 +1,29 @@
+ghost use Rattle.std.specs.Prelude.{ℕ, MatchResult};
+ghost use Rattle.mr_join.specs.declared.leg_reply.LegReply.{LegReply};
+ghost use Rattle.mr_node.specs.Kinds.{IsOfKind};
+ghost use Rattle.mr_node.specs.declared.command.NodeCommand.{NodeCommand};
+
+use crate::command::NodeCommand;
+use mr_join::LegReply;
+use std::alloc::AllocError;
+
+/// What performs commands, as a cache does.
+pub trait Perform {
+    /// What a command does: the state before it, the reading of the clock in seconds since the epoch, the command, the
+    /// reply, and the state after it.
+    ghost did: { Self → ℕ → NodeCommand → LegReply → Self → Type 0 };
+
+    /// What a command leaves for which memory was refused: the state before it, the reading, the command, and the
+    /// state after it.
+    ghost refused: { Self → ℕ → NodeCommand → Self → Type 0 };
+
+    /// Performs a command at a reading of the clock, in seconds since the epoch.
+    fn perform(&mut self, now: u64, command: NodeCommand) -> Result<LegReply, AllocError>
+        ensures { MatchResult result
+            (λ reply. did self.old now command reply self.new)
+            (λ _. refused self.old now command self.new) };
+
+    /// A command gets a reply of its own kind, or fails.
+    ghost of_kind: { (old : Self) (now : ℕ) (command : NodeCommand) (reply : LegReply) (new : Self)
+        → did old now command reply new → IsOfKind command reply };
+}

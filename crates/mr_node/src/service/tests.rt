@@ -1,0 +1,194 @@
+use super::*;
+use crate::cache_node::CacheNode;
+use mr_clock::{FixedClock, ListClock};
+use mr_text::{FailsAt, OverReader, OverWriter};
+use std::io;
+use std::io::Read;
+use std::test::Fail;
+
+/// A reader that gives one byte at a time.
+#[derive(Drop)]
+struct OneByte<'a>(&'a [u8]);
+
+impl Read for OneByte<'_> {
+    fn read(&mut self, buffer: &mut [u8]) -> io::Result<usize> {
+        let (Some((first, others)), Some(place)) = (self.0.split_first(), buffer.first_mut()) else {
+            return Ok(0);
+        };
+        *place = *first;
+        self.0 = others;
+        Ok(1)
+    }
+}
+
+/// How a service of this input over a new cache ends, and what it writes.
+fn served<C: Clock>(
+    alloc: Global,
+    clock: &mut C,
+    input: &[u8],
+) -> Result<(Result<Ended, NodeError>, Vec<u8>), Fail> {
+    let mut node = CacheNode::new(alloc, 4)?;
+    let mut reader = OverReader::new(input);
+    let mut writer = OverWriter::new(Vec::new(alloc));
+    let ended = serve(alloc, &mut node, &mut reader, &mut writer, clock, 10);
+    Ok((ended, writer.into_inner()))
+}
+
+#[test]
+fn answers_each_request(rt: HostRuntime) -> Result<(), Fail> {
+    for (input, output, ended) in [
+        (
+            b"set k 0 0 0\r\n\r\nget k\r\n".as_slice(),
+            b"STORED\r\nVALUE k 0 0\r\n\r\nEND\r\n".as_slice(),
+            Ended::Ended,
+        ),
+        (
+            b"set k 5 0 1 noreply\r\nv\r\nset b 6 0 1\r\nw\r\nget k x b k\r\n".as_slice(),
+            b"STORED\r\nVALUE k 5 1\r\nv\r\nVALUE b 6 1\r\nw\r\nVALUE k 5 1\r\nv\r\nEND\r\n".as_slice(),
+            Ended::Ended,
+        ),
+        (
+            b"delete k\r\nset k 0 0 1\r\nv\r\ndelete k\r\nquit\r\nget k\r\n".as_slice(),
+            b"NOT_FOUND\r\nSTORED\r\nDELETED\r\n".as_slice(),
+            Ended::Quit,
+        ),
+        (
+            b"delete k 0 noreply\r\n".as_slice(),
+            b"".as_slice(),
+            Ended::Ended,
+        ),
+        (
+            b"gets k\r\n\r\nget k\r\n".as_slice(),
+            b"ERROR\r\nERROR\r\nEND\r\n".as_slice(),
+            Ended::Ended,
+        ),
+        (
+            b"cas k 0 0 1 5\r\nget k\r\n".as_slice(),
+            b"ERROR\r\n".as_slice(),
+            Ended::Refused(7),
+        ),
+        (
+            b"set k 0 0 3\r\nab".as_slice(),
+            b"".as_slice(),
+            Ended::Refused(8),
+        ),
+        (
+            b"set k 0 0 1\r\nv\nget k\r\n".as_slice(),
+            b"CLIENT_ERROR bad data end\r\n".as_slice(),
+            Ended::Refused(6),
+        ),
+        (
+            b"set k 0 0 8193\r\n".as_slice(),
+            b"CLIENT_ERROR data too long\r\n".as_slice(),
+            Ended::Refused(5),
+        ),
+        (
+            b"delete k 5\r\n".as_slice(),
+            b"CLIENT_ERROR wrong words\r\n".as_slice(),
+            Ended::Refused(4),
+        ),
+        (
+            b"set k 4294967296 0 1\r\n".as_slice(),
+            b"CLIENT_ERROR bad number\r\n".as_slice(),
+            Ended::Refused(3),
+        ),
+    ] {
+        let (how, written) = served(rt.alloc(), &mut FixedClock(999), input)?;
+        assert_eq!(rt; how, Ok(ended), "at {input:?}");
+        assert_eq!(rt; written.as_slice(), output, "at {input:?}");
+    }
+    Ok(())
+}
+
+#[test]
+fn refuses_long_keys_and_lines(rt: HostRuntime) -> Result<(), Fail> {
+    let alloc = rt.alloc();
+    let mut request = b"get ".to_vec(alloc)?;
+    for _ in 0..251 {
+        request.push(b'x')?;
+    }
+    request.extend_from_slice(b"\r\n")?;
+    let (how, written) = served(alloc, &mut FixedClock(999), request.as_slice())?;
+    assert_eq!(rt; how, Ok(Ended::Refused(2)));
+    assert_eq!(rt; written.as_slice(), b"CLIENT_ERROR bad key\r\n".as_slice());
+
+    let mut request = b"get k".to_vec(alloc)?;
+    for _ in 0..8188 {
+        request.push(b' ')?;
+    }
+    request.push(b'\n')?;
+    let (how, written) = served(alloc, &mut FixedClock(999), request.as_slice())?;
+    assert_eq!(rt; how, Ok(Ended::Refused(1)));
+    assert_eq!(rt;
+        written.as_slice(),
+        b"CLIENT_ERROR line too long\r\n".as_slice()
+    );
+    Ok(())
+}
+
+#[test]
+fn answers_a_clock_that_fails_and_goes_on(rt: HostRuntime) -> Result<(), Fail> {
+    let alloc = rt.alloc();
+    let mut clock = ListClock::new(vec![in alloc; None, Some(999)]?);
+    let (how, written) = served(alloc, &mut clock, b"get k\r\nget k\r\n".as_slice())?;
+    assert_eq!(rt; how, Ok(Ended::Ended));
+    assert_eq!(rt;
+        written.as_slice(),
+        b"SERVER_ERROR clock fault\r\nEND\r\n".as_slice()
+    );
+    Ok(())
+}
+
+#[test]
+fn makes_no_more_reads_than_it_may(rt: HostRuntime) -> Result<(), Fail> {
+    let alloc = rt.alloc();
+    for (turns, how, output) in [
+        (0, Err(NodeError::TurnsSpent), b"".as_slice()),
+        (3, Err(NodeError::TurnsSpent), b"".as_slice()),
+        (7, Err(NodeError::TurnsSpent), b"END\r\n".as_slice()),
+        (8, Ok(Ended::Ended), b"END\r\n".as_slice()),
+    ] {
+        let mut node = CacheNode::new(alloc, 1)?;
+        let mut reader = OverReader::new(OneByte(b"get k\r\n".as_slice()));
+        let mut writer = OverWriter::new(Vec::new(alloc));
+        let ended = serve(
+            alloc,
+            &mut node,
+            &mut reader,
+            &mut writer,
+            &mut FixedClock(999),
+            turns,
+        );
+        assert_eq!(rt; ended, how, "at {turns}");
+        assert_eq!(rt; writer.into_inner().as_slice(), output, "at {turns}");
+    }
+    Ok(())
+}
+
+#[test]
+fn answers_a_fault_of_a_device(rt: HostRuntime) -> Result<(), Fail> {
+    let alloc = rt.alloc();
+    let input = b"get k\r\nget k\r\n".as_slice();
+    for (read, write, how) in [
+        (1, 0, Err(NodeError::ReadFault)),
+        (2, 0, Err(NodeError::ReadFault)),
+        (3, 0, Ok(Ended::Ended)),
+        (0, 1, Err(NodeError::WriteFault)),
+        (0, 2, Err(NodeError::WriteFault)),
+        (0, 3, Ok(Ended::Ended)),
+    ] {
+        let mut node = CacheNode::new(alloc, 1)?;
+        let mut reader = FailsAt::new(OverReader::new(input), read);
+        let mut writer = FailsAt::new(OverWriter::new(Vec::new(alloc)), write);
+        let ended = serve(
+            alloc,
+            &mut node,
+            &mut reader,
+            &mut writer,
+            &mut FixedClock(999),
+            10,
+        );
+        assert_eq!(rt; ended, how, "at {read} and {write}");
+    }
+    Ok(())
+}

@@ -1,0 +1,7 @@
+pub mod SlotLemmas
+pub mod DraftLemmas
+pub mod StepLemmas
+pub mod SheetLemmas
+pub mod SoundLemmas
+pub mod OpenLemmas
+pub mod WritingLemmas

@@ -1,0 +1,281 @@
+-- What holds of every proxy on its way from a fresh one.
+use Rattle.std.proofs.Common.{◌≡◌, ℕ, zero, suc, ◌<◌, ◌⊎◌, Bool, true, false, not, ◌&&◌, List, [], ◌∷◌, length, map, take, drop, get_or, remove, slice_get, slice_set, All, Option, Some, None, unwrap_or, if◌then◌else◌, refl, sym, ap, subst, ◌∙◌, inl, inr, arith}
+use Rattle.std.specs.List.{list_any}
+use Rattle.std.specs.Option.{option_and_then}
+use Rattle.std.proofs.lemmas.List.Elements.{All-append, All-take, All-drop, All-set, All-push, All-map, All-weaker}
+use Rattle.std.proofs.lemmas.List.Quantifiers.{all_pairs_push, all_pairs_remove}
+use Rattle.std.proofs.lemmas.Option.{slice_get_within, slice_get-get_or}
+use Rattle.std.proofs.lemmas.List.{length-map, get_or-map}
+use Rattle.mr_text.specs.declared.cause.Cause.TheVariants.{LegLost}
+use Rattle.mr_text.specs.declared.item.Item.{Item}
+use Rattle.mr_text.specs.declared.request.Request.{Request}
+use Rattle.mr_text.specs.declared.request.Request.TheVariants as request
+use Rattle.mr_text.specs.declared.reply.Reply.TheVariants as reply
+use Rattle.mr_history.specs.declared.op_id.OpId.{OpId}
+use Rattle.mr_join.specs.declared.leg_reply.LegReply.{LegReply}
+use Rattle.mr_join.specs.declared.leg_reply.LegReply.TheVariants.{Hit, Miss, Stored, Deleted, NotFound, Failed}
+use Rattle.mr_join.specs.Join.{joined_reply, AreHits, IsHitOf, Acknowledges, HasSucceeded}
+use Rattle.mr_phases.specs.declared.phase_name.PhaseName.{PhaseName}
+use Rattle.mr_phases.specs.declared.phase_name.PhaseName.TheVariants.{OldOnly, BothReadOld, BothReadNew, NewOnly}
+use Rattle.mr_phases.specs.Schedule.{phase_of}
+use Rattle.mr_phases.specs.Sides.{delete_sides_of}
+use Rattle.mr_pools.specs.Routing.{RoutingView}
+use Rattle.mr_node.specs.declared.command.NodeCommand.{NodeCommand}
+use Rattle.mr_node.specs.declared.command.NodeCommand.TheVariants.{Get, Delete}
+use Rattle.mr_proxy.specs.declared.sheet.LegSheet.{LegSheet}
+use Rattle.mr_proxy.specs.declared.slot.Slot.{Slot}
+use Rattle.mr_proxy.specs.Slots.{open_slot, is_open, outcome_of, is_of_kind, is_awaiting}
+use Rattle.mr_proxy.specs.Pending.{PendingView, is_complete, with_reply, with_reply_in}
+use Rattle.mr_proxy.specs.Answer.{answer_of, reply_of}
+use Rattle.mr_proxy.specs.ProxyView.{ProxyView}
+use Rattle.mr_proxy.specs.Issue.{next_op, used_reading, sheets_by, sheets_of, sheets_from, targets_of, pending_of, after_issue}
+use Rattle.mr_proxy.specs.Steps.{place_of_op, pending_with, settled, left_by}
+use Rattle.mr_proxy.specs.Sound.{HasLegs, ProxyStep, sheet_of, IsOfItsKind, IsSoundPending, IsSound, HasFound, WasDeleted}
+use Rattle.mr_proxy.specs.Sound.ProxyStep.{issues, takes, gives_up, restarts}
+use Rattle.mr_proxy.proofs.SheetLemmas.{get_map, mapped, only, sheets_say_lem, gets_ask_in_order_lem}
+
+-- a proxy that keeps its names, its numbers at least, and its pools and phases
+same_pending : (p : ProxyView) (list : List PendingView) (pending : PendingView) → IsSoundPending p pending → IsSoundPending (record p { outstanding = list }) pending
+same_pending p list pending s =
+    record { proxy = s.proxy; incarnation = s.incarnation; number = s.number; sheets = s.sheets; kinds = s.kinds; waits = s.waits }
+
+removed : (p : ProxyView) (n : ℕ) → n < length p.outstanding → IsSound p → IsSound (record p { outstanding = remove p.outstanding n })
+removed p n within s =
+    let list = remove p.outstanding n in
+    let q : ProxyView = record p { outstanding = list } in
+    let all : All (IsSoundPending q) p.outstanding = All-weaker (IsSoundPending p) (IsSoundPending q) (same_pending p list) p.outstanding s.pendings in
+    record {
+      pendings = All-append (IsSoundPending q) (take n p.outstanding) (drop (suc n) p.outstanding)
+          (All-take (IsSoundPending q) n p.outstanding all) (All-drop (IsSoundPending q) (suc n) p.outstanding all);
+      in_order = all_pairs_remove (λ (a b : PendingView). a.op.number < b.op.number) p.outstanding n within s.in_order;
+    }
+
+-- a write that keeps the name
+number_written : (list : List PendingView) (n : ℕ) (old new : PendingView) (k : ℕ) (d : PendingView) → slice_get list n ≡ Some old → new.op ≡ old.op
+    → (get_or (slice_set list n new) k d).op.number ≡ (get_or list k d).op.number
+number_written [] n old new k d e same = refl
+number_written (x ∷ list) zero old new zero d e same =
+    let is : x ≡ old = cc in ap (λ (op : OpId). op.number) same ∙ ap (λ (y : PendingView). y.op.number) (sym is)
+number_written (x ∷ list) zero old new (suc k) d e same = refl
+number_written (x ∷ list) (suc n) old new zero d e same = refl
+number_written (x ∷ list) (suc n) old new (suc k) d e same = number_written list n old new k d e same
+
+length_written : {X : Type 0} (list : List X) (n : ℕ) (x : X) → length (slice_set list n x) ≡ length list
+length_written [] n x = refl
+length_written (y ∷ list) zero x = refl
+length_written (y ∷ list) (suc n) x = ap suc (length_written list n x)
+
+written : (p : ProxyView) (n : ℕ) (old new : PendingView) → slice_get p.outstanding n ≡ Some old → new.op ≡ old.op → IsSoundPending p new → IsSound p
+    → IsSound (record p { outstanding = slice_set p.outstanding n new })
+written p n old new got same sound s =
+    let list = slice_set p.outstanding n new in
+    let q : ProxyView = record p { outstanding = list } in
+    let all : All (IsSoundPending q) p.outstanding = All-weaker (IsSoundPending p) (IsSoundPending q) (same_pending p list) p.outstanding s.pendings in
+    record {
+      pendings = All-set (IsSoundPending q) p.outstanding n new (same_pending p list new sound) all;
+      in_order = λ i j d before within.
+          let first = number_written p.outstanding n old new i d got same in
+          let second = number_written p.outstanding n old new j d got same in
+          let count = length_written p.outstanding n new in
+          let order = s.in_order i j d before (omega arith) in
+          omega arith;
+    }
+
+-- what noting a reply makes of a request
+pub record IsNoting (pending noted : PendingView) (place : ℕ) (reply : LegReply) : Type 0 where
+  pub slot : Slot
+  pub there : slice_get pending.slots place ≡ Some slot
+  pub awaited : is_awaiting slot reply ≡ true
+  pub is : noted ≡ record pending { slots = slice_set pending.slots place (record { sheet = slot.sheet; reply = Some reply }) }
+
+noting_slot : (pending noted : PendingView) (place : ℕ) (reply : LegReply) (slot : Slot) (t : Bool) → slice_get pending.slots place ≡ Some slot
+    → is_awaiting slot reply ≡ t
+    → (if t then Some (record pending { slots = slice_set pending.slots place (record { sheet = slot.sheet; reply = Some reply }) }) else None) ≡ Some noted
+    → IsNoting pending noted place reply
+noting_slot pending noted place reply slot true got awaited e =
+    let same : record pending { slots = slice_set pending.slots place (record { sheet = slot.sheet; reply = Some reply }) } ≡ noted = cc in
+    record { slot = slot; there = got; awaited = awaited; is = sym same }
+noting_slot pending noted place reply slot false got awaited e = cc
+
+pub noting_in : (pending noted : PendingView) (place : ℕ) (reply : LegReply) (o : Option Slot) → slice_get pending.slots place ≡ o
+    → with_reply_in pending place reply o ≡ Some noted → IsNoting pending noted place reply
+noting_in pending noted place reply None got e = cc
+noting_in pending noted place reply (Some slot) got e = noting_slot pending noted place reply slot (is_awaiting slot reply) got refl e
+
+sheets_written : (slots : List Slot) (place : ℕ) (slot : Slot) (reply : Option LegReply) → slice_get slots place ≡ Some slot
+    → map sheet_of (slice_set slots place (record { sheet = slot.sheet; reply = reply })) ≡ map sheet_of slots
+sheets_written [] place slot reply e = refl
+sheets_written (x ∷ slots) zero slot reply e = let is : x ≡ slot = cc in ap (λ (s : Slot). s.sheet ∷ map sheet_of slots) (sym is)
+sheets_written (x ∷ slots) (suc place) slot reply e = ap (λ l. x.sheet ∷ l) (sheets_written slots place slot reply e)
+
+second : (a b : Bool) → (a && b) ≡ true → b ≡ true
+second true b e = e
+second false b e = cc
+
+noted_sound : (p : ProxyView) (pending noted : PendingView) (place : ℕ) (reply : LegReply) → IsSoundPending p pending
+    → IsNoting pending noted place reply → is_complete noted ≡ false → IsSoundPending p noted
+noted_sound p pending noted place reply s n open_left =
+    let slot : Slot = record { sheet = n.slot.sheet; reply = Some reply } in
+    let slots = slice_set pending.slots place slot in
+    let kind : IsOfItsKind slot = λ other e.
+    let same : reply ≡ other = cc in
+    ap (is_of_kind n.slot.sheet.command) (sym same) ∙ second (is_open n.slot) (is_of_kind n.slot.sheet.command reply) n.awaited in
+    let op : noted.op ≡ pending.op = ap (λ (x : PendingView). x.op) n.is in
+    let proxy = ap (λ (x : OpId). x.proxy) op in
+    let incarnation = ap (λ (x : OpId). x.incarnation) op in
+    let number = ap (λ (x : OpId). x.number) op in
+    let below = s.number in
+    record {
+      proxy = proxy ∙ s.proxy;
+      incarnation = incarnation ∙ s.incarnation;
+      number = omega arith;
+      sheets = subst (λ (x : PendingView). map sheet_of x.slots ≡ sheets_by p.routing p.schedule x.op x.reading x.request) (sym n.is)
+          (sheets_written pending.slots place n.slot (Some reply) n.there ∙ s.sheets);
+      kinds = subst (λ (x : PendingView). All IsOfItsKind x.slots) (sym n.is) (All-set IsOfItsKind pending.slots place slot kind s.kinds);
+      waits = open_left;
+    }
+
+settled_noted : (p : ProxyView) (n : ℕ) (pending noted : PendingView) (place : ℕ) (reply : LegReply) (t : Bool) → slice_get p.outstanding n ≡ Some pending
+    → IsNoting pending noted place reply → is_complete noted ≡ t → IsSound p
+    → IsSound (if t then record p { outstanding = remove p.outstanding n } else record p { outstanding = slice_set p.outstanding n noted })
+settled_noted p n pending noted place reply true got noting complete s = removed p n (slice_get_within p.outstanding n pending got) s
+settled_noted p n pending noted place reply false got noting complete s =
+    let at = slice_get_within p.outstanding n pending got in
+    let read = slice_get-get_or p.outstanding n pending at in
+    let is : get_or p.outstanding n pending ≡ pending = cc in
+    let sound = subst (IsSoundPending p) is (s.pendings n pending at) in
+    written p n pending noted got (ap (λ (x : PendingView). x.op) noting.is) (noted_sound p pending noted place reply sound noting complete) s
+
+settled_by : (p : ProxyView) (n : ℕ) (pending : PendingView) (place : ℕ) (reply : LegReply) (w : Option PendingView) → slice_get p.outstanding n ≡ Some pending
+    → with_reply pending place reply ≡ w → IsSound p → IsSound (settled p n w)
+settled_by p n pending place reply None got e s = s
+settled_by p n pending place reply (Some noted) got e s =
+    settled_noted p n pending noted place reply (is_complete noted) got (noting_in pending noted place reply (slice_get pending.slots place) refl e) refl s
+
+take_sound : (p : ProxyView) (n place : ℕ) (reply : LegReply) (o : Option PendingView) → slice_get p.outstanding n ≡ o → IsSound p
+    → IsSound (settled p n (option_and_then (λ pending. with_reply pending place reply) o))
+take_sound p n place reply None got s = s
+take_sound p n place reply (Some pending) got s = settled_by p n pending place reply (with_reply pending place reply) got refl s
+
+leave_sound : (p : ProxyView) (n : ℕ) (o : Option PendingView) → slice_get p.outstanding n ≡ o → IsSound p → IsSound (left_by p n o)
+leave_sound p n None got s = s
+leave_sound p n (Some pending) got s = removed p n (slice_get_within p.outstanding n pending got) s
+
+delete_waits : (routing : RoutingView) (op : OpId) (command : NodeCommand) (phase : PhaseName)
+    → not (list_any is_open (map open_slot (sheets_from routing op 0 (targets_of (delete_sides_of phase) (command ∷ []))))) ≡ false
+delete_waits routing op command OldOnly = refl
+delete_waits routing op command BothReadOld = refl
+delete_waits routing op command BothReadNew = refl
+delete_waits routing op command NewOnly = refl
+
+issued_waits : (p : ProxyView) (t : ℕ) (q : Request) → HasLegs q → is_complete (pending_of p t q) ≡ false
+issued_waits p t (request.Get []) legs = absurd (omega arith)
+issued_waits p t (request.Get (key ∷ keys)) legs = refl
+issued_waits p t (request.Set key flags exptime block noreply) legs = refl
+issued_waits p t (request.Delete key noreply) legs =
+    delete_waits p.routing (next_op p) (Delete key) (phase_of p.schedule (used_reading p.last t))
+issued_waits p t request.Quit legs = absurd legs
+
+sheets_opened : (sheets : List LegSheet) → map sheet_of (map open_slot sheets) ≡ sheets
+sheets_opened [] = refl
+sheets_opened (sheet ∷ sheets) = ap (λ l. sheet ∷ l) (sheets_opened sheets)
+
+older_pending : (p : ProxyView) (t : ℕ) (q : Request) (pending : PendingView) → IsSoundPending p pending → IsSoundPending (after_issue p t q) pending
+older_pending p t q pending s =
+    let below = s.number in
+    record { proxy = s.proxy; incarnation = s.incarnation; number = omega arith; sheets = s.sheets; kinds = s.kinds; waits = s.waits }
+
+issue_sound : (p : ProxyView) (t : ℕ) (q : Request) → HasLegs q → IsSound p → IsSound (after_issue p t q)
+issue_sound p t q legs s =
+    let new = after_issue p t q in
+    let unnoted : (sheet : LegSheet) → IsOfItsKind (open_slot sheet) = λ sheet reply e. cc in
+    let sound : IsSoundPending new (pending_of p t q) =
+    record {
+      proxy = refl;
+      incarnation = refl;
+      number = omega arith;
+      sheets = sheets_opened (sheets_of p t q);
+      kinds = All-map IsOfItsKind open_slot (sheets_of p t q) (λ k d below. unnoted (get_or (sheets_of p t q) k d));
+      waits = issued_waits p t q legs;
+    } in
+    record {
+      pendings = All-push (IsSoundPending new) p.outstanding (pending_of p t q)
+          (All-weaker (IsSoundPending p) (IsSoundPending new) (older_pending p t q) p.outstanding s.pendings) sound;
+      in_order = all_pairs_push (λ (a b : PendingView). a.op.number < b.op.number) p.outstanding (pending_of p t q) s.in_order
+          (λ k d below. (s.pendings k d below).number);
+    }
+
+pub steps_keep_sound_lem : (old new : ProxyView) → IsSound old → ProxyStep old new → IsSound new
+steps_keep_sound_lem old new s (issues t q legs accepted) = issue_sound old t q legs s
+steps_keep_sound_lem old new s (takes id reply) = take_sound old (place_of_op old.outstanding id.op) id.place reply (pending_with old.outstanding id.op) refl s
+steps_keep_sound_lem old new s (gives_up op) = leave_sound old (place_of_op old.outstanding op) (pending_with old.outstanding op) refl s
+steps_keep_sound_lem old new s restarts =
+    record { pendings = λ k d below. absurd (omega arith); in_order = λ i j d before below. absurd (omega arith) }
+
+-- the sheet of a slot is the request's of its place
+slot_sheet : (p : ProxyView) (pending : PendingView) (place : ℕ) (slot : Slot) → IsSoundPending p pending → slice_get pending.slots place ≡ Some slot
+    → slice_get (sheets_by p.routing p.schedule pending.op pending.reading pending.request) place ≡ Some slot.sheet
+slot_sheet p pending place slot s got = ap (λ l. slice_get l place) (sym s.sheets) ∙ get_map sheet_of pending.slots place slot got
+
+hit_noted : (o : Option LegReply) (flags : ℕ) (block : List ℕ) → unwrap_or o (Failed LegLost) ≡ Hit flags block → o ≡ Some (Hit flags block)
+hit_noted None flags block e = cc
+hit_noted (Some reply) flags block e = ap Some e
+
+found_by : (p : ProxyView) (pending : PendingView) (keys : List (List ℕ)) (item : Item) → IsSoundPending p pending → pending.request ≡ request.Get keys
+    → IsHitOf keys (map outcome_of pending.slots) item → HasFound pending.slots item
+found_by p pending keys item s asked h =
+    let m = mapped outcome_of pending.slots h.place (Hit item.flags item.block) h.hit in
+    let sheets = slot_sheet p pending h.place m.from s m.there in
+    let of_get = subst (λ q. slice_get (sheets_by p.routing p.schedule pending.op pending.reading q) h.place ≡ Some m.from.sheet) asked sheets in
+    let asks = gets_ask_in_order_lem p.routing p.schedule pending.op pending.reading keys h.place m.from.sheet of_get in
+    let one = asks.there in
+    let other = h.key in
+    let same : asks.key ≡ item.key = cc in
+    record {
+      place = h.place;
+      slot = m.from;
+      there = m.there;
+      command = asks.command ∙ ap Get same;
+      hit = hit_noted m.from.reply item.flags item.block (sym m.is);
+    }
+
+pub items_were_found_lem : ((q : Request) (replies : List LegReply) (items : List Item) → joined_reply q replies ≡ reply.Items items → AreHits q replies items)
+    → (p : ProxyView) (pending : PendingView) (given_up : Bool) (items : List Item) → IsSoundPending p pending
+    → reply_of (answer_of pending given_up) ≡ reply.Items items → All (HasFound pending.slots) items
+items_were_found_lem hits p pending given_up items s e =
+    let h = hits pending.request (map outcome_of pending.slots) items e in
+    All-weaker (IsHitOf h.keys (map outcome_of pending.slots)) (HasFound pending.slots) (λ item found. found_by p pending h.keys item s h.asked found) items h.found
+
+deleted_by : (key : List ℕ) (r : LegReply) → is_of_kind (Delete key) r ≡ true → HasSucceeded r → (r ≡ Deleted) ⊎ (r ≡ NotFound)
+deleted_by key (Hit flags block) kind mild = cc
+deleted_by key Miss kind mild = cc
+deleted_by key Stored kind mild = cc
+deleted_by key Deleted kind mild = inl refl
+deleted_by key NotFound kind mild = inr refl
+deleted_by key (Failed cause) kind mild = absurd (omega arith)
+
+was_noted : (o : Option LegReply) → HasSucceeded (unwrap_or o (Failed LegLost)) → (r : LegReply) × (o ≡ Some r) × HasSucceeded r
+was_noted None mild = absurd (omega arith)
+was_noted (Some r) mild = (r, refl, mild)
+
+slot_deleted : (key : List ℕ) (slot : Slot) → slot.sheet.command ≡ Delete key → IsOfItsKind slot → HasSucceeded (outcome_of slot) → WasDeleted slot
+slot_deleted key slot command kind mild =
+    let (r, noted, good) = was_noted slot.reply mild in
+    record { reply = r; noted = noted; deleted = deleted_by key r (ap (λ c. is_of_kind c r) (sym command) ∙ kind r noted) good }
+
+pub acknowledged_by_legs_lem : ((q : Request) (replies : List LegReply) → Acknowledges (joined_reply q replies) → All HasSucceeded replies)
+    → (p : ProxyView) (pending : PendingView) (key : List ℕ) (noreply given_up : Bool) → IsSoundPending p pending
+    → pending.request ≡ request.Delete key noreply → Acknowledges (reply_of (answer_of pending given_up)) → All WasDeleted pending.slots
+acknowledged_by_legs_lem all p pending key noreply given_up s asked a k d below =
+    let slots = pending.slots in
+    let slot = get_or slots k d in
+    let got = slice_get-get_or slots k d below in
+    let sheets = slot_sheet p pending k slot s got in
+    let of_delete = subst (λ q. slice_get (sheets_by p.routing p.schedule pending.op pending.reading q) k ≡ Some slot.sheet) asked sheets in
+    let says = sheets_say_lem p.routing p.schedule pending.op pending.reading (request.Delete key noreply) k slot.sheet of_delete in
+    let command = only (Delete key) slot.sheet.command says.command in
+    let outcomes = all pending.request (map outcome_of slots) a in
+    let count : length (map outcome_of slots) ≡ length slots = length-map slots outcome_of in
+    let mild = outcomes k (outcome_of d) (omega arith) in
+    let read : get_or (map outcome_of slots) k (outcome_of d) ≡ outcome_of slot = get_or-map outcome_of slots k d (outcome_of d) below in
+    slot_deleted key slot command (s.kinds k d below) (subst HasSucceeded read mild)

@@ -1,0 +1,10 @@
+use Rattle.std.proofs.Common.{◌≡◌, ◌∷◌, [], ◌++◌, length, take}
+use Rattle.mr_node.specs.declared.command.NodeCommand.TheVariants.{Delete}
+use Rattle.mr_proxy.specs.Issue.{sheets_from, targets_of}
+use Rattle.mr_proxy.proofs.draft.Draft.add_deletes.Given as goal
+
+-- the sides so far have their legs
+abbrev pub invariant-loop-side : goal.invariant-loop-side
+invariant-loop-side l =
+    l.self ≡ l.initial.self
+    ++ sheets_from l.routing l.op (length l.initial.self) (targets_of (take l.side-index l.sides) (Delete l.fn.key ∷ []))

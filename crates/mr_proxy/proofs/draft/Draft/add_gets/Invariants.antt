@@ -1,0 +1,10 @@
+use Rattle.std.proofs.Common.{◌≡◌, ◌∷◌, [], ◌++◌, length, map, take}
+use Rattle.mr_node.specs.declared.command.NodeCommand.TheVariants.{Get}
+use Rattle.mr_proxy.specs.Issue.{sheets_from, targets_of}
+use Rattle.mr_proxy.proofs.draft.Draft.add_gets.Given as goal
+
+-- the keys so far have their legs
+abbrev pub invariant-loop-key : goal.invariant-loop-key
+invariant-loop-key l =
+    l.self ≡ l.initial.self
+    ++ sheets_from l.routing l.op (length l.initial.self) (targets_of (l.side ∷ []) (map Get (take l.key-index l.keys)))

@@ -1,0 +1,16 @@
+use Rattle.std.proofs.Common.{◌≡◌, ◌+◌, ◌*◌, sum_by, ◌≤◌, ◌++◌, map, length, vec_len, vec_capacity}
+use Rattle.std.specs.Vec.Iter.{into_iter_items}
+use Rattle.mr_join.specs.Join.{hits_of}
+use Rattle.mr_proxy.specs.Slots.{outcome_of}
+use Rattle.mr_proxy.proofs.join.into_hits.Given as goal
+
+-- the hits so far and those of the keys that are left are all, and have room
+abbrev pub invariant-loop-key : goal.invariant-loop-key
+invariant-loop-key l =
+    (goal.iterator-loop-key).can_next l.key-iterator ×
+    (goal.iterator-loop-key).is_finite l.key-iterator ×
+    (hits_of l.fn.keys.items (map outcome_of l.fn.slots.items)
+    ≡ l.items.items ++ hits_of (into_iter_items l.key-iterator) (map outcome_of (into_iter_items l.slots))) ×
+    (vec_len l.items + length (into_iter_items l.key-iterator) ≤ vec_capacity l.items) ×
+    (2 * vec_len l.items + sum_by (λ key. length key + 1) (into_iter_items l.key-iterator)
+    ≤ sum_by (λ key. length key + 1) l.fn.keys.items)

@@ -1,0 +1,10 @@
+pub mod ProxyError
+pub mod Slots
+pub mod Pending
+pub mod Room
+pub mod Answer
+pub mod ProxyView
+pub mod Issue
+pub mod Steps
+pub mod Sheets
+pub mod Sound

@@ -1,0 +1,99 @@
+//! The answer to a request.
+ghost use Rattle.std.specs.Prelude.{◌≡◌, ◌<◌, ◌++◌, IfOk, OnOk, MatchResult};
+ghost use Rattle.mr_text.specs.Canonical.{canonical_reply};
+
+use crate::join::joined;
+use crate::pending::Pending;
+use crate::slot::Slot;
+use crate::writing::write_joined;
+use mr_history::OpId;
+use mr_text::{Reply, Request, Sink, WriteFault};
+use std::alloc::AllocError;
+use std::marker::Model;
+
+/// The answer to a request: its legs with what came back. Only a proxy makes one.
+#[derive(Debug, Drop)]
+pub struct Answer {
+    pending: Pending,
+    given_up: bool,
+}
+
+impl Model for Answer {
+    ghost use Rattle.mr_proxy.specs.Answer.{AnswerView, answer_of};
+
+    ghost Value = { AnswerView };
+
+    ghost view = { λ a. answer_of a.pending a.given_up };
+}
+
+impl Answer {
+    ghost use Rattle.mr_proxy.specs.Answer.{answer_of, reply_of};
+
+    /// The answer to a request as it stands.
+    pub(crate) fn of(pending: Pending, given_up: bool) -> Answer
+        ensures { result ≡ answer_of pending given_up }
+    {
+        Answer { pending, given_up }
+    }
+
+    /// The request's name.
+    pub fn op(&self) -> OpId
+        ensures { result ≡ self.now.op }
+    {
+        self.pending.op()
+    }
+
+    /// The request.
+    pub fn request(&self) -> &Request
+        ensures { result.now ≡ self.now.request }
+    {
+        self.pending.request()
+    }
+
+    /// The reading by which the request was judged, in seconds since the epoch.
+    pub fn reading(&self) -> u64
+        ensures { result ≡ self.now.reading }
+    {
+        self.pending.reading()
+    }
+
+    /// The legs in order of place, each with its reply. A leg without one counts as lost.
+    pub fn slots(&self) -> &[Slot]
+        ensures { result.now ≡ self.now.slots }
+    {
+        self.pending.slots()
+    }
+
+    /// Whether the request was given up before all its legs had answered.
+    pub fn given_up(&self) -> bool
+        ensures { result ≡ self.now.given_up }
+    {
+        self.given_up
+    }
+
+    /// Writes what the client is told, in its canonical text. It takes memory only as the writer does.
+    pub fn write<W: Sink>(&self, writer: &mut W) -> Result<(), WriteFault>
+        ensures written { OnOk result (W.written writer.new ≡ W.written writer.old ++ canonical_reply (reply_of self.now)) }
+        ensures failures { MatchResult result (λ _. W.failures writer.new ≡ W.failures writer.old) (λ _. W.failures writer.old < W.failures writer.new) }
+    {
+        write_joined(self.pending.request(), self.pending.slots(), writer)
+    }
+
+    /// What the client is told. It takes no memory: the room was made at the issue.
+    pub fn into_reply(self) -> Reply
+        ensures { result ≡ reply_of self }
+    {
+        let (request, slots, items) = self.pending.into_parts();
+        joined(request, slots, items)
+    }
+
+    /// An equal answer.
+    pub fn copy(&self) -> Result<Answer, AllocError>
+        ensures { IfOk result (λ answer. answer ≡ self.now) }
+    {
+        Ok(Answer {
+            pending: self.pending.copy()?,
+            given_up: self.given_up,
+        })
+    }
+}

@@ -1,0 +1,194 @@
+//! The legs of a request, made before the proxy changes.
+ghost use Rattle.std.specs.Prelude.{◌≡◌, ◌+◌, ◌<◌, ◌^◌, [], ◌∷◌, ◌++◌, length, map, IfOk, OnOk};
+ghost use Rattle.mr_phases.specs.declared.side.Side.{Side};
+ghost use Rattle.mr_phases.specs.Sides.{sides_in};
+ghost use Rattle.mr_pools.specs.Routing.{pool_of, place_of};
+ghost use Rattle.mr_node.specs.declared.command.NodeCommand.TheVariants.{Get, Delete};
+ghost use Rattle.mr_proxy.specs.Slots.{open_slot};
+ghost use Rattle.mr_proxy.specs.Issue.{key_of, pool_number, sheet_at, sheets_from, sheets_by, targets_of};
+
+use crate::leg::Leg;
+use crate::sheet::{LegId, LegSheet};
+use crate::slot::Slot;
+use mr_history::OpId;
+use mr_node::NodeCommand;
+use mr_phases::{RequestKind, Schedule, Side, judge};
+use mr_pools::Routing;
+use mr_text::{Key, Request};
+use std::alloc::{AllocError, Global};
+use std::marker::Model;
+
+/// The legs of a request, each beside the slot in which its reply will be noted.
+#[derive(Drop)]
+pub(crate) struct Draft {
+    slots: Vec<Slot>,
+    legs: Vec<Leg>,
+}
+
+impl Model for Draft {
+    ghost use Rattle.std.specs.Prelude.{◌≡◌, map};
+    ghost use Rattle.mr_proxy.specs.Slots.{open_slot};
+    ghost use Rattle.std.specs.Prelude.{List};
+    ghost use Rattle.mr_proxy.specs.declared.sheet.LegSheet.{LegSheet};
+
+    ghost Value = { List LegSheet };
+
+    ghost view = { λ d. d.legs.items };
+
+    ghost invariant = { λ d. d.slots.items ≡ map open_slot d.legs.items };
+}
+
+/// The key that a command names.
+fn key_of_command(command: &NodeCommand) -> &Key
+    ensures { result.now ≡ key_of command.now }
+{
+    match command {
+        NodeCommand::Get(key) | NodeCommand::Set { key, .. } | NodeCommand::Delete(key) => key,
+    }
+}
+
+/// The index, in that side's pool, of the node that keeps a key.
+fn node_of(routing: &Routing, side: Side, key: &Key) -> u32
+    ensures { result ≡ place_of routing.now.hash (pool_of routing.now (pool_number side)) key.now }
+{
+    let pool = match side {
+        Side::Old => routing.old_pool(),
+        Side::New => routing.new_pool(),
+    };
+    let _at_most_1024 = pool.len();
+    pool.pick(&routing.hash(), key) as u32
+}
+
+impl Draft {
+    /// No legs yet, and room for so many.
+    fn new(alloc: Global, legs: usize) -> Result<Draft, AllocError>
+        ensures { IfOk result (λ draft. draft ≡ []) }
+    {
+        Ok(Draft {
+            slots: Vec::with_capacity(alloc, legs)?,
+            legs: Vec::with_capacity(alloc, legs)?,
+        })
+    }
+
+    /// Adds the next leg. The slot's sheet and the leg's are two, since the leg travels.
+    fn add(
+        &mut self,
+        routing: &Routing,
+        op: OpId,
+        side: Side,
+        command: NodeCommand,
+    ) -> Result<(), AllocError>
+        requires { length self.old < 2 ^ 32 }
+        ensures { OnOk result (self.new ≡ self.old
+            ++ sheet_at routing.now op (length self.old) (record { side = side; command = command }) ∷ []) }
+    {
+        self.legs.reserve(1)?;
+        self.slots.reserve(1)?;
+        let sheet = LegSheet {
+            id: LegId {
+                op,
+                place: self.legs.len() as u32,
+            },
+            side,
+            node: node_of(routing, side, key_of_command(&command)),
+            command,
+        };
+        let leg = Leg::of(sheet.copy()?);
+        self.legs.push_reserved(leg);
+        self.slots.push_reserved(Slot::open(sheet));
+        Ok(())
+    }
+
+    #[tactic(auto, using(crate::proofs::DraftLemmas::get_added, crate::proofs::DraftLemmas::get_count))]
+    /// Adds a get's legs: one for each key.
+    fn add_gets(
+        &mut self,
+        routing: &Routing,
+        op: OpId,
+        side: Side,
+        keys: &[Key],
+    ) -> Result<(), AllocError>
+        requires { length self.old + length keys.now < 2 ^ 32 }
+        ensures { OnOk result (self.new ≡ self.old
+            ++ sheets_from routing.now op (length self.old) (targets_of (side ∷ []) (map Get keys.now))) }
+    {
+        for key in keys {
+            self.add(routing, op, side, NodeCommand::Get(key.copy()?))?;
+        }
+        Ok(())
+    }
+
+    #[tactic(auto, using(crate::proofs::DraftLemmas::delete_added, crate::proofs::DraftLemmas::delete_count))]
+    /// Adds a delete's legs: one for each side.
+    fn add_deletes(
+        &mut self,
+        routing: &Routing,
+        op: OpId,
+        sides: &[Side],
+        key: &Key,
+    ) -> Result<(), AllocError>
+        requires { length self.old + length sides.now < 2 ^ 32 }
+        ensures { OnOk result (self.new ≡ self.old
+            ++ sheets_from routing.now op (length self.old) (targets_of sides.now (Delete key.now ∷ []))) }
+    {
+        for side in sides {
+            self.add(routing, op, *side, NodeCommand::Delete(key.copy()?))?;
+        }
+        Ok(())
+    }
+
+    #[tactic(auto, using(crate::proofs::DraftLemmas::few_keys))]
+    /// The legs of a request that is judged by this reading.
+    pub(crate) fn of(
+        alloc: Global,
+        routing: &Routing,
+        schedule: Schedule,
+        op: OpId,
+        reading: u64,
+        request: &Request,
+    ) -> Result<Draft, AllocError>
+        ensures { IfOk result (λ draft. draft ≡ sheets_by routing.now schedule op reading request.now) }
+    {
+        let judged = judge(schedule, reading);
+        match request {
+            Request::Get { keys } => {
+                let keys = keys.as_slice();
+                let mut draft = Draft::new(alloc, keys.len())?;
+                draft.add_gets(routing, op, judged.read_side(), keys)?;
+                Ok(draft)
+            }
+            Request::Set {
+                key,
+                flags,
+                exptime,
+                block,
+                noreply: _,
+            } => {
+                let command = NodeCommand::Set {
+                    key: key.copy()?,
+                    flags: *flags,
+                    exptime: *exptime,
+                    block: block.copy()?,
+                };
+                let mut draft = Draft::new(alloc, 1)?;
+                draft.add(routing, op, judged.read_side(), command)?;
+                Ok(draft)
+            }
+            Request::Delete { key, noreply: _ } => {
+                let sides = judged.sides(RequestKind::Delete);
+                let mut draft = Draft::new(alloc, sides.count())?;
+                draft.add_deletes(routing, op, sides.as_slice(), key)?;
+                Ok(draft)
+            }
+            Request::Quit => Draft::new(alloc, 0),
+        }
+    }
+
+    /// The slots, and the legs.
+    pub(crate) fn into_parts(self) -> (Vec<Slot>, Vec<Leg>)
+        ensures slots { result.0.items ≡ map open_slot self }
+        ensures legs { result.1.items ≡ self }
+    {
+        (self.slots, self.legs)
+    }
+}

@@ -1,0 +1,29 @@
+//! The core of one proxy: requests become legs to nodes, and the replies of the legs one answer.
+#![tactic(auto)]
+
+mod answer;
+mod draft;
+mod error;
+mod issued;
+mod join;
+pub mod laws;
+mod leg;
+mod pending;
+mod proxy_core;
+mod room;
+mod sheet;
+mod slot;
+mod taken;
+mod writing;
+
+pub use answer::Answer;
+pub use error::ProxyError;
+pub use issued::Issued;
+pub use leg::Leg;
+pub use proxy_core::ProxyCore;
+pub use sheet::{LegBack, LegId, LegSheet};
+pub use slot::{Slot, is_of_kind};
+pub use taken::Taken;
+
+#[cfg(test)]
+mod tests;

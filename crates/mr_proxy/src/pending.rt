@@ -1,0 +1,161 @@
+//! A request under way.
+ghost use Rattle.std.specs.Prelude.{◌≡◌, Some, IfOk, is_some, true, vec_capacity, count_by};
+ghost use Rattle.mr_proxy.specs.Slots.{is_open};
+
+use crate::room::room_for;
+use crate::slot::Slot;
+use mr_history::OpId;
+use mr_join::LegReply;
+use mr_text::{Item, Request};
+use std::alloc::AllocError;
+use std::marker::Model;
+
+/// A request with its legs, and with the room that its answer needs.
+#[derive(Debug, Drop)]
+pub(crate) struct Pending {
+    op: OpId,
+    request: Request,
+    reading: u64,
+    slots: Vec<Slot>,
+    items: Vec<Item>,
+}
+
+impl Model for Pending {
+    ghost use Rattle.std.specs.Prelude.{vec_capacity};
+    ghost use Rattle.mr_proxy.specs.Pending.{PendingView};
+    ghost use Rattle.mr_proxy.specs.Room.{HasRoomFor};
+
+    ghost Value = { PendingView };
+
+    ghost view = { λ p. record { op = p.op; request = p.request; reading = p.reading; slots = p.slots.items } };
+
+    ghost invariant = { λ p. HasRoomFor p.request p.items.items (vec_capacity p.items) };
+}
+
+impl Pending {
+    ghost use Rattle.mr_proxy.specs.Pending.{is_complete, with_reply};
+    ghost use Rattle.mr_proxy.specs.Room.{HasRoomFor};
+    ghost use Rattle.mr_proxy.specs.Pending.{is_same_op};
+
+    /// A request with its legs. The room is made by the caller.
+    pub(crate) fn new(
+        op: OpId,
+        request: Request,
+        reading: u64,
+        slots: Vec<Slot>,
+        items: Vec<Item>,
+    ) -> Pending
+        requires { HasRoomFor request items.items (vec_capacity items) }
+        ensures { result ≡ record { op = op; request = request; reading = reading; slots = slots.items } }
+    {
+        Pending {
+            op,
+            request,
+            reading,
+            slots,
+            items,
+        }
+    }
+
+    /// The request's name.
+    pub(crate) fn op(&self) -> OpId
+        ensures { result ≡ self.now.op }
+    {
+        self.op
+    }
+
+    /// Whether this is the request's name.
+    pub(crate) fn has_op(&self, op: OpId) -> bool
+        ensures { result ≡ is_same_op self.now.op op }
+    {
+        self.op.proxy == op.proxy
+            && self.op.incarnation == op.incarnation
+            && self.op.number == op.number
+    }
+
+    /// The request.
+    pub(crate) fn request(&self) -> &Request
+        ensures { result.now ≡ self.now.request }
+    {
+        &self.request
+    }
+
+    /// The reading by which the request was judged, in seconds since the epoch.
+    pub(crate) fn reading(&self) -> u64
+        ensures { result ≡ self.now.reading }
+    {
+        self.reading
+    }
+
+    /// The legs in order of place.
+    pub(crate) fn slots(&self) -> &[Slot]
+        ensures { result.now ≡ self.now.slots }
+    {
+        self.slots.as_slice()
+    }
+
+    /// Whether no leg is left that may answer yet.
+    pub(crate) fn is_complete(&self) -> bool
+        ensures { result ≡ is_complete self.now }
+    {
+        for slot in &self.slots {
+            if slot.is_open() {
+                return false;
+            }
+        }
+        true
+    }
+
+    /// How many legs may answer yet.
+    pub(crate) fn open_legs(&self) -> usize
+        ensures { result ≡ count_by is_open self.now.slots }
+    {
+        self.slots.iter().filter(|slot| slot.is_open()).count()
+    }
+
+    /// Whether the leg of that place awaits the reply.
+    pub(crate) fn awaits(&self, place: u32, reply: &LegReply) -> bool
+        ensures { result ≡ is_some (with_reply self.now place reply.now) }
+    {
+        let place = place as usize;
+        place < self.slots.len() && self.slots[place].awaits(reply)
+    }
+
+    /// Notes a reply that the leg of that place awaits.
+    pub(crate) fn note(&mut self, place: u32, reply: LegReply)
+        requires { is_some (with_reply self.old place reply) ≡ true }
+        ensures { with_reply self.old place reply ≡ Some self.new }
+    {
+        let slot = &mut self.slots[place as usize];
+        slot.reply = Some(reply);
+    }
+
+    /// The request, the legs, and the room for the items of the answer.
+    pub(crate) fn into_parts(self) -> (Request, Vec<Slot>, Vec<Item>)
+        ensures request { result.0 ≡ self.request }
+        ensures slots { result.1.items ≡ self.slots }
+        ensures room { HasRoomFor result.0 result.2.items (vec_capacity result.2) }
+    {
+        (self.request, self.slots, self.items)
+    }
+
+    /// An equal request under way, with room of its own.
+    pub(crate) fn copy(&self) -> Result<Pending, AllocError>
+        ensures { IfOk result (λ pending. pending ≡ self.now) }
+    {
+        let alloc = *self.slots.allocator();
+        let mut slots = Vec::with_capacity(alloc, self.slots.len())?;
+        for slot in &self.slots {
+            slots.push(slot.copy()?)?;
+        }
+        let request = self.request.copy()?;
+        let items = room_for(alloc, &request)?;
+        Ok(Pending {
+            op: self.op,
+            request,
+            reading: self.reading,
+            slots,
+            items,
+        })
+    }
+}

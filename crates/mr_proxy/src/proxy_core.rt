@@ -1,0 +1,346 @@
+//! One proxy: the requests under way, and what each step does to them.
+ghost use Rattle.std.specs.Prelude.{◌≡◌, ◌≢◌, ◌-◌, ◌^◌, ◌≤◌, ◌<◌, ◌↔◌, length, Some, None, IsTrue, IsOk, OnOk, OnErr, IfOk, IfErr, MatchOption};
+ghost use Rattle.std.specs.Option.{option_copied};
+ghost use Rattle.mr_text.specs.declared.request.Request.{Request};
+ghost use Rattle.mr_proxy.specs.Steps.{place_of_op};
+
+use crate::answer::Answer;
+use crate::draft::Draft;
+use crate::error::ProxyError;
+use crate::issued::Issued;
+use crate::pending::Pending;
+use crate::room::room_for;
+use crate::sheet::{LegId, LegSheet};
+use crate::taken::Taken;
+use mr_history::OpId;
+use mr_join::LegReply;
+use mr_phases::{RequestKind, Schedule, judge};
+use mr_pools::Routing;
+use mr_text::Request;
+use std::alloc::{AllocError, Global};
+use std::marker::Model;
+
+/// The core of one proxy. A request that it accepts becomes legs; the legs' replies become its answer.
+#[derive(Debug, Drop)]
+pub struct ProxyCore {
+    number: u32,
+    incarnation: u64,
+    next: u64,
+    last: Option<u64>,
+    outstanding: Vec<Pending>,
+    routing: Routing,
+    schedule: Schedule,
+    room: u64,
+}
+
+impl Model for ProxyCore {
+    ghost use Rattle.mr_proxy.specs.ProxyView.{ProxyView};
+
+    ghost Value = { ProxyView };
+
+    ghost view = { λ p. record {
+      number = p.number;
+      incarnation = p.incarnation;
+      next = p.next;
+      last = p.last;
+      outstanding = p.outstanding.items;
+      routing = p.routing;
+      schedule = p.schedule;
+      room = p.room;
+    } };
+}
+
+#[tactic(auto, using(std::proofs::lemmas::List::Sums::position_or_len_is))]
+/// Where the request of an op stands among those under way.
+fn position_of(outstanding: &[Pending], op: OpId) -> Option<usize>
+    ensures { MatchOption result
+        (length outstanding.now ≤ place_of_op outstanding.now op)
+        (λ place. (place ≡ place_of_op outstanding.now op) × (place < length outstanding.now)) }
+{
+    for (place, pending) in outstanding.iter().enumerate() {
+        if pending.has_op(op) {
+            return Some(place);
+        }
+    }
+    None
+}
+
+impl ProxyCore {
+    ghost use Rattle.mr_proxy.specs.ProxyView.{fresh_proxy, opening_of, IsFresh, AreAlike};
+    ghost use Rattle.mr_proxy.specs.Issue.{next_op, used_reading, sheets_of, refusal_of, IsRefusal, after_issue};
+    ghost use Rattle.mr_proxy.specs.Steps.{open_sheet, open_legs_of, taken_of, after_take, given_up_of, after_give_up, after_restart};
+
+    /// A proxy that accepted no request yet. It takes no memory before the first one.
+    pub fn new(
+        alloc: Global,
+        number: u32,
+        incarnation: u64,
+        routing: Routing,
+        schedule: Schedule,
+        room: u64,
+    ) -> ProxyCore
+        ensures { result ≡ fresh_proxy number incarnation routing schedule room }
+    {
+        ProxyCore {
+            number,
+            incarnation,
+            next: 0,
+            last: None,
+            outstanding: Vec::new(alloc),
+            routing,
+            schedule,
+            room,
+        }
+    }
+
+    /// The larger of a reading and the last one.
+    fn used(&self, reading: u64) -> u64
+        ensures { result ≡ used_reading self.now.last reading }
+    {
+        match self.last {
+            None => reading,
+            Some(last) => last.max(reading),
+        }
+    }
+
+    /// Why the next request is refused, memory aside.
+    fn refusal(&self) -> Option<ProxyError>
+        ensures { result ≡ refusal_of self.now }
+    {
+        if self.next == u64::MAX {
+            Some(ProxyError::NumbersSpent)
+        } else if self.room <= self.outstanding.len() as u64 {
+            Some(ProxyError::NoRoom)
+        } else {
+            None
+        }
+    }
+
+    /// The name that the next request gets.
+    fn next_op(&self) -> OpId
+        ensures { result ≡ next_op self.now }
+    {
+        OpId {
+            proxy: self.number,
+            incarnation: self.incarnation,
+            number: self.next,
+        }
+    }
+
+    /// Accepts a request at a reading of the proxy's clock, in seconds since the epoch. Its legs go by the larger of
+    /// that reading and the last one used. A refusal hands the request back and changes nothing; refusals are tried in
+    /// the order NumbersSpent, NoRoom, OutOfMemory.
+    pub fn issue(&mut self, reading: u64, request: Request) -> Result<Issued, (ProxyError, Request)>
+        requires { request ≢ Request.Quit }
+        ensures accepted { OnOk result (refusal_of self.old ≡ None) }
+        ensures state { OnOk result (self.new ≡ after_issue self.old reading request) }
+        ensures op { IfOk result (λ issued. issued.op ≡ next_op self.old) }
+        ensures legs { IfOk result (λ issued. issued.legs.items ≡ sheets_of self.old reading request) }
+        ensures refused { IfErr result (λ back. IsRefusal (refusal_of self.old) back.0) }
+        ensures unchanged { IfErr result (λ back. (self.new ≡ self.old) × (back.1 ≡ request)) }
+    {
+        if let Some(refusal) = self.refusal() {
+            return Err((refusal, request));
+        }
+        let alloc = *self.outstanding.allocator();
+        let op = self.next_op();
+        let used = self.used(reading);
+        let Ok(draft) = Draft::of(alloc, &self.routing, self.schedule, op, used, &request) else {
+            return Err((ProxyError::OutOfMemory, request));
+        };
+        let Ok(items) = room_for(alloc, &request) else {
+            return Err((ProxyError::OutOfMemory, request));
+        };
+        if self.outstanding.reserve(1).is_err() {
+            return Err((ProxyError::OutOfMemory, request));
+        }
+        let (slots, legs) = draft.into_parts();
+        self.outstanding
+            .push_reserved(Pending::new(op, request, used, slots, items));
+        self.next += 1;
+        self.last = Some(used);
+        Ok(Issued { op, legs })
+    }
+
+    /// Takes the reply of a leg. A reply that no leg awaits is a stranger, and changes nothing.
+    pub fn take_reply(&mut self, id: LegId, reply: LegReply) -> Taken
+        ensures taken { result ≡ taken_of self.old id reply }
+        ensures state { self.new ≡ after_take self.old id reply }
+    {
+        let Some(place) = position_of(&self.outstanding, id.op) else {
+            return Taken::Stranger(reply);
+        };
+        if !self.outstanding[place].awaits(id.place, &reply) {
+            return Taken::Stranger(reply);
+        }
+        let pending = &mut self.outstanding[place];
+        pending.note(id.place, reply);
+        if !pending.is_complete() {
+            return Taken::Waiting;
+        }
+        Taken::Answered(Answer::of(self.outstanding.remove(place), false))
+    }
+
+    /// Gives a request up: each leg that didn't answer counts as lost. NoSuchOp where it isn't under way.
+    pub fn give_up(&mut self, op: OpId) -> Result<Answer, ProxyError>
+        ensures answer { IfOk result (λ answer. given_up_of self.old op ≡ Some answer) }
+        ensures unknown { IfErr result (λ e. (given_up_of self.old op ≡ None) × (e ≡ ProxyError.NoSuchOp)) }
+        ensures state { self.new ≡ after_give_up self.old op }
+        ensures unchanged { OnErr result (self.new ≡ self.old) }
+    {
+        match position_of(&self.outstanding, op) {
+            None => Err(ProxyError::NoSuchOp),
+            Some(place) => Ok(Answer::of(self.outstanding.remove(place), true)),
+        }
+    }
+
+    /// Drops all requests under way and begins the next incarnation. NumbersSpent where there is none.
+    pub fn restart(&mut self) -> Result<(), ProxyError>
+        ensures accepted { IsOk result ↔ (self.old.incarnation ≢ 2 ^ 64 - 1) }
+        ensures state { OnOk result (self.new ≡ after_restart self.old) }
+        ensures spent { IfErr result (λ e. (e ≡ ProxyError.NumbersSpent) × (self.new ≡ self.old)) }
+    {
+        if self.incarnation == u64::MAX {
+            return Err(ProxyError::NumbersSpent);
+        }
+        self.incarnation += 1;
+        self.next = 0;
+        self.last = None;
+        self.outstanding.clear();
+        Ok(())
+    }
+
+    /// The proxy's number in its fleet.
+    pub fn number(&self) -> u32
+        ensures { result ≡ self.now.number }
+    {
+        self.number
+    }
+
+    /// How often the proxy was restarted.
+    pub fn incarnation(&self) -> u64
+        ensures { result ≡ self.now.incarnation }
+    {
+        self.incarnation
+    }
+
+    /// The number of the next request: how many this incarnation accepted.
+    pub fn next(&self) -> u64
+        ensures { result ≡ self.now.next }
+    {
+        self.next
+    }
+
+    /// The reading by which the last request was judged, in seconds since the epoch; None since the beginning.
+    pub fn last(&self) -> Option<u64>
+        ensures { result ≡ self.now.last }
+    {
+        self.last
+    }
+
+    /// The pools, and the hash that places keys in them.
+    pub fn routing(&self) -> &Routing
+        ensures { result.now ≡ self.now.routing }
+    {
+        &self.routing
+    }
+
+    /// When the migration goes from phase to phase.
+    pub fn schedule(&self) -> Schedule
+        ensures { result ≡ self.now.schedule }
+    {
+        self.schedule
+    }
+
+    /// The most requests under way.
+    pub fn room(&self) -> u64
+        ensures { result ≡ self.now.room }
+    {
+        self.room
+    }
+
+    /// How many requests are under way.
+    pub fn outstanding(&self) -> usize
+        ensures { result ≡ length self.now.outstanding }
+    {
+        self.outstanding.len()
+    }
+
+    /// How many legs may answer yet. Every request may have many, so the count is wider than that of requests.
+    pub fn open_legs(&self) -> u128
+        ensures { result ≡ open_legs_of self.now }
+    {
+        let mut total = 0u128;
+        for pending in &self.outstanding {
+            total += pending.open_legs() as u128;
+        }
+        total
+    }
+
+    /// Whether nothing is under way, no reading was used, and no number given out.
+    pub fn is_fresh(&self) -> bool
+        ensures { IsTrue result ↔ IsFresh self.now }
+    {
+        self.outstanding.is_empty() && self.last.is_none() && self.next == 0
+    }
+
+    /// Whether the other proxy has the same number, incarnation, routing, schedule and room, whatever is under way.
+    pub fn alike(&self, other: &ProxyCore) -> bool
+        ensures { IsTrue result ↔ AreAlike self.now other.now }
+    {
+        self.number == other.number
+            && self.incarnation == other.incarnation
+            && self.routing.same_as(&other.routing)
+            && self.schedule.is_same(&other.schedule)
+            && self.room == other.room
+    }
+
+    #[tactic(auto, using(crate::proofs::DraftLemmas::get_length, crate::proofs::DraftLemmas::delete_length))]
+    /// How many legs an issue would make, or why it would be refused: NumbersSpent, or else NoRoom.
+    pub fn would_issue(&self, reading: u64, request: &Request) -> Result<u64, ProxyError>
+        requires { request.now ≢ Request.Quit }
+        ensures legs { IfOk result (λ legs. (refusal_of self.now ≡ None) × (legs ≡ length (sheets_of self.now reading request.now))) }
+        ensures refused { IfErr result (λ e. refusal_of self.now ≡ Some e) }
+    {
+        if let Some(refusal) = self.refusal() {
+            return Err(refusal);
+        }
+        Ok(match request {
+            Request::Get { keys } => keys.as_slice().len() as u64,
+            Request::Set { .. } => 1,
+            Request::Delete { .. } => {
+                let judged = judge(self.schedule, self.used(reading));
+                judged.sides(RequestKind::Delete).count() as u64
+            }
+            Request::Quit => 0,
+        })
+    }
+
+    /// Lends the sheet of a leg that may answer yet.
+    pub fn sheet_of(&self, id: LegId) -> Option<&LegSheet>
+        ensures { option_copied result ≡ open_sheet self.now id }
+    {
+        let place = position_of(&self.outstanding, id.op)?;
+        let slot = self.outstanding[place].slots().get(id.place as usize)?;
+        if slot.is_open() {
+            Some(&slot.sheet)
+        } else {
+            None
+        }
+    }
+
+    /// The fresh proxy of the same number, incarnation, routing, schedule and room.
+    pub fn opening(&self, alloc: Global) -> Result<ProxyCore, AllocError>
+        ensures { IfOk result (λ core. core ≡ opening_of self.now) }
+    {
+        let routing = self.routing.copy()?;
+        Ok(ProxyCore::new(
+            alloc,
+            self.number,
+            self.incarnation,
+            routing,
+            self.schedule,
+            self.room,
+        ))
+    }
+}

@@ -1,0 +1,65 @@
+//! What is sent to a node for one leg of a request, and what comes back.
+ghost use Rattle.std.specs.Prelude.{◌≡◌, IfOk};
+
+use mr_history::OpId;
+use mr_join::LegReply;
+use mr_node::NodeCommand;
+use mr_phases::Side;
+use std::alloc::AllocError;
+
+/// The name of a leg.
+#[derive(Clone, Copy, Debug, PartialEq, Eq)]
+pub struct LegId {
+    /// The request.
+    pub op: OpId,
+    /// The leg's place among those of the request, counted from 0.
+    pub place: u32,
+}
+
+/// One leg of a request: which node is told what.
+#[derive(Debug, Drop)]
+pub struct LegSheet {
+    /// The leg's name.
+    pub id: LegId,
+    /// The side whose pool has the node.
+    pub side: Side,
+    /// The node's index in that pool.
+    pub node: u32,
+    /// What the node is told to do.
+    pub command: NodeCommand,
+}
+
+impl LegSheet {
+    /// An equal sheet.
+    pub fn copy(&self) -> Result<LegSheet, AllocError>
+        ensures { IfOk result (λ sheet. sheet ≡ self.now) }
+    {
+        Ok(LegSheet {
+            id: self.id,
+            side: self.side,
+            node: self.node,
+            command: self.command.copy()?,
+        })
+    }
+}
+
+/// A leg that came back.
+#[derive(Debug, Drop)]
+pub struct LegBack {
+    /// What was sent.
+    pub sheet: LegSheet,
+    /// What the node answered, or why none did.
+    pub reply: LegReply,
+}
+
+impl LegBack {
+    /// An equal value.
+    pub fn copy(&self) -> Result<LegBack, AllocError>
+        ensures { IfOk result (λ back. back ≡ self.now) }
+    {
+        Ok(LegBack {
+            sheet: self.sheet.copy()?,
+            reply: self.reply.copy()?,
+        })
+    }
+}

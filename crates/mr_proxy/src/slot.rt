@@ -1,0 +1,109 @@
+//! A leg of a request as the proxy keeps it.
+ghost use Rattle.std.specs.Prelude.{◌≡◌, [], ◌∷◌, IfOk};
+ghost use Rattle.mr_join.specs.Join.{badness_of, first_cause};
+ghost use Rattle.mr_proxy.specs.Slots.{open_slot, is_open, is_awaiting, has_failed, outcome_of, is_of_kind};
+
+use crate::sheet::LegSheet;
+use mr_join::LegReply;
+use mr_node::NodeCommand;
+use mr_text::Cause;
+use std::alloc::AllocError;
+
+/// What was sent for a leg, and what came back.
+#[derive(Debug, Drop)]
+pub struct Slot {
+    /// What was sent.
+    pub sheet: LegSheet,
+    /// The reply, once it came. A leg without one counts as lost.
+    pub reply: Option<LegReply>,
+}
+
+/// Whether a node may answer this command so: any command may fail.
+pub fn is_of_kind(command: &NodeCommand, reply: &LegReply) -> bool
+    ensures { result ≡ is_of_kind command.now reply.now }
+{
+    match (command, reply) {
+        (NodeCommand::Get(_), LegReply::Hit { .. } | LegReply::Miss) => true,
+        (NodeCommand::Set { .. }, LegReply::Stored) => true,
+        (NodeCommand::Delete(_), LegReply::Deleted | LegReply::NotFound) => true,
+        (_, LegReply::Failed(_)) => true,
+        _ => false,
+    }
+}
+
+impl Slot {
+    /// A leg that was sent.
+    pub(crate) fn open(sheet: LegSheet) -> Slot
+        ensures { result ≡ open_slot sheet }
+    {
+        Slot { sheet, reply: None }
+    }
+
+    /// Whether no reply came yet.
+    pub fn is_open(&self) -> bool
+        ensures { result ≡ is_open self.now }
+    {
+        self.reply.is_none()
+    }
+
+    /// Whether the leg awaits this reply: none came yet, and a node may answer its command so.
+    pub fn awaits(&self, reply: &LegReply) -> bool
+        ensures { result ≡ is_awaiting self.now reply.now }
+    {
+        self.is_open() && is_of_kind(&self.sheet.command, reply)
+    }
+
+    /// Whether the leg failed, or no reply came.
+    pub fn has_failed(&self) -> bool
+        ensures { result ≡ has_failed self.now }
+    {
+        match &self.reply {
+            None | Some(LegReply::Failed(_)) => true,
+            Some(_) => false,
+        }
+    }
+
+    /// How bad what the leg came to is.
+    pub(crate) fn badness(&self) -> u8
+        ensures { result ≡ badness_of (outcome_of self.now) }
+    {
+        match &self.reply {
+            Some(reply) => reply.badness(),
+            None => 2,
+        }
+    }
+
+    /// Gives the reply, or that the leg was lost where none came.
+    pub fn into_outcome(self) -> LegReply
+        ensures { result ≡ outcome_of self }
+    {
+        let Slot { sheet: _, reply } = self;
+        match reply {
+            Some(reply) => reply,
+            None => LegReply::Failed(Cause::LegLost),
+        }
+    }
+
+    /// Gives why the leg failed, if it did.
+    pub(crate) fn into_cause(self) -> Option<Cause>
+        ensures { result ≡ first_cause (outcome_of self ∷ []) }
+    {
+        match self.into_outcome() {
+            LegReply::Failed(cause) => Some(cause),
+            _ => None,
+        }
+    }
+
+    /// An equal slot.
+    pub fn copy(&self) -> Result<Slot, AllocError>
+        ensures { IfOk result (λ slot. slot ≡ self.now) }
+    {
+        Ok(Slot {
+            sheet: self.sheet.copy()?,
+            reply: match &self.reply {
+                Some(reply) => Some(reply.copy()?),
+                None => None,
+            },
+        })
+    }
+}

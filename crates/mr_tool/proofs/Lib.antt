@@ -1,0 +1,5 @@
+pub mod LegLemmas
+pub mod NameLemmas
+pub mod RequestLemmas
+pub mod RunLemmas
+pub mod WordLemmas

@@ -1,0 +1,63 @@
+//! The first request of an input.
+ghost use Rattle.std.specs.Prelude.{◌≡◌, List, ℕ, true, false, [], ◌++◌};
+ghost use Rattle.mr_text.specs.Stream.{Becomes};
+ghost use Rattle.mr_tool.specs.FirstRequest.{IsNextOf, IsLastOf, Reads};
+
+use crate::fault::Fault;
+use mr_text::{Request, RequestReader, Source, TextError};
+use std::alloc::Global;
+
+/// The most reads of one request. Each but the last gives a byte. A request has a line of at most 8,192 bytes and a
+/// block of at most 8,192, each with two bytes of line end: 8,194 + 8,194, and one more read finds the end of the input.
+pub const MOST_READS: u32 = 16_389;
+
+/// How many bytes one read may give.
+const BUFFER_LENGTH: usize = 4096;
+
+/// The request that the input holds with one more piece of it, if it holds one yet.
+fn next_with(reader: &mut RequestReader, piece: &[u8]) -> Result<Option<Request>, Fault>
+    ensures { (fed : List ℕ) → Becomes reader.old fed false false → IsNextOf reader.new (fed ++ piece.now) result }
+{
+    if let Err(refusal) = reader.feed(piece) {
+        return Err(Fault::Text(refusal));
+    }
+    match reader.next() {
+        Ok(request) => Ok(request),
+        Err(refusal) => Err(Fault::Text(refusal)),
+    }
+}
+
+/// The request that the input holds, now that it has ended.
+fn next_at_end(reader: &mut RequestReader) -> Result<Request, Fault>
+    ensures { (fed : List ℕ) → Becomes reader.old fed false false → IsLastOf fed result }
+{
+    reader.end();
+    match reader.next() {
+        Ok(Some(request)) => Ok(request),
+        Ok(None) => Err(Fault::Text(TextError::Truncated)),
+        Err(refusal) => Err(Fault::Text(refusal)),
+    }
+}
+
+/// The first request of an input, read no further than the piece that completes it. The first line that is refused is
+/// the fault, an unknown command too; Truncated where the input ends before a request is whole.
+pub fn first_request<I: Source>(alloc: Global, input: &mut I) -> Result<Request, Fault>
+    ensures { Reads (I.taken input.old) (I.taken input.new) (I.failures input.old) (I.failures input.new) result }
+{
+    let mut reader = RequestReader::new(alloc);
+    let mut buffer = [0; BUFFER_LENGTH];
+    for turn in 0..MOST_READS {
+        let Ok(count) = input.read(&mut buffer) else {
+            return Err(Fault::Input);
+        };
+        if count == 0 {
+            return next_at_end(&mut reader);
+        }
+        match next_with(&mut reader, &buffer[..count]) {
+            Ok(Some(request)) => return Ok(request),
+            Ok(None) => {}
+            Err(fault) => return Err(fault),
+        }
+    }
+    Err(Fault::Text(TextError::Truncated))
+}
