@@ -12,12 +12,23 @@ use Rattle.mr_phases.specs.declared.error.ScheduleError.TheVariants.{ZeroInterva
 use Rattle.mr_tool.specs.declared.fault.Fault.{Fault}
 use Rattle.mr_tool.specs.declared.fault.Fault.TheVariants.{Memory, Input, Output, Text, Pools, Phases}
 use Rattle.mr_tool.specs.declared.words.Wanted.{Wanted}
-use Rattle.mr_tool.specs.declared.run.TheConstants.{DONE, FAULT, WRONG_WORDS}
 use Rattle.mr_tool.specs.Fault.{fault_line}
 use Rattle.mr_tool.specs.FirstRequest.{BeginsWithRequest, GetsRefusal}
 use Rattle.mr_tool.specs.PlanText.{plan_text}
 use Rattle.mr_tool.specs.PoolWords.{names_in, IsPoolNamed}
 use Rattle.mr_tool.specs.Words.{SaysPlan}
+
+-- the status of a run that did what was wanted
+abbrev pub DONE : ℕ
+DONE = 0
+
+-- the status of a run that found a fault
+abbrev pub FAULT : ℕ
+FAULT = 1
+
+-- the status for wrong words or a call for help
+abbrev pub WRONG_WORDS : ℕ
+WRONG_WORDS = 2
 
 -- the bytes that went through a device up to now, and how often it failed
 pub record Device : Type 0 where
