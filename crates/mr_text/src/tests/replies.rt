@@ -31,7 +31,12 @@ fn add_answers(
 }
 
 /// The answers of a reader that is fed a text in two pieces and asked after each; `;` where it waits at last.
-fn answers_in_two(alloc: Global, front: &[u8], back: &[u8], ends: bool) -> Result<Vec<u8>, Fail> {
+pub(super) fn reply_answers_in_two(
+    alloc: Global,
+    front: &[u8],
+    back: &[u8],
+    ends: bool,
+) -> Result<Vec<u8>, Fail> {
     let mut answers = Vec::new(alloc);
     let mut reader = ReplyReader::new(alloc);
     reader.feed(front)?;
@@ -52,7 +57,7 @@ fn answers_in_two(alloc: Global, front: &[u8], back: &[u8], ends: bool) -> Resul
 
 /// Asserts what a reader of a whole text answers.
 fn gives(rt: &impl Abort, alloc: Global, text: &[u8], wanted: &[u8]) -> Result<(), Fail> {
-    let answers = answers_in_two(alloc, text, b"", false)?;
+    let answers = reply_answers_in_two(alloc, text, b"", false)?;
     assert_eq!(rt; answers.as_slice(), wanted, "at {text:?}");
     Ok(())
 }
@@ -167,7 +172,7 @@ fn error_line(alloc: Global, count: usize, end: &[u8]) -> Result<Vec<u8>, Fail> 
 fn error_text_has_8179_bytes(rt: HostRuntime) -> Result<(), Fail> {
     let alloc = rt.alloc();
     let line = error_line(alloc, 8179, b"\r\n")?;
-    let answers = answers_in_two(alloc, &line, b"", false)?;
+    let answers = reply_answers_in_two(alloc, &line, b"", false)?;
     assert_eq!(rt; answers.len(), 8195);
     gives(&rt, alloc, &error_line(alloc, 8180, b"\n")?, b"<1><9>")?;
     gives(&rt, alloc, &error_line(alloc, 8180, b"")?, b";")?;
@@ -181,7 +186,7 @@ fn gives_last(rt: &impl Abort, alloc: Global, last: &[u8], length: usize) -> Res
         text.extend_from_slice(b"VALUE k 0 0\r\n\r\n")?;
     }
     text.extend_from_slice(last)?;
-    let answers = answers_in_two(alloc, &text, b"", false)?;
+    let answers = reply_answers_in_two(alloc, &text, b"", false)?;
     assert_eq!(rt; answers.len(), length, "at {last:?}");
     Ok(())
 }
@@ -206,12 +211,12 @@ fn item_is_read_in_any_pieces(rt: HostRuntime) -> Result<(), Fail> {
     gives(&rt, alloc, ITEM, wanted)?;
     for place in 1..ITEM.len() {
         let (front, back) = ITEM.split_at(place);
-        let answers = answers_in_two(alloc, front, back, false)?;
+        let answers = reply_answers_in_two(alloc, front, back, false)?;
         assert_eq!(rt; answers.as_slice(), wanted, "{place}");
-        let cut = answers_in_two(alloc, front, b"", true)?;
+        let cut = reply_answers_in_two(alloc, front, b"", true)?;
         assert_eq!(rt; cut.as_slice(), b"<8><9>".as_slice(), "{place}");
     }
-    let none = answers_in_two(alloc, b"", b"", true)?;
+    let none = reply_answers_in_two(alloc, b"", b"", true)?;
     assert_eq!(rt; none.as_slice(), b";".as_slice());
     Ok(())
 }

@@ -1,8 +1,19 @@
-//! A slow reader of requests by the tables of the text, and the real one beside it.
-use super::answers_in_two;
+//! Slow readers of requests and replies by the tables of the text, and the real ones beside them.
+mod replies;
+mod requests;
+
+use super::replies::reply_answers_in_two;
+use super::{add_repeated, answers_in_two};
 use std::alloc::Global;
 use std::process::Abort;
 use std::test::Fail;
+
+/// What is read.
+#[derive(Clone, Copy)]
+enum Texts {
+    Requests,
+    Replies,
+}
 
 /// What the front of some bytes is answered, and how many bytes are read with it: none where nothing is whole yet, or
 /// where the reader is closed.
@@ -111,70 +122,8 @@ fn word_at(words: &[Vec<u8>], place: usize) -> &[u8] {
     }
 }
 
-fn get(alloc: Global, words: &[Vec<u8>], length: usize) -> Result<Front, Fail> {
-    if words.len() < 2 {
-        return stops(alloc, b"<4><9>");
-    }
-    let mut answer = Vec::from_slice(alloc, b"get")?;
-    for key in words.get(1..).unwrap_or(&[]) {
-        if !is_key(key) {
-            return stops(alloc, b"<2><9>");
-        }
-        answer.push(b' ')?;
-        answer.extend_from_slice(key)?;
-    }
-    answer.extend_from_slice(b"\r\n")?;
-    Ok(Front { answer, length })
-}
-
-fn delete(alloc: Global, words: &[Vec<u8>], length: usize) -> Result<Front, Fail> {
-    let key = word_at(words, 1);
-    let third = word_at(words, 2);
-    let has_zero = third == b"0".as_slice();
-    let last = if has_zero { word_at(words, 3) } else { third };
-    let has_noreply = last == b"noreply".as_slice();
-    let count = 2 + usize::from(has_zero) + usize::from(has_noreply);
-    if words.len() != count {
-        return stops(alloc, b"<4><9>");
-    }
-    if !is_key(key) {
-        return stops(alloc, b"<2><9>");
-    }
-    let mut answer = Vec::from_slice(alloc, b"delete ")?;
-    answer.extend_from_slice(key)?;
-    if has_noreply {
-        answer.extend_from_slice(b" noreply")?;
-    }
-    answer.extend_from_slice(b"\r\n")?;
-    Ok(Front { answer, length })
-}
-
-fn set(alloc: Global, words: &[Vec<u8>], bytes: &[u8], line: usize) -> Result<Front, Fail> {
-    let has_noreply = word_at(words, 5) == b"noreply".as_slice();
-    if words.len() != 5 + usize::from(has_noreply) {
-        return stops(alloc, b"<4><9>");
-    }
-    let key = word_at(words, 1);
-    if !is_key(key) {
-        return stops(alloc, b"<2><9>");
-    }
-    let mut text = Vec::from_slice(alloc, b"set ")?;
-    text.extend_from_slice(key)?;
-    let is_good = add_number(&mut text, word_at(words, 2), b"4294967295")?
-        && add_signed(&mut text, word_at(words, 3))?
-        && add_number(&mut text, word_at(words, 4), b"18446744073709551615")?;
-    if !is_good {
-        return stops(alloc, b"<3><9>");
-    }
-    if has_noreply {
-        text.extend_from_slice(b" noreply")?;
-    }
-    text.extend_from_slice(b"\r\n")?;
-    set_with_block(alloc, text, bytes, line, value_of(word_at(words, 4)))
-}
-
-/// The set whose line is written so, with the block that follows the line.
-fn set_with_block(
+/// What is written as this line, with the block that follows the line.
+fn with_block(
     alloc: Global,
     text: Vec<u8>,
     bytes: &[u8],
@@ -206,67 +155,61 @@ fn set_with_block(
     stops(alloc, b"")
 }
 
-fn closes(word: &[u8]) -> bool {
-    word == b"add".as_slice()
-        || word == b"replace".as_slice()
-        || word == b"append".as_slice()
-        || word == b"prepend".as_slice()
-        || word == b"cas".as_slice()
+/// The first line of some bytes.
+#[derive(Drop)]
+enum FirstLine {
+    /// Its end isn't there yet.
+    Waits,
+    TooLong,
+    /// Without its end, and how many bytes it has with it.
+    Whole(Vec<u8>, usize),
 }
 
-fn request(alloc: Global, words: &[Vec<u8>], bytes: &[u8], line: usize) -> Result<Front, Fail> {
-    let command = word_at(words, 0);
-    if command == b"get".as_slice() {
-        return get(alloc, words, line);
-    }
-    if command == b"set".as_slice() {
-        return set(alloc, words, bytes, line);
-    }
-    if command == b"delete".as_slice() {
-        return delete(alloc, words, line);
-    }
-    if command == b"quit".as_slice() {
-        let is_alone = words.len() == 1;
-        return stops(alloc, if is_alone { b"quit\r\n<9>" } else { b"<4><9>" });
-    }
-    if closes(command) {
-        return stops(alloc, b"<7 closes><9>");
-    }
-    Ok(Front {
-        answer: Vec::from_slice(alloc, b"<7>")?,
-        length: line,
-    })
-}
-
-fn front_of(alloc: Global, bytes: &[u8]) -> Result<Front, Fail> {
+fn first_line(alloc: Global, bytes: &[u8]) -> Result<FirstLine, Fail> {
     let mut line = Vec::new(alloc);
     for byte in bytes {
         if *byte == b'\n' {
-            return request_of_line(alloc, line, bytes);
+            return Ok(whole_line(line));
         }
         line.push(*byte)?;
     }
-    stops(alloc, if bytes.len() < 8194 { b"" } else { b"<1><9>" })
+    Ok(if bytes.len() < 8194 {
+        FirstLine::Waits
+    } else {
+        FirstLine::TooLong
+    })
 }
 
-fn request_of_line(alloc: Global, mut line: Vec<u8>, bytes: &[u8]) -> Result<Front, Fail> {
+fn whole_line(mut line: Vec<u8>) -> FirstLine {
     let length = line.len().saturating_add(1);
     if line.last() == Some(&b'\r') {
         line.pop();
     }
     if line.len() > 8192 {
-        return stops(alloc, b"<1><9>");
+        return FirstLine::TooLong;
     }
+    FirstLine::Whole(line, length)
+}
+
+fn front_of(alloc: Global, texts: Texts, bytes: &[u8]) -> Result<Front, Fail> {
+    let (line, length) = match first_line(alloc, bytes)? {
+        FirstLine::Waits => return stops(alloc, b""),
+        FirstLine::TooLong => return stops(alloc, b"<1><9>"),
+        FirstLine::Whole(line, length) => (line, length),
+    };
     let words = words_of(alloc, &line)?;
-    request(alloc, &words, bytes, length)
+    match texts {
+        Texts::Requests => requests::front_of(alloc, &words, bytes, length),
+        Texts::Replies => replies::front_of(alloc, &line, &words, bytes, length),
+    }
 }
 
 /// The answers of a reader of these bytes, as the real one's are shown.
-fn slow_answers(alloc: Global, bytes: &[u8]) -> Result<Vec<u8>, Fail> {
+fn slow_answers(alloc: Global, texts: Texts, bytes: &[u8]) -> Result<Vec<u8>, Fail> {
     let mut answers = Vec::new(alloc);
     let mut rest = bytes;
     for _ in 0..16 {
-        let front = front_of(alloc, rest)?;
+        let front = front_of(alloc, texts, rest)?;
         answers.extend_from_slice(&front.answer)?;
         if front.length == 0 {
             if front.answer.is_empty() {
@@ -284,28 +227,48 @@ fn slow_answers(alloc: Global, bytes: &[u8]) -> Result<Vec<u8>, Fail> {
     Ok(answers)
 }
 
+/// The answers of the real reader, for the pieces and then the end of the input.
+fn quick_answers(alloc: Global, texts: Texts, front: &[u8], back: &[u8]) -> Result<Vec<u8>, Fail> {
+    match texts {
+        Texts::Requests => answers_in_two(alloc, front, back, true),
+        Texts::Replies => reply_answers_in_two(alloc, front, back, true),
+    }
+}
+
 /// Asserts that both readers answer alike, for the pieces and then the end of the input.
-fn agree(rt: &impl Abort, alloc: Global, front: &[u8], back: &[u8]) -> Result<(), Fail> {
+fn agree(
+    rt: &impl Abort,
+    alloc: Global,
+    texts: Texts,
+    front: &[u8],
+    back: &[u8],
+) -> Result<(), Fail> {
     let mut text = Vec::from_slice(alloc, front)?;
     text.extend_from_slice(back)?;
-    let slow = slow_answers(alloc, &text)?;
-    let quick = answers_in_two(alloc, front, back, true)?;
+    let slow = slow_answers(alloc, texts, &text)?;
+    let quick = quick_answers(alloc, texts, front, back)?;
     assert_eq!(rt; quick.as_slice(), slow.as_slice(), "at {text:?}");
     Ok(())
 }
 
 /// The same for each prefix of a text, and for the text in each two pieces.
-fn agree_on_pieces(rt: &impl Abort, alloc: Global, text: &[u8]) -> Result<(), Fail> {
+fn agree_on_pieces(rt: &impl Abort, alloc: Global, texts: Texts, text: &[u8]) -> Result<(), Fail> {
     for place in 0..text.len() {
         let (front, back) = text.split_at(place);
-        agree(rt, alloc, front, b"")?;
-        agree(rt, alloc, front, back)?;
+        agree(rt, alloc, texts, front, b"")?;
+        agree(rt, alloc, texts, front, back)?;
     }
-    agree(rt, alloc, text, b"")
+    agree(rt, alloc, texts, text, b"")
 }
 
 /// The same for the text with any byte changed to this one.
-fn agree_on_change(rt: &impl Abort, alloc: Global, text: &[u8], byte: u8) -> Result<(), Fail> {
+fn agree_on_change(
+    rt: &impl Abort,
+    alloc: Global,
+    texts: Texts,
+    text: &[u8],
+    byte: u8,
+) -> Result<(), Fail> {
     let mut changed = Vec::new(alloc);
     for place in 0..text.len() {
         changed.clear();
@@ -313,25 +276,25 @@ fn agree_on_change(rt: &impl Abort, alloc: Global, text: &[u8], byte: u8) -> Res
         if let Some(changed_byte) = changed.get_mut(place) {
             *changed_byte = byte;
         }
-        agree(rt, alloc, &changed, b"")?;
+        agree(rt, alloc, texts, &changed, b"")?;
     }
     Ok(())
 }
 
-fn agree_on_changes(rt: &impl Abort, alloc: Global, text: &[u8]) -> Result<(), Fail> {
-    agree_on_pieces(rt, alloc, text)?;
+fn agree_on_changes(rt: &impl Abort, alloc: Global, texts: Texts, text: &[u8]) -> Result<(), Fail> {
+    agree_on_pieces(rt, alloc, texts, text)?;
     for byte in [b' ', b'\r', b'\n', b'0', b'x', 0x7f, b'-', b'9'] {
-        agree_on_change(rt, alloc, text, byte)?;
+        agree_on_change(rt, alloc, texts, text, byte)?;
     }
     Ok(())
 }
 
 /// The same for each text of a list, with `|` behind each.
-fn agree_on_all(rt: &impl Abort, alloc: Global, texts: &[u8]) -> Result<(), Fail> {
+fn agree_on_all(rt: &impl Abort, alloc: Global, texts: Texts, list: &[u8]) -> Result<(), Fail> {
     let mut text = Vec::new(alloc);
-    for byte in texts {
+    for byte in list {
         if *byte == b'|' {
-            agree_on_changes(rt, alloc, &text)?;
+            agree_on_changes(rt, alloc, texts, &text)?;
             text.clear();
         } else {
             text.push(*byte)?;
@@ -340,26 +303,18 @@ fn agree_on_all(rt: &impl Abort, alloc: Global, texts: &[u8]) -> Result<(), Fail
     Ok(())
 }
 
-#[test]
-fn readers_agree_on_lines(rt: HostRuntime) -> Result<(), Fail> {
-    let texts = b"get k\r\n|\
-        \x20get  k b\r\r\nquit\n|\
-        get k 0 noreply\nget\n|\
-        delete k 0 noreply\r\n|\
-        delete noreply\r\n\r\nget k\r\n|\
-        delete k 0\nquit\nget k\n|\
-        cas k 0 0 1 5\r\n|\
-        append k\r\nadds k\nquit\r\n|";
-    agree_on_all(&rt, rt.alloc(), texts)
-}
-
-#[test]
-fn readers_agree_on_blocks(rt: HostRuntime) -> Result<(), Fail> {
-    let texts = b"set k 5 0 4\r\na\r\nb\r\n|\
-        set k 4294967295 -0 1 noreply\nv\r\n|\
-        set k 0 0 0\r\n\r\nget k\r\n|\
-        set k 00 -9223372036854775808 01\n\n\r\n|\
-        set 0 0 9223372036854775807 8192\n|\
-        set k 0 0 18446744073709551615\r\n|";
-    agree_on_all(&rt, rt.alloc(), texts)
+/// Asserts that both readers answer alike to a line that begins so and has so many spaces at its end.
+fn agree_on_spaces(
+    rt: &impl Abort,
+    alloc: Global,
+    texts: Texts,
+    start: &[u8],
+    spaces: usize,
+) -> Result<(), Fail> {
+    let mut line = Vec::from_slice(alloc, start)?;
+    add_repeated(&mut line, b' ', spaces)?;
+    for end in [b"".as_slice(), b"\r", b"\n", b"\r\n", b"xx"] {
+        agree(rt, alloc, texts, &line, end)?;
+    }
+    Ok(())
 }
