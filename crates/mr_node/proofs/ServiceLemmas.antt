@@ -58,7 +58,10 @@ module _ {C P : Type 0} (Does : C → P → Request → Reply → C → P → Ty
   step_of_request clock' node' request (Ok (Ends stop)) next is =
       subst (λ (e : Ended). EndIs Does written written' failures failures' clock node clock' node' old.ended rest new e) (sym is.1)
       (is.2, (next.1, subst (λ (q : Request). BeginsWith SpellsRequest rest q next.1) is.0 next.2))
-  step_of_request clock' node' request (Err e) next is = inr is
+  step_of_request clock' node' request (Err e) next is = inr (
+    is.0,
+    inl (Asked request is.2.0, next.2.spelling, next.1, next.2.splits, (next.2.spells, is.1), is.2.1),
+  )
 
   -- a refusal that closes the reader ends the service
   ends_refused : (refusal : TextError) (result : Result Step NodeError) → FaultAt SpellsRequest RefusesRequest refusal rest
@@ -71,7 +74,7 @@ module _ {C P : Type 0} (Does : C → P → Request → Reply → C → P → Ty
       subst (λ (s : Step). StepIs Does written written' failures failures' clock node clock node old.ended rest new (Ok s)) (sym ends)
       (refl, refl, refusal, fault, closes, cut, refl, is.2, is.3)
   ends_refused refusal (Err e) fault closes cut other (inl is) = absurd (other is.0)
-  ends_refused refusal (Err e) fault closes cut other (inr is) = inr is
+  ends_refused refusal (Err e) fault closes cut other (inr is) = inr (is.0, inr (refusal, fault, closes, is.1, refl, refl))
 
   skips_unknown : (result : Result Step NodeError) (after : List ℕ) → SkipsLine rest after → Becomes new after old.ended false
       → RefusalIs written written' failures failures' (UnknownCommand false) result
@@ -90,13 +93,16 @@ module _ {C P : Type 0} (Does : C → P → Request → Reply → C → P → Ty
         becomes,
       )
   skips_unknown (Err e) after skips becomes (inl is) = cc
-  skips_unknown (Err e) after skips becomes (inr is) = inr is
+  skips_unknown (Err e) after skips becomes (inr is) = inr (
+    is.0,
+    inl (Unknown, skips.line, after, skips.splits, (skips.words, skips.is_line, skips.unknown), (refl, refl)),
+  )
 
   lacks_memory : (result : Result Step NodeError) → RefusalIs written written' failures failures' OutOfMemory result
       → StepIs Does written written' failures failures' clock node clock node old.ended rest new result
   lacks_memory (Ok step) is = absurd (is.0 refl)
   lacks_memory (Err e) (inl is) = inl (is.1, (refl, refl, is.2, is.3))
-  lacks_memory (Err e) (inr is) = inr is
+  lacks_memory (Err e) (inr is) = (let answered = is.1 in cc)
 
   -- a refusal is answered
   pub step_of_refusal : (refusal : TextError) (result : Result Step NodeError) → old.closed ≡ false

@@ -1,5 +1,5 @@
 -- What a service has read, done and written so far.
-use Rattle.std.proofs.Common.{◌≡◌, ◌∙◌, ℕ, ◌+◌, ◌<◌, ◌≤◌, List, [], ◌∷◌, ◌++◌, length, Bool, true, false, Option, Result, Ok, Err, refl, sym, ap, subst, inl, inr, arith, append_assoc, length-append}
+use Rattle.std.proofs.Common.{◌≡◌, ◌≢◌, ◌∙◌, ℕ, ◌+◌, ◌<◌, ◌≤◌, List, [], ◌∷◌, ◌++◌, length, Bool, true, false, Option, Result, Ok, Err, refl, sym, ap, subst, inl, inr, arith, append_assoc, length-append}
 use Rattle.std.specs.Io.KnownBytes.{IsAtEnd}
 use Rattle.std.proofs.lemmas.List.{append-nil}
 use Rattle.std.proofs.lemmas.Grind.{flat_map-append}
@@ -9,7 +9,7 @@ use Rattle.mr_text.specs.declared.request.Request.{Request}
 use Rattle.mr_node.specs.declared.ended.Ended.{Ended}
 use Rattle.mr_node.specs.declared.ended.Ended.TheVariants as how
 use Rattle.mr_node.specs.declared.error.NodeError.{NodeError}
-use Rattle.mr_node.specs.declared.error.NodeError.TheVariants.{OutOfMemory, WriteFault, TurnsSpent}
+use Rattle.mr_node.specs.declared.error.NodeError.TheVariants.{OutOfMemory, ReadFault, WriteFault, TurnsSpent}
 use Rattle.mr_node.specs.declared.service.next.Step.{Step}
 use Rattle.mr_node.specs.declared.service.next.Step.TheVariants.{Served, Waits, Ends}
 use Rattle.mr_node.specs.Output.{Exchange, Reads, SpellsExchange, output_of, text_of_exchange}
@@ -118,7 +118,19 @@ module _ {C P : Type 0} (Does : C → P → Request → Reply → C → P → Ty
     pub writer_failed : (e : NodeError) → StepIs Does written' written'' failures failures' c p d q ended so.rest requests' (Err e)
         → e ≡ WriteFault → failures < failures'
     writer_failed e (inl step) fault = (let memory = step.0 in let both : OutOfMemory ≡ WriteFault = sym memory ∙ fault in cc)
-    writer_failed e (inr step) fault = step.1
+    writer_failed e (inr step) fault = step.0.1
+
+    -- the writer failed nowhere else
+    pub writer_well : (e : NodeError) → StepIs Does written' written'' failures failures' c p d q ended so.rest requests' (Err e)
+        → e ≢ WriteFault → failures' ≡ failures
+    writer_well e (inl step) other = step.1.3
+    writer_well e (inr step) other = absurd (other step.0.0)
+
+    pub ended_without_fault : (how : Ended) → StepIs Does written' written'' failures failures' c p d q ended so.rest requests' (Ok (Ends how))
+        → failures' ≡ failures
+    ended_without_fault how.Quit step = step.0.3
+    ended_without_fault how.Ended step = absurd step
+    ended_without_fault (how.Refused number) step = step.8
 
     pub shrinks : StepIs Does written' written'' failures failures' c p d q ended so.rest requests' (Ok Served)
         → length requests'.kept < length requests.kept
@@ -161,7 +173,8 @@ module _ {C P : Type 0} (Does : C → P → Request → Reply → C → P → Ty
         → ServiceIs Does taken taken' left written written'' clock node d q (Err e)
     step_fails e (inl step) = subst (λ (x : NodeError). ServiceIs Does taken taken' left written written'' clock node d q (Err x)) (sym step.0)
         (so.rest, serves_same taken' written' written'' so.rest c d p q so.serves step.1.0 step.1.1 step.1.2)
-    step_fails e (inr step) = subst (λ (x : NodeError). ServiceIs Does taken taken' left written written'' clock node d q (Err x)) (sym step.0) tt
+    step_fails e (inr step) = subst (λ (x : NodeError). ServiceIs Does taken taken' left written written'' clock node d q (Err x)) (sym step.0.0)
+        (so.rest, written', c, p, so.serves, step.1)
 
     -- bytes came, or the end of the input
     pub fed : (most : ℕ) (taken'' : List ℕ) (left' : Option (List ℕ)) (read_failures read_failures' : ℕ) (requests'' : ReaderView) (ended' : Bool)
@@ -185,6 +198,12 @@ module _ {C P : Type 0} (Does : C → P → Request → Reply → C → P → Ty
     read_fails most taken'' left' read_failures read_failures' requests'' e step (inr lacks) =
         subst (λ (x : NodeError). ServiceIs Does taken taken'' left' written written'' clock node d q (Err x)) (sym lacks.0)
         (so.rest ++ lacks.1.0, serves_fed taken' taken'' written'' so.rest lacks.1.0 d q (waits step) lacks.1.1)
+
+-- a read that ends otherwise is no fault of the reader
+pub reader_well : (most : ℕ) (rest : List ℕ) (requests : ReaderView) (taken taken' : List ℕ) (left : Option (List ℕ)) (failures failures' : ℕ) (e : NodeError)
+    → PieceIs most rest requests taken taken' left failures failures' (Err e) → e ≢ ReadFault → failures' ≡ failures
+reader_well most rest requests taken taken' left failures failures' e (inl fault) other = absurd (other fault.0)
+reader_well most rest requests taken taken' left failures failures' e (inr lacks) other = lacks.2
 
 -- a read that fails brings no more than it may
 pub failed_read_within : (most : ℕ) (rest : List ℕ) (requests : ReaderView) (taken taken' : List ℕ) (left : Option (List ℕ)) (failures failures' : ℕ) (e : NodeError)

@@ -1,5 +1,5 @@
 -- What a service of requests has read, done and written, and how it ends.
-use Rattle.std.specs.Prelude.{◌≡◌, ℕ, List, [], ◌∷◌, ◌++◌, false, Option, Result, Ok, Err}
+use Rattle.std.specs.Prelude.{◌≡◌, ℕ, ◌⊎◌, List, [], ◌∷◌, ◌++◌, false, Option, IsSome, Result, Ok, Err}
 use Rattle.std.specs.Io.KnownBytes.{IsAtEnd}
 use Rattle.mr_text.specs.Requests.{SpellsRequest, RefusesRequest}
 use Rattle.mr_text.specs.Stream.{BeginsWith, IsUnfinished, FaultAt, skips_line}
@@ -13,7 +13,7 @@ use Rattle.mr_node.specs.declared.ended.Ended.{Ended}
 use Rattle.mr_node.specs.declared.ended.Ended.TheVariants as how
 use Rattle.mr_node.specs.declared.error.NodeError.{NodeError}
 use Rattle.mr_node.specs.declared.error.NodeError.TheVariants.{ZeroCapacity, OutOfMemory, ReadFault, WriteFault, TurnsSpent}
-use Rattle.mr_node.specs.Output.{Exchange, Reads, output_of, reply_to_refusal, text_of_answer}
+use Rattle.mr_node.specs.Output.{Exchange, Reads, SpellsExchange, output_of, reply_to_refusal, text_of_answer}
 use Rattle.mr_node.specs.Output.Exchange.{Asked, Unknown}
 
 -- what exchanges do, by what one request does
@@ -45,9 +45,18 @@ EndsSo left rest (how.Refused number) text =
     (refusal : TextError) × FaultAt SpellsRequest RefusesRequest refusal rest × (skips_line refusal ≡ false) × (refusal ≡ Truncated → IsAtEnd left)
     × (number ≡ number_of_refusal refusal) × (text ≡ text_of_answer (reply_to_refusal refusal))
 
+-- What came next, when its answer could not be written: an exchange, and that was done; or a refusal that ends the
+-- service, and nothing was done.
+abbrev pub IsUnanswered : {C P : Type 0} → (C → P → Request → Reply → C → P → Type 0) → List ℕ → C → P → C → P → Type 0
+IsUnanswered Does rest clock node clock' node' =
+    ((exchange : Exchange) × (spelling : List ℕ) × (after : List ℕ) × (rest ≡ spelling ++ after) × SpellsExchange spelling exchange
+    × DoesExchange Does clock node exchange clock' node') ⊎
+    ((refusal : TextError) × FaultAt SpellsRequest RefusesRequest refusal rest × (skips_line refusal ≡ false) × IsSome (reply_to_refusal refusal)
+    × (clock' ≡ clock) × (node' ≡ node))
+
 -- What a service has read, done and written when it ends. After a fault of the reader and after the last read that was
--- allowed all that is whole was served, and after want of memory a beginning of it; of a fault of the writer nothing
--- is said.
+-- allowed all that is whole was served, and after want of memory a beginning of it. After a fault of the writer a
+-- beginning was served, and what came next was done once and isn't answered; how much of its answer went out isn't said.
 module _ {C P : Type 0} (Does : C → P → Request → Reply → C → P → Type 0) (taken taken' : List ℕ) (left : Option (List ℕ)) (written written' : List ℕ)
     (clock : C) (node : P) (clock' : C) (node' : P) where
   abbrev pub ServiceIs : Result Ended NodeError → Type 0
@@ -59,5 +68,7 @@ module _ {C P : Type 0} (Does : C → P → Request → Reply → C → P → Ty
   ServiceIs (Err TurnsSpent) =
       (rest : List ℕ) × Serves Does taken taken' written written' clock node clock' node' rest × IsUnfinished SpellsRequest RefusesRequest rest
   ServiceIs (Err OutOfMemory) = (rest : List ℕ) × Serves Does taken taken' written written' clock node clock' node' rest
-  ServiceIs (Err WriteFault) = Unit {0}
+  ServiceIs (Err WriteFault) =
+      (rest : List ℕ) × (before : List ℕ) × (between : C) × (node_between : P) × Serves Does taken taken' written before clock node between node_between rest
+      × IsUnanswered Does rest between node_between clock' node'
   ServiceIs (Err ZeroCapacity) = ⊥

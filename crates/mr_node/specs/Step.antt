@@ -1,5 +1,5 @@
 -- What one step of a service reads, does and writes.
-use Rattle.std.specs.Prelude.{◌≡◌, ◌≢◌, ℕ, ◌<◌, ◌≤◌, ◌⊎◌, List, [], ◌++◌, length, Bool, true, false, Option, Result, Ok, Err, if◌then◌else◌}
+use Rattle.std.specs.Prelude.{◌≡◌, ◌≢◌, ℕ, ◌<◌, ◌≤◌, ◌⊎◌, List, [], ◌++◌, length, Bool, true, false, Option, IsSome, Result, Ok, Err, if◌then◌else◌}
 use Rattle.std.specs.Io.KnownBytes.{IsAtEnd}
 use Rattle.mr_text.specs.Requests.{SpellsRequest, RefusesRequest}
 use Rattle.mr_text.specs.Stream.{ReaderView, BeginsWith, IsUnfinished, FaultAt, Becomes, skips_line}
@@ -17,7 +17,7 @@ use Rattle.mr_node.specs.declared.service.next.Step.{Step}
 use Rattle.mr_node.specs.declared.service.next.Step.TheVariants.{Served, Waits, Ends}
 use Rattle.mr_node.specs.Output.Exchange.{Asked}
 use Rattle.mr_node.specs.Output.{Exchange, IsServed, SpellsExchange, text_of_exchange, reply_to_refusal, text_of_answer}
-use Rattle.mr_node.specs.Session.{DoesExchange}
+use Rattle.mr_node.specs.Session.{DoesExchange, IsUnanswered}
 
 -- a text is written, or the writer fails
 abbrev pub Writes : List ℕ → List ℕ → ℕ → ℕ → List ℕ → Result (Unit {0}) NodeError → Type 0
@@ -37,7 +37,8 @@ abbrev pub RefusalIs : List ℕ → List ℕ → ℕ → ℕ → TextError → R
 RefusalIs written written' failures failures' refusal (Ok step) =
     (refusal ≢ NoMemory) × (step ≡ step_after refusal) × (written' ≡ written ++ text_of_answer (reply_to_refusal refusal)) × (failures' ≡ failures)
 RefusalIs written written' failures failures' refusal (Err e) =
-    ((refusal ≡ NoMemory) × (e ≡ OutOfMemory) × (written' ≡ written) × (failures' ≡ failures)) ⊎ WriterFails failures failures' e
+    ((refusal ≡ NoMemory) × (e ≡ OutOfMemory) × (written' ≡ written) × (failures' ≡ failures)) ⊎
+    (WriterFails failures failures' e × IsSome (reply_to_refusal refusal))
 
 -- one read: some bytes come and are handed on, or it is the end of the input
 abbrev pub PieceIs : ℕ → List ℕ → ReaderView → List ℕ → List ℕ → Option (List ℕ) → ℕ → ℕ → Result Bool NodeError → Type 0
@@ -54,14 +55,14 @@ module _ {C P : Type 0} (Does : C → P → Request → Reply → C → P → Ty
   abbrev pub IsIdle : Type 0
   IsIdle = (clock' ≡ clock) × (node' ≡ node) × (written' ≡ written) × (failures' ≡ failures)
 
-  -- a quit ends the service; any other request is served and answered
+  -- a quit ends the service; any other request is served and answered, or served and the writer fails
   abbrev pub RequestIs : Request → Result Step NodeError → Type 0
   RequestIs request (Ok Served) =
       IsServed request × (outcome : Reply) × Does clock node request outcome clock' node'
       × (written' ≡ written ++ text_of_exchange (Asked request outcome)) × (failures' ≡ failures)
   RequestIs request (Ok Waits) = ⊥
   RequestIs request (Ok (Ends ended)) = (request ≡ Quit) × (ended ≡ how.Quit) × IsIdle
-  RequestIs request (Err e) = WriterFails failures failures' e
+  RequestIs request (Err e) = WriterFails failures failures' e × IsServed request × ((outcome : Reply) × Does clock node request outcome clock' node')
 
   module _ (ended : Bool) (rest : List ℕ) (requests : ReaderView) where
     abbrev pub EndIs : Ended → Type 0
@@ -81,4 +82,4 @@ module _ {C P : Type 0} (Does : C → P → Request → Reply → C → P → Ty
     StepIs (Ok Waits) =
         IsIdle × IsUnfinished SpellsRequest RefusesRequest rest × (ended ≡ true → rest ≡ []) × Becomes requests rest ended false
     StepIs (Ok (Ends how)) = EndIs how
-    StepIs (Err e) = ((e ≡ OutOfMemory) × IsIdle) ⊎ WriterFails failures failures' e
+    StepIs (Err e) = ((e ≡ OutOfMemory) × IsIdle) ⊎ (WriterFails failures failures' e × IsUnanswered Does rest clock node clock' node')

@@ -1,5 +1,5 @@
 //! The service of requests that come as text.
-ghost use Rattle.std.specs.Prelude.{◌≡◌, ◌+◌, ◌*◌, ◌<◌, ◌≤◌, length};
+ghost use Rattle.std.specs.Prelude.{◌≡◌, ◌≢◌, ◌+◌, ◌*◌, ◌<◌, ◌≤◌, length};
 ghost use Rattle.mr_node.specs.Outcome.{Outcome};
 ghost use Rattle.mr_node.specs.Session.{ServiceIs};
 
@@ -44,9 +44,11 @@ pub fn serve<P: Perform, S: Source, W: Sink, C: Clock>(
     ensures reads { length (S.taken reader.new) ≤ length (S.taken reader.old) + turns * READ_LENGTH }
     ensures turns { result ≡ Err NodeError.TurnsSpent → length (S.taken reader.old) + turns ≤ length (S.taken reader.new) }
 
-    // A fault is answered only where that device failed.
+    // A fault is answered only where that device failed, and none is passed over.
     ensures read_fault { result ≡ Err NodeError.ReadFault → S.failures reader.old < S.failures reader.new }
+    ensures no_read_fault { result ≢ Err NodeError.ReadFault → S.failures reader.new ≡ S.failures reader.old }
     ensures write_fault { result ≡ Err NodeError.WriteFault → W.failures writer.old < W.failures writer.new }
+    ensures no_write_fault { result ≢ Err NodeError.WriteFault → W.failures writer.new ≡ W.failures writer.old }
 {
     let mut requests = RequestReader::new(alloc);
     let mut buffer = [0; READ_LENGTH];

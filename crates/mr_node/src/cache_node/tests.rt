@@ -146,6 +146,75 @@ fn a_great_exptime_is_a_moment(rt: HostRuntime) -> Result<(), Fail> {
     Ok(())
 }
 
+/// Whether an item is kept under a name after sets in a cache of two items, each at a moment and with an exptime, and
+/// when it expires. The name is looked at before each set too, which is no use of its item.
+fn kept_after(
+    alloc: Global,
+    sets: &[(u64, &[u8], i64)],
+    name: &[u8],
+) -> Result<Option<Option<u64>>, Fail> {
+    let name = key(alloc, name)?;
+    let mut node = CacheNode::new(alloc, 2)?;
+    for (now, set_name, exptime) in sets {
+        let _ = node.peek(&name);
+        let _ = perform(&mut node, *now, set(alloc, set_name, *exptime)?)?;
+    }
+    Ok(node.peek(&name).map(|item| item.expires_at))
+}
+
+#[test]
+fn a_set_drops_the_last_item_for_a_new_key_alone(rt: HostRuntime) -> Result<(), Fail> {
+    let full = [(100, b"a".as_slice(), 0), (100, b"b".as_slice(), 0)];
+    let third = [full[0], full[1], (100, b"c".as_slice(), 0)];
+    let nothing = [full[0], full[1], (100, b"c".as_slice(), -1)];
+    let replaced = [
+        (100, b"a".as_slice(), 10),
+        full[1],
+        (200, b"a".as_slice(), 0),
+    ];
+    let expired = [
+        full[0],
+        (100, b"b".as_slice(), 10),
+        (200, b"c".as_slice(), 0),
+    ];
+    for (sets, name, kept) in [
+        (third.as_slice(), b"a".as_slice(), None),
+        (third.as_slice(), b"b".as_slice(), Some(None)),
+        (nothing.as_slice(), b"a".as_slice(), Some(None)),
+        (nothing.as_slice(), b"b".as_slice(), Some(None)),
+        (nothing.as_slice(), b"c".as_slice(), None),
+        (replaced.as_slice(), b"a".as_slice(), Some(None)),
+        (replaced.as_slice(), b"b".as_slice(), Some(None)),
+        (expired.as_slice(), b"a".as_slice(), None),
+        (expired.as_slice(), b"b".as_slice(), Some(Some(110))),
+    ] {
+        assert_eq!(rt;
+            kept_after(rt.alloc(), sets, name)?,
+            kept,
+            "at {sets:?} of {name:?}"
+        );
+    }
+    Ok(())
+}
+
+#[test]
+fn thirty_days_count_from_the_set(rt: HostRuntime) -> Result<(), Fail> {
+    for (now, exptime, kept) in [
+        (100, 2_592_000, Some(Some(2_592_100))),
+        (100, 2_592_001, Some(Some(2_592_001))),
+        (u64::MAX - 1, 10, Some(Some(u64::MAX))),
+        (u64::MAX, 10, None),
+    ] {
+        let sets = [(now, b"k".as_slice(), exptime)];
+        assert_eq!(rt;
+            kept_after(rt.alloc(), sets.as_slice(), b"k")?,
+            kept,
+            "at {now}"
+        );
+    }
+    Ok(())
+}
+
 #[test]
 fn a_delete_finds_a_copied_set(rt: HostRuntime) -> Result<(), Fail> {
     let alloc = rt.alloc();

@@ -1,7 +1,8 @@
 use super::*;
 use crate::cache_node::CacheNode;
-use mr_clock::{FixedClock, ListClock};
-use mr_text::{FailsAt, OverReader, OverWriter};
+use mr_clock::{ClockFault, FixedClock, ListClock};
+use mr_text::{FailsAt, Key, OverReader, OverWriter};
+use std::cell::Cell;
 use std::io;
 use std::io::Read;
 use std::test::Fail;
@@ -79,6 +80,11 @@ fn answers_each_request(rt: HostRuntime) -> Result<(), Fail> {
         ),
         (
             b"set k 0 0 8193\r\n".as_slice(),
+            b"CLIENT_ERROR data too long\r\n".as_slice(),
+            Ended::Refused(5),
+        ),
+        (
+            b"set k 0 0 8193 noreply\r\n".as_slice(),
             b"CLIENT_ERROR data too long\r\n".as_slice(),
             Ended::Refused(5),
         ),
@@ -189,6 +195,172 @@ fn answers_a_fault_of_a_device(rt: HostRuntime) -> Result<(), Fail> {
             10,
         );
         assert_eq!(rt; ended, how, "at {read} and {write}");
+    }
+    Ok(())
+}
+
+#[test]
+fn a_clock_that_fails_sets_nothing(rt: HostRuntime) -> Result<(), Fail> {
+    let alloc = rt.alloc();
+    for (input, output) in [
+        (
+            b"set k 0 0 1\r\nv\r\nget k\r\n".as_slice(),
+            b"SERVER_ERROR clock fault\r\nEND\r\n".as_slice(),
+        ),
+        (
+            b"set k 0 0 1 noreply\r\nv\r\nget k\r\n".as_slice(),
+            b"END\r\n".as_slice(),
+        ),
+    ] {
+        let mut clock = ListClock::new(vec![in alloc; None, Some(999)]?);
+        let (how, written) = served(alloc, &mut clock, input)?;
+        assert_eq!(rt; how, Ok(Ended::Ended), "at {input:?}");
+        assert_eq!(rt; written.as_slice(), output, "at {input:?}");
+    }
+    Ok(())
+}
+
+#[test]
+fn takes_one_reading_for_each_request(rt: HostRuntime) -> Result<(), Fail> {
+    let alloc = rt.alloc();
+    let mut clock = ListClock::new(vec![in alloc; Some(100), Some(109), Some(110)]?);
+    let input = b"set k 0 10 1\r\nv\r\nget k k\r\nget k\r\n".as_slice();
+    let (how, written) = served(alloc, &mut clock, input)?;
+    assert_eq!(rt; how, Ok(Ended::Ended));
+    assert_eq!(rt;
+        written.as_slice(),
+        b"STORED\r\nVALUE k 0 1\r\nv\r\nVALUE k 0 1\r\nv\r\nEND\r\nEND\r\n".as_slice()
+    );
+    Ok(())
+}
+
+/// A reader that gives one byte at a time, each a second after the one before.
+#[derive(Drop)]
+struct OneByteASecond<'a> {
+    bytes: OneByte<'a>,
+    seconds: &'a Cell<u64>,
+}
+
+impl Read for OneByteASecond<'_> {
+    fn read(&mut self, buffer: &mut [u8]) -> io::Result<usize> {
+        self.seconds.set(self.seconds.get().saturating_add(1));
+        self.bytes.read(buffer)
+    }
+}
+
+/// A clock that shows these seconds.
+#[derive(Drop)]
+struct Shown<'a>(&'a Cell<u64>);
+
+impl Clock for Shown<'_> {
+    ghost failures = { λ _. 0 };
+
+    ghost reads = { λ _ _ _. Unit {0} };
+
+    fn now(&mut self) -> Result<u64, ClockFault> {
+        Ok(self.0.get())
+    }
+}
+
+#[test]
+fn reads_the_clock_once_a_request_has_arrived(rt: HostRuntime) -> Result<(), Fail> {
+    let alloc = rt.alloc();
+    let seconds = Cell::new(100);
+    let mut node = CacheNode::new(alloc, 1)?;
+    // The request is of sixteen bytes, so it has arrived at 116.
+    let mut reader = OverReader::new(OneByteASecond {
+        bytes: OneByte(b"set k 0 5 1\r\nv\r\n".as_slice()),
+        seconds: &seconds,
+    });
+    let mut writer = OverWriter::new(Vec::new(alloc));
+    let ended = serve(
+        alloc,
+        &mut node,
+        &mut reader,
+        &mut writer,
+        &mut Shown(&seconds),
+        20,
+    );
+    assert_eq!(rt; ended, Ok(Ended::Ended));
+    let expires_at = node
+        .peek(&Key::new(alloc, b"k")?)
+        .and_then(|item| item.expires_at);
+    assert_eq!(rt; expires_at, Some(121));
+    Ok(())
+}
+
+#[test]
+fn an_answer_takes_one_write(rt: HostRuntime) -> Result<(), Fail> {
+    let alloc = rt.alloc();
+    let input = b"set k 0 0 1\r\nv\r\nget k k\r\n".as_slice();
+    for (write, how) in [
+        (1, Err(NodeError::WriteFault)),
+        (2, Err(NodeError::WriteFault)),
+        (3, Ok(Ended::Ended)),
+    ] {
+        let mut node = CacheNode::new(alloc, 1)?;
+        let mut reader = OverReader::new(input);
+        let mut writer = FailsAt::new(OverWriter::new(Vec::new(alloc)), write);
+        let ended = serve(
+            alloc,
+            &mut node,
+            &mut reader,
+            &mut writer,
+            &mut FixedClock(999),
+            10,
+        );
+        assert_eq!(rt; ended, how, "at {write}");
+    }
+    Ok(())
+}
+
+#[test]
+fn a_fault_of_a_device_leaves_what_was_done(rt: HostRuntime) -> Result<(), Fail> {
+    let alloc = rt.alloc();
+    let input = b"set a 0 0 1\r\nv\r\nset b 0 0 1\r\nw\r\nset c".as_slice();
+    for (read, write, how, output, kept) in [
+        (1, 0, Err(NodeError::ReadFault), b"".as_slice(), 0),
+        (
+            2,
+            0,
+            Err(NodeError::ReadFault),
+            b"STORED\r\nSTORED\r\n".as_slice(),
+            2,
+        ),
+        (0, 1, Err(NodeError::WriteFault), b"".as_slice(), 1),
+        (
+            0,
+            2,
+            Err(NodeError::WriteFault),
+            b"STORED\r\n".as_slice(),
+            2,
+        ),
+        (
+            0,
+            3,
+            Ok(Ended::Refused(8)),
+            b"STORED\r\nSTORED\r\n".as_slice(),
+            2,
+        ),
+    ] {
+        let mut node = CacheNode::new(alloc, 4)?;
+        let mut reader = FailsAt::new(OverReader::new(input), read);
+        let mut writer = FailsAt::new(OverWriter::new(Vec::new(alloc)), write);
+        let ended = serve(
+            alloc,
+            &mut node,
+            &mut reader,
+            &mut writer,
+            &mut FixedClock(999),
+            10,
+        );
+        assert_eq!(rt; ended, how, "at {read} and {write}");
+        assert_eq!(rt;
+            writer.into_inner().into_inner().as_slice(),
+            output,
+            "at {read} and {write}"
+        );
+        assert_eq!(rt; node.len(), kept, "at {read} and {write}");
     }
     Ok(())
 }

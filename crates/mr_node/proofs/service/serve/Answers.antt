@@ -1,9 +1,10 @@
-use Rattle.std.proofs.Common.{◌≡◌, ◌∙◌, ◌<◌, ℕ, List, length, length-append, Ok, Err, refl, ap, arith}
+use Rattle.std.proofs.Common.{◌≡◌, ◌≢◌, ◌∙◌, ◌<◌, ℕ, List, length, length-append, Ok, Err, refl, ap, arith}
 use Rattle.std.proofs.lemmas.Result.{err_from_is_err_and}
-use Rattle.mr_node.specs.declared.error.NodeError.TheVariants.{WriteFault}
+use Rattle.mr_node.specs.declared.error.NodeError.{NodeError}
+use Rattle.mr_node.specs.declared.error.NodeError.TheVariants.{ReadFault, WriteFault}
 use Rattle.mr_node.specs.declared.service.next.Step.{Step}
 use Rattle.mr_node.specs.declared.service.next.Step.TheVariants.{Served, Waits, Ends}
-use Rattle.mr_node.proofs.SessionLemmas.{begins_so, stepped, goes_on, served_without_fault, waits_without_fault, waits_for, writer_failed, shrinks, ends, all_read, spent, step_fails, fed, read_fails, failed_read_within}
+use Rattle.mr_node.proofs.SessionLemmas.{begins_so, stepped, goes_on, served_without_fault, waits_without_fault, waits_for, writer_failed, writer_well, ended_without_fault, reader_well, shrinks, ends, all_read, spent, step_fails, fed, read_fails, failed_read_within}
 use Rattle.mr_node.proofs.service.serve.Goals as goal
 
 pub session-init : goal.session-init
@@ -125,3 +126,47 @@ session-smaller g c =
     let was = ap (λ (l : List ℕ). length l) c.session.invariant.so.becomes.stands in
     let is = ap (λ (l : List ℕ). length l) piece.3.stands in
     omega (arith, length-append c.session.invariant.so.rest piece.0)
+
+pub returns-in_err-step-clause-no_write_fault : goal.returns-in_err-step-clause-no_write_fault
+returns-in_err-step-clause-no_write_fault g c =
+    let p = err_from_is_err_and c.from_residual.result c.from_residual.ensures.1 in
+    let well : c.in_err-step.field-0.0 ≢ WriteFault → g.W.Sink.failures c.step.new.writer ≡ g.W.Sink.failures c.session.writer =
+    writer_well _ _ _ _ _ _ _ _ (g.W.Sink.written c.step.new.writer) (g.W.Sink.failures c.session.writer) (g.W.Sink.failures c.step.new.writer) _ c.step.new.clock _ c.step.new.node _ c.step.new.requests _ c.session.invariant.so c.in_err-step.field-0.0
+    (stepped _ _ _ _ _ _ _ _ (g.W.Sink.written c.step.new.writer) (g.W.Sink.failures c.session.writer) (g.W.Sink.failures c.step.new.writer) _ c.step.new.clock _ c.step.new.node _ c.step.new.requests _ c.session.invariant.so
+    (Err c.in_err-step.field-0.0) (Err c.in_err-step.field-0.0) (refl) (c.in_err-step.ensures c.session.invariant.so.rest c.session.invariant.so.becomes.stands)) in
+    rw (p.1, p.2) (λ other. well (λ e. other (ap (λ (x : NodeError). Err x) e)) ∙ c.session.invariant.writes)
+
+pub returns-in-Ends-clause-no_write_fault : goal.returns-in-Ends-clause-no_write_fault
+returns-in-Ends-clause-no_write_fault g c other =
+    ended_without_fault _ _ _ _ _ _ _ _ (g.W.Sink.written c.step.new.writer) (g.W.Sink.failures c.session.writer) (g.W.Sink.failures c.step.new.writer) _ c.step.new.clock _ c.step.new.node _ c.step.new.requests _ c.session.invariant.so c.in-Ends.how
+    (stepped _ _ _ _ _ _ _ _ (g.W.Sink.written c.step.new.writer) (g.W.Sink.failures c.session.writer) (g.W.Sink.failures c.step.new.writer) _ c.step.new.clock _ c.step.new.node _ c.step.new.requests _ c.session.invariant.so
+    (Ok c.in_ok-step.field-0) (Ok (Ends c.in-Ends.how)) (ap (λ (s : Step). Ok s) c.in-Ends.is) (c.in_ok-step.ensures c.session.invariant.so.rest c.session.invariant.so.becomes.stands)) ∙ c.session.invariant.writes
+
+pub returns-then-ended-clause-no_write_fault : goal.returns-then-ended-clause-no_write_fault
+returns-then-ended-clause-no_write_fault g c other =
+    waits_without_fault _ _ _ _ _ _ _ _ (g.W.Sink.written c.step.new.writer) (g.W.Sink.failures c.session.writer) (g.W.Sink.failures c.step.new.writer) _ c.step.new.clock _ c.step.new.node _ c.step.new.requests _ c.session.invariant.so
+    (stepped _ _ _ _ _ _ _ _ (g.W.Sink.written c.step.new.writer) (g.W.Sink.failures c.session.writer) (g.W.Sink.failures c.step.new.writer) _ c.step.new.clock _ c.step.new.node _ c.step.new.requests _ c.session.invariant.so
+    (Ok c.in_ok-step.field-0) (Ok Waits) (ap (λ (s : Step). Ok s) c.in-Waits.is) (c.in_ok-step.ensures c.session.invariant.so.rest c.session.invariant.so.becomes.stands)) ∙ c.session.invariant.writes
+
+pub returns-then-turns_left-eq0-clause-no_write_fault : goal.returns-then-turns_left-eq0-clause-no_write_fault
+returns-then-turns_left-eq0-clause-no_write_fault g c other =
+    waits_without_fault _ _ _ _ _ _ _ _ (g.W.Sink.written c.step.new.writer) (g.W.Sink.failures c.session.writer) (g.W.Sink.failures c.step.new.writer) _ c.step.new.clock _ c.step.new.node _ c.step.new.requests _ c.session.invariant.so
+    (stepped _ _ _ _ _ _ _ _ (g.W.Sink.written c.step.new.writer) (g.W.Sink.failures c.session.writer) (g.W.Sink.failures c.step.new.writer) _ c.step.new.clock _ c.step.new.node _ c.step.new.requests _ c.session.invariant.so
+    (Ok c.in_ok-step.field-0) (Ok Waits) (ap (λ (s : Step). Ok s) c.in-Waits.is) (c.in_ok-step.ensures c.session.invariant.so.rest c.session.invariant.so.becomes.stands)) ∙ c.session.invariant.writes
+
+pub returns-in_err-ended-in-Waits-clause-no_write_fault : goal.returns-in_err-ended-in-Waits-clause-no_write_fault
+returns-in_err-ended-in-Waits-clause-no_write_fault g c other =
+    waits_without_fault _ _ _ _ _ _ _ _ (g.W.Sink.written c.step.new.writer) (g.W.Sink.failures c.session.writer) (g.W.Sink.failures c.step.new.writer) _ c.step.new.clock _ c.step.new.node _ c.step.new.requests _ c.session.invariant.so
+    (stepped _ _ _ _ _ _ _ _ (g.W.Sink.written c.step.new.writer) (g.W.Sink.failures c.session.writer) (g.W.Sink.failures c.step.new.writer) _ c.step.new.clock _ c.step.new.node _ c.step.new.requests _ c.session.invariant.so
+    (Ok c.in_ok-step.field-0) (Ok Waits) (ap (λ (s : Step). Ok s) c.in-Waits.is) (c.in_ok-step.ensures c.session.invariant.so.rest c.session.invariant.so.becomes.stands)) ∙ c.session.invariant.writes
+
+pub returns-in_err-ended-in-Waits-clause-no_read_fault : goal.returns-in_err-ended-in-Waits-clause-no_read_fault
+returns-in_err-ended-in-Waits-clause-no_read_fault g c =
+    let step = stepped _ _ _ _ _ _ _ _ (g.W.Sink.written c.step.new.writer) (g.W.Sink.failures c.session.writer) (g.W.Sink.failures c.step.new.writer) _ c.step.new.clock _ c.step.new.node _ c.step.new.requests _ c.session.invariant.so
+    (Ok c.in_ok-step.field-0) (Ok Waits) (ap (λ (s : Step). Ok s) c.in-Waits.is) (c.in_ok-step.ensures c.session.invariant.so.rest c.session.invariant.so.becomes.stands) in
+    let p = err_from_is_err_and c.from_residual-in_err-ended-in-Waits.result c.from_residual-in_err-ended-in-Waits.ensures.1 in
+    let well : c.in_err-ended-in-Waits.field-0.0 ≢ ReadFault → g.S.Source.failures c.read_piece.new.reader ≡ g.S.Source.failures c.session.reader =
+    reader_well (length c.session.buffer) c.session.invariant.so.rest c.read_piece.new.requests (g.S.Source.taken c.session.reader)
+    (g.S.Source.taken c.read_piece.new.reader) (g.S.Source.left c.read_piece.new.reader) (g.S.Source.failures c.session.reader) (g.S.Source.failures c.read_piece.new.reader)
+    c.in_err-ended-in-Waits.field-0.0 (c.in_err-ended-in-Waits.ensures c.session.invariant.so.rest (waits_for _ _ _ _ _ _ _ _ (g.W.Sink.written c.step.new.writer) (g.W.Sink.failures c.session.writer) (g.W.Sink.failures c.step.new.writer) _ c.step.new.clock _ c.step.new.node _ c.step.new.requests _ c.session.invariant.so step).stands) in
+    rw (p.1, p.2) (λ other. well (λ e. other (ap (λ (x : NodeError). Err x) e)) ∙ c.session.invariant.reads)
