@@ -40,9 +40,12 @@ pub fn serve<P: Perform, S: Source, W: Sink, C: Clock>(
     ensures service { ServiceIs (Outcome C.reads C.failures P.did P.refused) (S.taken reader.old) (S.taken reader.new) (S.left reader.new)
         (W.written writer.old) (W.written writer.new) clock.old node.old clock.new node.new result }
 
-    // No read brings more than the buffer holds. TurnsSpent comes after all reads that are allowed, each of which brought a byte.
-    ensures reads { length (S.taken reader.new) ≤ length (S.taken reader.old) + turns * READ_LENGTH }
+    // At most `turns` reads are made. TurnsSpent comes after all of them, each of which brought a byte. No read brings more
+    // than the buffer holds.
+    ensures reads { S.reads reader.new ≤ S.reads reader.old + turns }
+    ensures spent { result ≡ Err NodeError.TurnsSpent → S.reads reader.new ≡ S.reads reader.old + turns }
     ensures turns { result ≡ Err NodeError.TurnsSpent → length (S.taken reader.old) + turns ≤ length (S.taken reader.new) }
+    ensures bytes { length (S.taken reader.new) ≤ length (S.taken reader.old) + turns * READ_LENGTH }
 
     // A fault is answered only where that device failed, and none is passed over.
     ensures read_fault { result ≡ Err NodeError.ReadFault → S.failures reader.old < S.failures reader.new }

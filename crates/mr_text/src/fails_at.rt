@@ -64,6 +64,8 @@ impl<D: Source> Source for FailsAt<D> {
 
     ghost left = { λ f. D.left f.inner };
 
+    ghost reads = { λ f. D.reads f.inner + f.own_failures };
+
     ghost failures = { λ f. D.failures f.inner + f.own_failures };
 
     fn read(&mut self, buffer: &mut [u8]) -> Result<usize, ReadFault>
@@ -72,6 +74,7 @@ impl<D: Source> Source for FailsAt<D> {
         ensures taken { MatchResult result
             (λ count. D.taken self.new.inner ≡ D.taken self.old.inner ++ take count buffer.new)
             (λ _. D.taken self.new.inner ≡ D.taken self.old.inner) }
+        ensures reads { D.reads self.new.inner + self.new.own_failures ≡ D.reads self.old.inner + self.old.own_failures + 1 }
         ensures failures { MatchResult result
             (λ _. D.failures self.new.inner + self.new.own_failures ≡ D.failures self.old.inner + self.old.own_failures)
             (λ _. D.failures self.old.inner + self.old.own_failures < D.failures self.new.inner + self.new.own_failures) }

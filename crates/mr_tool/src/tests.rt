@@ -141,6 +141,8 @@ impl<'a> Source for ByteByByte<'a> {
 
     ghost left = { λ s. ⟦<OverReader<&'a [u8]> as Source>⟧.left s.bytes };
 
+    ghost reads = { λ s. ⟦<OverReader<&'a [u8]> as Source>⟧.reads s.bytes };
+
     ghost failures = { λ s. ⟦<OverReader<&'a [u8]> as Source>⟧.failures s.bytes };
 
     fn read(&mut self, buffer: &mut [u8]) -> Result<usize, ReadFault> {

@@ -1,4 +1,4 @@
-ghost use Rattle.std.specs.Prelude.{◌≡◌, ◌<◌, ℕ, List, length, false};
+ghost use Rattle.std.specs.Prelude.{◌≡◌, ◌+◌, ◌<◌, ℕ, List, length, false};
 ghost use Rattle.mr_text.specs.Stream.{StandsFor};
 ghost use Rattle.mr_node.specs.Step.{PieceIs};
 
@@ -14,7 +14,8 @@ pub(crate) fn read_piece<S: Source>(
     requires room { 0 < length buffer.old }
     requires not_ended { requests.old.ended ≡ false }
     requires not_closed { requests.old.closed ≡ false }
-    ensures { (rest : List ℕ) → StandsFor requests.old rest
+    ensures once { S.reads reader.new ≡ S.reads reader.old + 1 }
+    ensures piece { (rest : List ℕ) → StandsFor requests.old rest
         → PieceIs (length buffer.old) rest requests.new (S.taken reader.old) (S.taken reader.new) (S.left reader.new) (S.failures reader.old) (S.failures reader.new) result }
 {
     let Ok(count) = reader.read(buffer) else {

@@ -10,6 +10,7 @@ use Rattle.mr_node.proofs.service.serve.Goals as goal
 pub session-init : goal.session-init
 session-init g c = record {
   so = begins_so _ _ _ _ _ _ c.new-requests.result c.new-requests.ensures;
+  counted = refl;
   brought = λ e. omega arith;
   within = omega arith;
   reads = refl;
@@ -51,6 +52,7 @@ session-preserved-in-Served g c =
     (Ok c.in_ok-step.field-0) (Ok Served) (ap (λ (s : Step). Ok s) c.in-Served.is) (c.in_ok-step.ensures c.session.invariant.so.rest c.session.invariant.so.becomes.stands) in
     record {
       so = goes_on _ _ _ _ _ _ _ _ (g.W.Sink.written c.step.new.writer) (g.W.Sink.failures c.session.writer) (g.W.Sink.failures c.step.new.writer) _ c.step.new.clock _ c.step.new.node _ c.step.new.requests _ c.session.invariant.so step;
+      counted = c.session.invariant.counted;
       brought = c.session.invariant.brought;
       within = c.session.invariant.within;
       reads = c.session.invariant.reads;
@@ -83,17 +85,18 @@ returns-in_err-ended-in-Waits-clause-service g c =
     rw (p.1, p.2) (read_fails _ _ _ _ _ _ _ _ (g.W.Sink.written c.step.new.writer) (g.W.Sink.failures c.session.writer) (g.W.Sink.failures c.step.new.writer) _ c.step.new.clock _ c.step.new.node _ c.step.new.requests _ c.session.invariant.so (length c.session.buffer)
     (g.S.Source.taken c.read_piece.new.reader) (g.S.Source.left c.read_piece.new.reader) (g.S.Source.failures c.session.reader) (g.S.Source.failures c.read_piece.new.reader)
     c.read_piece.new.requests c.in_err-ended-in-Waits.field-0.0 step
-    (c.in_err-ended-in-Waits.ensures c.session.invariant.so.rest (waits_for _ _ _ _ _ _ _ _ (g.W.Sink.written c.step.new.writer) (g.W.Sink.failures c.session.writer) (g.W.Sink.failures c.step.new.writer) _ c.step.new.clock _ c.step.new.node _ c.step.new.requests _ c.session.invariant.so step).stands))
+    (c.in_err-ended-in-Waits.ensures.piece c.session.invariant.so.rest (waits_for _ _ _ _ _ _ _ _ (g.W.Sink.written c.step.new.writer) (g.W.Sink.failures c.session.writer) (g.W.Sink.failures c.step.new.writer) _ c.step.new.clock _ c.step.new.node _ c.step.new.requests _ c.session.invariant.so step).stands))
 
 pub session-preserved : goal.session-preserved
 session-preserved g c =
     let step = stepped _ _ _ _ _ _ _ _ (g.W.Sink.written c.step.new.writer) (g.W.Sink.failures c.session.writer) (g.W.Sink.failures c.step.new.writer) _ c.step.new.clock _ c.step.new.node _ c.step.new.requests _ c.session.invariant.so
     (Ok c.in_ok-step.field-0) (Ok Waits) (ap (λ (s : Step). Ok s) c.in-Waits.is) (c.in_ok-step.ensures c.session.invariant.so.rest c.session.invariant.so.becomes.stands) in
-    let piece = c.in_ok-ended-in-Waits.ensures c.session.invariant.so.rest (waits_for _ _ _ _ _ _ _ _ (g.W.Sink.written c.step.new.writer) (g.W.Sink.failures c.session.writer) (g.W.Sink.failures c.step.new.writer) _ c.step.new.clock _ c.step.new.node _ c.step.new.requests _ c.session.invariant.so step).stands in
+    let piece = c.in_ok-ended-in-Waits.ensures.piece c.session.invariant.so.rest (waits_for _ _ _ _ _ _ _ _ (g.W.Sink.written c.step.new.writer) (g.W.Sink.failures c.session.writer) (g.W.Sink.failures c.step.new.writer) _ c.step.new.clock _ c.step.new.node _ c.step.new.requests _ c.session.invariant.so step).stands in
     record {
       so = fed _ _ _ _ _ _ _ _ (g.W.Sink.written c.step.new.writer) (g.W.Sink.failures c.session.writer) (g.W.Sink.failures c.step.new.writer) _ c.step.new.clock _ c.step.new.node _ c.step.new.requests _ c.session.invariant.so (length c.session.buffer)
           (g.S.Source.taken c.read_piece.new.reader) (g.S.Source.left c.read_piece.new.reader) (g.S.Source.failures c.session.reader) (g.S.Source.failures c.read_piece.new.reader)
           c.read_piece.new.requests c.in_ok-ended-in-Waits.ended step piece;
+      counted = (let before = c.session.invariant.counted in let one = c.read_piece.ensures.once in omega arith);
       brought = λ e.
           let some = piece.4 e in
           let before = c.session.invariant.brought c.if-ended.false in
@@ -107,13 +110,13 @@ session-preserved g c =
       writes = waits_without_fault _ _ _ _ _ _ _ _ (g.W.Sink.written c.step.new.writer) (g.W.Sink.failures c.session.writer) (g.W.Sink.failures c.step.new.writer) _ c.step.new.clock _ c.step.new.node _ c.step.new.requests _ c.session.invariant.so step ∙ c.session.invariant.writes;
     }
 
-pub returns-in_err-ended-in-Waits-clause-reads : goal.returns-in_err-ended-in-Waits-clause-reads
-returns-in_err-ended-in-Waits-clause-reads g c =
+pub returns-in_err-ended-in-Waits-clause-bytes : goal.returns-in_err-ended-in-Waits-clause-bytes
+returns-in_err-ended-in-Waits-clause-bytes g c =
     let step = stepped _ _ _ _ _ _ _ _ (g.W.Sink.written c.step.new.writer) (g.W.Sink.failures c.session.writer) (g.W.Sink.failures c.step.new.writer) _ c.step.new.clock _ c.step.new.node _ c.step.new.requests _ c.session.invariant.so
     (Ok c.in_ok-step.field-0) (Ok Waits) (ap (λ (s : Step). Ok s) c.in-Waits.is) (c.in_ok-step.ensures c.session.invariant.so.rest c.session.invariant.so.becomes.stands) in
     let few = failed_read_within (length c.session.buffer) c.session.invariant.so.rest c.read_piece.new.requests (g.S.Source.taken c.session.reader)
     (g.S.Source.taken c.read_piece.new.reader) (g.S.Source.left c.read_piece.new.reader) (g.S.Source.failures c.session.reader) (g.S.Source.failures c.read_piece.new.reader)
-    c.in_err-ended-in-Waits.field-0.0 (c.in_err-ended-in-Waits.ensures c.session.invariant.so.rest (waits_for _ _ _ _ _ _ _ _ (g.W.Sink.written c.step.new.writer) (g.W.Sink.failures c.session.writer) (g.W.Sink.failures c.step.new.writer) _ c.step.new.clock _ c.step.new.node _ c.step.new.requests _ c.session.invariant.so step).stands) in
+    c.in_err-ended-in-Waits.field-0.0 (c.in_err-ended-in-Waits.ensures.piece c.session.invariant.so.rest (waits_for _ _ _ _ _ _ _ _ (g.W.Sink.written c.step.new.writer) (g.W.Sink.failures c.session.writer) (g.W.Sink.failures c.step.new.writer) _ c.step.new.clock _ c.step.new.node _ c.step.new.requests _ c.session.invariant.so step).stands) in
     let before = c.session.invariant.within in
     omega arith
 
@@ -121,7 +124,7 @@ pub session-smaller : goal.session-smaller
 session-smaller g c =
     let step = stepped _ _ _ _ _ _ _ _ (g.W.Sink.written c.step.new.writer) (g.W.Sink.failures c.session.writer) (g.W.Sink.failures c.step.new.writer) _ c.step.new.clock _ c.step.new.node _ c.step.new.requests _ c.session.invariant.so
     (Ok c.in_ok-step.field-0) (Ok Waits) (ap (λ (s : Step). Ok s) c.in-Waits.is) (c.in_ok-step.ensures c.session.invariant.so.rest c.session.invariant.so.becomes.stands) in
-    let piece = c.in_ok-ended-in-Waits.ensures c.session.invariant.so.rest (waits_for _ _ _ _ _ _ _ _ (g.W.Sink.written c.step.new.writer) (g.W.Sink.failures c.session.writer) (g.W.Sink.failures c.step.new.writer) _ c.step.new.clock _ c.step.new.node _ c.step.new.requests _ c.session.invariant.so step).stands in
+    let piece = c.in_ok-ended-in-Waits.ensures.piece c.session.invariant.so.rest (waits_for _ _ _ _ _ _ _ _ (g.W.Sink.written c.step.new.writer) (g.W.Sink.failures c.session.writer) (g.W.Sink.failures c.step.new.writer) _ c.step.new.clock _ c.step.new.node _ c.step.new.requests _ c.session.invariant.so step).stands in
     let most = piece.2 in
     let was = ap (λ (l : List ℕ). length l) c.session.invariant.so.becomes.stands in
     let is = ap (λ (l : List ℕ). length l) piece.3.stands in
@@ -168,5 +171,5 @@ returns-in_err-ended-in-Waits-clause-no_read_fault g c =
     let well : c.in_err-ended-in-Waits.field-0.0 ≢ ReadFault → g.S.Source.failures c.read_piece.new.reader ≡ g.S.Source.failures c.session.reader =
     reader_well (length c.session.buffer) c.session.invariant.so.rest c.read_piece.new.requests (g.S.Source.taken c.session.reader)
     (g.S.Source.taken c.read_piece.new.reader) (g.S.Source.left c.read_piece.new.reader) (g.S.Source.failures c.session.reader) (g.S.Source.failures c.read_piece.new.reader)
-    c.in_err-ended-in-Waits.field-0.0 (c.in_err-ended-in-Waits.ensures c.session.invariant.so.rest (waits_for _ _ _ _ _ _ _ _ (g.W.Sink.written c.step.new.writer) (g.W.Sink.failures c.session.writer) (g.W.Sink.failures c.step.new.writer) _ c.step.new.clock _ c.step.new.node _ c.step.new.requests _ c.session.invariant.so step).stands) in
+    c.in_err-ended-in-Waits.field-0.0 (c.in_err-ended-in-Waits.ensures.piece c.session.invariant.so.rest (waits_for _ _ _ _ _ _ _ _ (g.W.Sink.written c.step.new.writer) (g.W.Sink.failures c.session.writer) (g.W.Sink.failures c.step.new.writer) _ c.step.new.clock _ c.step.new.node _ c.step.new.requests _ c.session.invariant.so step).stands) in
     rw (p.1, p.2) (λ other. well (λ e. other (ap (λ (x : NodeError). Err x) e)) ∙ c.session.invariant.reads)

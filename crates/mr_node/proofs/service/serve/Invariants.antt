@@ -9,6 +9,8 @@ invariant-session g l = record {
   so : UnderWay (Outcome g.C.Clock.reads g.C.Clock.failures g.P.Perform.did g.P.Perform.refused)
       (g.S.Source.taken l.initial.reader) (g.W.Sink.written l.initial.writer) l.initial.clock l.initial.node
       (g.S.Source.taken l.reader) (g.S.Source.left l.reader) (g.W.Sink.written l.writer) l.clock l.node l.requests l.ended;
+  -- each turn is one read
+  counted : g.S.Source.reads l.reader + l.turns_left ≡ g.S.Source.reads l.initial.reader + l.fn.turns;
   -- each read but that of the end brought a byte, and none more than it may
   brought : l.ended ≡ false → length (g.S.Source.taken l.initial.reader) + l.fn.turns ≤ length (g.S.Source.taken l.reader) + l.turns_left;
   within : length (g.S.Source.taken l.reader) + l.turns_left * 4096 ≤ length (g.S.Source.taken l.initial.reader) + l.fn.turns * 4096;
