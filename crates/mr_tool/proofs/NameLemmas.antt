@@ -1,16 +1,15 @@
 -- What the pieces of a word between its commas say of the names that are made of them.
-use Rattle.std.proofs.Common.{◌≡◌, ℕ, ◌+◌, ◌<◌, ◌⊎◌, List, [], ◌∷◌, ◌++◌, length, take, map, slice_index_or, Err, arith, sym, ◌∙◌, ap, refl, inl, inr}
+use Rattle.std.proofs.Common.{◌≡◌, ℕ, ◌+◌, ◌<◌, List, [], ◌∷◌, ◌++◌, length, take, map, slice_index_or, Err, sym, ◌∙◌, ap, refl, inl, inr}
 use Rattle.std.specs.Borrow.{Bor}
-use Rattle.std.specs.List.{All, Any}
+use Rattle.std.specs.List.{All}
 use Rattle.std.proofs.lemmas.List.{get_or-map, length-map, take_more}
 use Rattle.std.proofs.lemmas.List.Elements.{All-push}
 use Rattle.mr_pools.specs.Making.{MadeWhere}
 use Rattle.mr_pools.specs.NodeName.{IsNodeName}
 use Rattle.mr_pools.specs.declared.error.PoolError.{PoolError}
 use Rattle.mr_pools.specs.declared.error.PoolError.TheVariants.{EmptyPool, TooManyNodes, BadName, RepeatedName, SharedName, OutOfMemory}
-use Rattle.mr_tool.specs.declared.fault.Fault.{Fault}
-use Rattle.mr_tool.specs.declared.fault.Fault.TheVariants.{Memory, Input, Output, Text, Pools, Phases}
-use Rattle.mr_tool.specs.PoolWords.{names_in, HasBadName, IsNamesFault}
+use Rattle.mr_tool.specs.declared.fault.Fault.TheVariants.{Pools}
+use Rattle.mr_tool.specs.PoolWords.{names_in, IsNamesFault}
 
 -- the piece at an index is the name there
 pub record IsPieceAt (names : List (List ℕ)) (i : ℕ) (piece : List ℕ) : Type 0 where

@@ -1,7 +1,5 @@
 -- What each step of a plan says of the whole.
-use Rattle.std.proofs.Common.{◌≡◌, ℕ, ◌<◌, List, ◌++◌, Ok, Err, refl}
-use Rattle.mr_phases.specs.declared.error.ScheduleError.{ScheduleError}
-use Rattle.mr_text.specs.declared.request.Request.{Request}
+use Rattle.std.proofs.Common.{◌≡◌, ℕ, List, Ok, Err, refl}
 use Rattle.mr_tool.specs.declared.fault.Fault.{Fault}
 use Rattle.mr_tool.specs.declared.fault.Fault.TheVariants.{Memory, Input, Output, Text, Pools, Phases}
 use Rattle.mr_tool.specs.declared.words.Wanted.{Wanted}
@@ -10,7 +8,7 @@ use Rattle.mr_pools.specs.Pool.{AreApart}
 use Rattle.mr_pools.specs.Routing.{RoutingView, IsRoutingOf}
 use Rattle.mr_pools.specs.declared.error.PoolError.{PoolError}
 use Rattle.mr_tool.specs.PoolWords.{names_in, IsPoolNamed}
-use Rattle.mr_tool.specs.Run.{routing_of, Device, device, HasRouting, RefusesRouting, HasSchedule, RefusesSchedule, PlanGives}
+use Rattle.mr_tool.specs.Run.{routing_of, Device, device, HasRouting, RefusesRouting, HasSchedule, PlanGives}
 
 pub routing_refused : (plan : Wanted) (input output : Device) (fault : Fault) → RefusesRouting plan fault
     → PlanGives plan input input output output (Err fault)

@@ -1,12 +1,11 @@
 -- The first request of an input.
-use Rattle.std.specs.Prelude.{◌≡◌, ℕ, ◌<◌, ◌⊎◌, true, false, List, [], ◌++◌, Option, Some, None, Result, Ok, Err}
+use Rattle.std.specs.Prelude.{◌≡◌, ℕ, ◌<◌, false, List, ◌++◌, Option, Some, None, Result, Ok, Err}
 use Rattle.mr_text.specs.Requests.{SpellsRequest, RefusesRequest}
 use Rattle.mr_text.specs.Stream.{ReaderView, Becomes, BeginsWith, IsUnfinished}
 use Rattle.mr_text.specs.declared.request.Request.{Request}
-use Rattle.mr_text.specs.declared.error.TextError.{TextError}
-use Rattle.mr_text.specs.declared.error.TextError.TheVariants.{Truncated, Closed, OutOfMemory}
+use Rattle.mr_text.specs.declared.error.TextError.TheVariants.{Truncated, OutOfMemory}
 use Rattle.mr_tool.specs.declared.fault.Fault.{Fault}
-use Rattle.mr_tool.specs.declared.fault.Fault.TheVariants.{Memory, Input, Output, Text, Pools, Phases}
+use Rattle.mr_tool.specs.declared.fault.Fault.TheVariants.{Input, Text}
 
 -- no request is whole, and nothing is refused
 abbrev pub HoldsNoRequest : List ℕ → Type 0

@@ -3,10 +3,9 @@ use Rattle.std.specs.Prelude.{◌≡◌, ℕ, ◌==◌, ◌⊎◌, List, All, An
 use Rattle.std.specs.List.{slice_split}
 use Rattle.mr_pools.specs.NodeName.{IsNodeName}
 use Rattle.mr_pools.specs.Pool.{IsPool, IsPoolOf}
-use Rattle.mr_pools.specs.declared.error.PoolError.{PoolError}
-use Rattle.mr_pools.specs.declared.error.PoolError.TheVariants.{EmptyPool, TooManyNodes, BadName, RepeatedName, SharedName, OutOfMemory}
+use Rattle.mr_pools.specs.declared.error.PoolError.TheVariants.{BadName, OutOfMemory}
 use Rattle.mr_tool.specs.declared.fault.Fault.{Fault}
-use Rattle.mr_tool.specs.declared.fault.Fault.TheVariants.{Memory, Input, Output, Text, Pools, Phases}
+use Rattle.mr_tool.specs.declared.fault.Fault.TheVariants.{Memory, Pools}
 
 -- the names in a word: what stands between its commas, empty names too
 abbrev pub names_in : List ℕ → List (List ℕ)

@@ -5,7 +5,7 @@ use Rattle.mr_pools.specs.NodeName.{IsNodeName}
 use Rattle.mr_pools.specs.Pool.{IsPool, AreApart}
 use Rattle.mr_pools.specs.Routing.{RoutingView, routing_between}
 use Rattle.mr_pools.specs.declared.error.PoolError.{PoolError}
-use Rattle.mr_pools.specs.declared.error.PoolError.TheVariants.{EmptyPool, TooManyNodes, BadName, RepeatedName, SharedName, OutOfMemory}
+use Rattle.mr_pools.specs.declared.error.PoolError.TheVariants.{SharedName}
 use Rattle.mr_phases.specs.Schedule.{one_hop}
 use Rattle.mr_phases.specs.declared.error.ScheduleError.{ScheduleError}
 use Rattle.mr_phases.specs.declared.error.ScheduleError.TheVariants.{ZeroInterval, TooLate}
@@ -16,7 +16,8 @@ use Rattle.mr_tool.specs.Fault.{fault_line}
 use Rattle.mr_tool.specs.FirstRequest.{BeginsWithRequest, GetsRefusal}
 use Rattle.mr_tool.specs.PlanText.{plan_text}
 use Rattle.mr_tool.specs.PoolWords.{names_in, IsPoolNamed}
-use Rattle.mr_tool.specs.Words.{SaysPlan}
+use Rattle.mr_tool.specs.Command.{NamesAt, AreHashes}
+use Rattle.mr_tool.specs.Words.{SaysPlan, SayNoPlan}
 
 -- the status of a run that did what was wanted
 abbrev pub DONE : ℕ
@@ -113,15 +114,26 @@ EndsWith (Ok _) status faults faults' = (status ≡ DONE) × (faults' ≡ faults
 EndsWith (Err fault) status faults faults' = (status ≡ FAULT) × Prints faults faults' (fault_line fault)
 
 -- the words say a plan, and it was run
-pub record RunsPlan (words : List (List ℕ)) (input input' output output' faults faults' : Device) (status : ℕ) : Type 0 where
+pub record RunsPlan (hashes : NamesAt) (words : List (List ℕ)) (input input' output output' faults faults' : Device) (status : ℕ) : Type 0 where
   pub wanted : Wanted
-  pub says : SaysPlan words wanted
+  pub says : SaysPlan hashes words wanted
   pub result : Result (Unit {0}) Fault
   pub gives : PlanGives wanted input input' output output' result
   pub ends : EndsWith result status faults faults'
 
--- the words say no command, or memory was refused while they were read: nothing is read or written
-pub record RunsNothing (input input' output output' faults faults' : Device) (status : ℕ) : Type 0 where
+-- how a run ends that reads and writes nothing: the words say no plan, or memory was refused while they were read
+abbrev pub EndsAtWords : NamesAt → List (List ℕ) → ℕ → Device → Device → Type 0
+EndsAtWords hashes words status faults faults' =
+    ((status ≡ WRONG_WORDS) × SayNoPlan hashes words) ⊎ EndsWith (Err Memory) status faults faults'
+
+pub record RunsNothing (hashes : NamesAt) (words : List (List ℕ)) (input input' output output' faults faults' : Device) (status : ℕ) : Type 0 where
   pub unread : input' ≡ input
   pub unwritten : output' ≡ output
-  pub ends : (status ≡ WRONG_WORDS) ⊎ EndsWith (Err Memory) status faults faults'
+  pub ends : EndsAtWords hashes words status faults faults'
+
+-- the run of a program with these words
+abbrev pub Runs : List (List ℕ) → (input input' output output' faults faults' : Device) → ℕ → Type 0
+Runs words input input' output output' faults faults' status =
+    (hashes : NamesAt) × AreHashes hashes
+    × (RunsPlan hashes words input input' output output' faults faults' status
+    ⊎ RunsNothing hashes words input input' output output' faults faults' status)

@@ -1,11 +1,12 @@
 -- What the words of the command line say.
-use Rattle.std.specs.Prelude.{◌≡◌, ℕ, ◌<◌, ◌^◌, List, Option, Some, codes}
+use Rattle.std.specs.Prelude.{◌≡◌, ◌≢◌, ℕ, ◌<◌, ◌^◌, ⊤, List, [], ◌∷◌, Option, Some, Result, Ok, Err, codes}
 use Rattle.std.specs.Str.Parse.{IsNumeral, digits_value, without_leading_plus}
-use Rattle.clap.specs.Words.{Row, first_of, one_of, subcommand_of}
-use Rattle.clap.specs.declared.builder.value_parser.ValueParser.{ValueParser}
-use Rattle.mr_tool.specs.Command.{program_app}
+use Rattle.clap.specs.Words.{Row, Text, fault_of, first_of, one_of, subcommand_of}
+use Rattle.mr_tool.specs.Command.{NamesAt, AreHashes, program_app}
 use Rattle.mr_pools.specs.Hash.{name_of_hash}
 use Rattle.mr_tool.specs.declared.words.Wanted.{Wanted}
+use Rattle.mr_tool.specs.declared.words.WordsFault.{WordsFault}
+use Rattle.mr_tool.specs.declared.words.WordsFault.TheVariants.{Wrong, Memory}
 
 -- the word is this number, in decimal digits, with or without a plus sign before them
 pub record IsNumberWord (word : List ℕ) (number : ℕ) : Type 0 where
@@ -28,9 +29,56 @@ pub record HasValues (rows : List Row) (plan : Wanted) : Type 0 where
   pub at_row : one_of (codes "at") rows ≡ Some at
   pub at_is : IsNumberWord at plan.at
 
--- the words are the command `plan`, and it has these values
-pub record SaysPlan (words : List (List ℕ)) (plan : Wanted) : Type 0 where
-  pub hash_parser : Option ValueParser
-  pub rows : List Row
-  pub reads : subcommand_of (program_app hash_parser) words ≡ Some (codes "plan", rows)
-  pub has : HasValues rows plan
+-- the command that was found is `plan`, and it has these values
+abbrev pub FindsPlan : Option (Text × List Row) → Wanted → Type 0
+FindsPlan found plan = (rows : List Row) × (found ≡ Some (codes "plan", rows)) × HasValues rows plan
+
+-- the program's command line finds no fault in the words, and they are the command `plan` with these values
+pub record SaysPlan (hashes : NamesAt) (words : List Text) (plan : Wanted) : Type 0 where
+  pub fits : fault_of (program_app hashes) words ≡ []
+  pub finds : FindsPlan (subcommand_of (program_app hashes) words) plan
+
+-- the words say no plan
+abbrev pub SayNoPlan : NamesAt → List Text → Type 0
+SayNoPlan hashes words = (plan : Wanted) → ¬ SaysPlan hashes words plan
+
+-- what comes of reading words: the plan that they say, or that they say none, unless memory is refused
+abbrev pub ReadsWith : NamesAt → List Text → Result Wanted WordsFault → Type 0
+ReadsWith hashes words (Ok plan) = SaysPlan hashes words plan
+ReadsWith hashes words (Err (Wrong error)) = SayNoPlan hashes words
+ReadsWith hashes words (Err Memory) = ⊤
+
+abbrev pub Reads : List Text → Result Wanted WordsFault → Type 0
+Reads words result = (hashes : NamesAt) × AreHashes hashes × ReadsWith hashes words result
+
+-- the word is no option: it doesn't begin with a hyphen
+abbrev pub IsNoOption : Text → Type 0
+IsNoOption [] = ⊤
+IsNoOption (byte ∷ _) = byte ≢ 45
+
+-- the words are `plan` and the six values of a plan, in order, and no pool's names look like an option
+pub record SaysPlainly (words : List Text) (plan : Wanted) : Type 0 where
+  pub start : Text
+  pub interval : Text
+  pub at : Text
+  pub words_are : words ≡ codes "plan" ∷ plan.old.now ∷ plan.new.now ∷ start ∷ interval ∷ name_of_hash plan.hash ∷ at ∷ []
+  pub start_is : IsNumberWord start plan.start
+  pub interval_is : IsNumberWord interval plan.interval
+  pub at_is : IsNumberWord at plan.at
+  pub old_is_none : IsNoOption plan.old.now
+  pub new_is_none : IsNoOption plan.new.now
+
+-- both have these values
+pub record AgreesWith (plan read : Wanted) : Type 0 where
+  pub old : read.old.now ≡ plan.old.now
+  pub new : read.new.now ≡ plan.new.now
+  pub start : read.start ≡ plan.start
+  pub interval : read.interval ≡ plan.interval
+  pub hash : read.hash ≡ plan.hash
+  pub at : read.at ≡ plan.at
+
+-- this plan was read, unless memory was refused
+abbrev pub ReadsAs : Wanted → Result Wanted WordsFault → Type 0
+ReadsAs plan (Ok read) = AgreesWith plan read
+ReadsAs plan (Err (Wrong error)) = ⊥
+ReadsAs plan (Err Memory) = ⊤

@@ -4,7 +4,7 @@ ghost use Rattle.mr_phases.specs.Schedule.{one_hop};
 ghost use Rattle.mr_phases.specs.declared.error.ScheduleError.{ScheduleError};
 ghost use Rattle.mr_tool.specs.Fault.{fault_line};
 ghost use Rattle.mr_tool.specs.Run.{device, HasRouting, routing_of, RefusesRouting, HasSchedule, RefusesSchedule};
-ghost use Rattle.mr_tool.specs.Run.{Prints, PlanGives, RunsPlan, RunsNothing};
+ghost use Rattle.mr_tool.specs.Run.{Prints, PlanGives, Runs};
 
 use crate::fault::Fault;
 use crate::first_request::first_request;
@@ -111,8 +111,7 @@ pub fn run_words<I: Source, O: Sink, F: Sink>(
         let wrote' = device (O.written output.new) (O.failures output.new) in
         let told = device (F.written faults.old) (F.failures faults.old) in
         let told' = device (F.written faults.new) (F.failures faults.new) in
-        RunsPlan (map (λ word. word.now) words.now) read read' wrote wrote' told told' result
-        ⊎ RunsNothing read read' wrote wrote' told told' result }
+        Runs (map (λ word. word.now) words.now) read read' wrote wrote' told told' result }
 {
     match read_words(alloc, words) {
         Ok(words) => match plan(alloc, &words, input, output) {

@@ -1,8 +1,8 @@
 //! The words of the command line.
-ghost use Rattle.std.specs.Prelude.{◌≡◌, None, false, map, IfOk, IfSome};
-ghost use Rattle.clap.specs.Words.{app_of, found_of, rows_of, rule_of};
-ghost use Rattle.mr_tool.specs.Command.{value_rule, number_rule, plan_app, program_app};
-ghost use Rattle.mr_tool.specs.Words.{SaysPlan, HasValues};
+ghost use Rattle.std.specs.Prelude.{◌≡◌, None, false, map, IfOk, IfSome, IfNone};
+ghost use Rattle.clap.specs.Words.{app_of, found_of, rows_of, rule_of, subcommand_rows_of};
+ghost use Rattle.mr_tool.specs.Command.{AreHashes, value_rule, number_rule, hash_rule, plan_app, program_app};
+ghost use Rattle.mr_tool.specs.Words.{HasValues, FindsPlan, Reads, SaysPlainly, ReadsAs};
 
 use clap::error::ErrorKind;
 use clap::{Arg, ArgAction, ArgMatches, Command, Error, value_parser};
@@ -38,13 +38,21 @@ pub enum WordsFault {
     Memory,
 }
 
+ghost use Rattle.clap.specs.Values.{kind_of};
+ghost use Rattle.clap.specs.declared.error.kind.ErrorKind.TheVariants.{OutOfMemory};
+ghost use Rattle.mr_tool.specs.declared.words.WordsFault.TheVariants.{Memory};
+
 impl From<AllocError> for WordsFault {
+    ghost from_gives = { λ error fault. fault ≡ Memory };
+
     fn from(_error: AllocError) -> WordsFault {
         WordsFault::Memory
     }
 }
 
 impl From<Error> for WordsFault {
+    ghost from_gives = { λ error fault. kind_of error ≡ OutOfMemory → fault ≡ Memory };
+
     fn from(error: Error) -> WordsFault {
         if error.kind() == ErrorKind::OutOfMemory {
             WordsFault::Memory
@@ -75,7 +83,7 @@ fn number<'a>(alloc: Global, id: &'a str, help: &'a str) -> Arg<'a>
 
 /// The name of a hash, which has to be there.
 fn hash<'a>(alloc: Global, id: &'a str, help: &'a str) -> Arg<'a>
-    ensures rule { rule_of result ≡ value_rule id.entry.now result.value_parser }
+    ensures rule { (names : _) × AreHashes names × (rule_of result ≡ hash_rule id.entry.now names) }
     ensures local { result.global ≡ false }
 {
     value(alloc, id, help).value_parser(HASHES.as_slice())
@@ -83,7 +91,7 @@ fn hash<'a>(alloc: Global, id: &'a str, help: &'a str) -> Arg<'a>
 
 /// The command `plan`.
 fn plan_command<'a>(alloc: Global) -> Result<Command<'a>, AllocError>
-    ensures { IfOk result (λ command. (parser : _) × (app_of command ≡ plan_app parser)) }
+    ensures { IfOk result (λ command. (names : _) × AreHashes names × (app_of command ≡ plan_app names)) }
 {
     Command::new(alloc, "plan")
         .about("Prints where the request on the standard input goes")
@@ -101,7 +109,7 @@ fn plan_command<'a>(alloc: Global) -> Result<Command<'a>, AllocError>
 
 /// The program with its commands. Its words begin with the command.
 fn program<'a>(alloc: Global) -> Result<Command<'a>, AllocError>
-    ensures { IfOk result (λ command. (parser : _) × (app_of command ≡ program_app parser)) }
+    ensures { IfOk result (λ command. (names : _) × AreHashes names × (app_of command ≡ program_app names)) }
 {
     let plan = plan_command(alloc)?;
     let program = Command::new(alloc, "migctl")
@@ -115,9 +123,10 @@ fn program<'a>(alloc: Global) -> Result<Command<'a>, AllocError>
     )
 }
 
-/// The values of the command `plan`, all of which a parse that succeeds has found.
-fn plan_words<'a>(matches: &ArgMatches<'a>) -> Option<Wanted<'a>>
-    ensures { IfSome result (HasValues (rows_of (found_of matches.now))) }
+/// The values of the command `plan`, where each of them was found.
+fn values_of<'a>(matches: &ArgMatches<'a>) -> Option<Wanted<'a>>
+    ensures found { IfSome result (HasValues (rows_of (found_of matches.now))) }
+    ensures missing { IfNone result ((plan : Wanted) → ¬ HasValues (rows_of (found_of matches.now)) plan) }
 {
     Some(Wanted {
         old: matches.get_str("old")?,
@@ -129,17 +138,27 @@ fn plan_words<'a>(matches: &ArgMatches<'a>) -> Option<Wanted<'a>>
     })
 }
 
-/// Reads the words after the program's name, of which the first names the command.
+/// The command `plan`, where it was found with its values.
+fn plan_of<'a>(matches: &ArgMatches<'a>) -> Option<Wanted<'a>>
+    ensures found { IfSome result (FindsPlan (subcommand_rows_of matches.now)) }
+    ensures missing { IfNone result ((plan : Wanted) → ¬ FindsPlan (subcommand_rows_of matches.now) plan) }
+{
+    values_of(matches.subcommand_matches("plan")?)
+}
+
+/// Reads the words after the program's name, of which the first names the command. Wrong words are those that the
+/// command line has no place for, and memory is the other fault.
 pub fn read_words<'a>(alloc: Global, words: &'a [&'a str]) -> Result<Wanted<'a>, WordsFault>
-    ensures { IfOk result (SaysPlan (map (λ word. word.now) words.entry.now)) }
+    ensures exactly { Reads (map (λ word. word.now) words.entry.now) result }
+    ensures plainly { (plan : Wanted) → SaysPlainly (map (λ word. word.now) words.entry.now) plan → ReadsAs plan result }
 {
     let mut program = program(alloc)?;
     let matches = program.try_get_matches_from_mut(words)?;
-    if let Some(found) = matches.subcommand_matches("plan")
-        && let Some(words) = plan_words(found)
-    {
-        return Ok(words);
+    match plan_of(&matches) {
+        Some(words) => Ok(words),
+        None => {
+            let error = program.error(ErrorKind::MissingSubcommand, "no command was given")?;
+            Err(WordsFault::Wrong(error))
+        }
     }
-    let error = program.error(ErrorKind::MissingSubcommand, "no command was given")?;
-    Err(WordsFault::Wrong(error))
 }

@@ -1,4 +1,4 @@
-use Rattle.std.proofs.Common.{◌≡◌, ℕ, ◌⊎◌, List, ◌++◌, true, false}
+use Rattle.std.proofs.Common.{◌≡◌, ℕ, ◌⊎◌, List, ◌++◌, false}
 use Rattle.mr_text.specs.Stream.{Becomes}
 use Rattle.mr_tool.specs.FirstRequest.{HoldsNoRequest}
 use Rattle.mr_tool.proofs.first_request.first_request.Given as goal

@@ -1,4 +1,4 @@
-use Rattle.std.proofs.Common.{◌≡◌, false, ◌∙◌}
+use Rattle.std.proofs.Common.{◌∙◌}
 use Rattle.mr_tool.proofs.RequestLemmas.{next_refusal}
 use Rattle.mr_tool.proofs.first_request.next_at_end.Goals as goal
 

@@ -1,4 +1,3 @@
-use Rattle.std.proofs.Common.{◌∙◌}
 use Rattle.mr_tool.proofs.RequestLemmas.{next_refusal, next_found}
 use Rattle.mr_tool.proofs.first_request.next_with.Goals as goal
 

@@ -1,4 +1,3 @@
-use Rattle.std.proofs.Common.{sym}
 use Rattle.mr_tool.proofs.NameLemmas.{piece_at, names_more, name_refused}
 use Rattle.mr_tool.proofs.pool_words.names_of.Goals as goal
 

@@ -1,4 +1,4 @@
-use Rattle.std.proofs.Common.{◌≡◌, List, ℕ, take, map}
+use Rattle.std.proofs.Common.{◌≡◌, take}
 use Rattle.std.specs.List.{All}
 use Rattle.mr_pools.specs.NodeName.{IsNodeName}
 use Rattle.mr_tool.specs.PoolWords.{names_in}

@@ -1,5 +1,5 @@
 use Rattle.std.proofs.Common.{◌≡◌, ◌∙◌, ap, ap₂, true, codes}
-use Rattle.clap.specs.Words.{App, Shape, app_of, new_app, with_subcommand}
+use Rattle.clap.specs.Words.{App, app_of, new_app, with_subcommand}
 use Rattle.mr_tool.specs.Command.{plan_app}
 use Rattle.mr_tool.proofs.WordLemmas.{third_is_false}
 use Rattle.mr_tool.proofs.words.program.Goals as goal
@@ -7,10 +7,12 @@ use Rattle.mr_tool.proofs.words.program.Goals as goal
 pub returns : goal.returns
 returns c =
     let p = c.in_ok-plan.ensures.0 in
+    let plan_is = c.in_ok-plan.ensures.2 in
     let start : app_of c.about.result ≡ new_app (codes "migctl") = rw c.about.ensures c.new.ensures.app in
     let whole : app_of c.in_ok-program.program ≡ with_subcommand (new_app (codes "migctl")) (plan_app p).top =
-    c.in_ok-program.ensures.shape (third_is_false _ _ _ _ (ap (λ (a : App). a.top.is_plain) c.in_ok-plan.ensures.1)) ∙ ap₂ with_subcommand start (ap (λ (a : App). a.top) c.in_ok-plan.ensures.1) in (
+    c.in_ok-program.ensures.shape (third_is_false _ _ _ _ (ap (λ (a : App). a.top.is_plain) plan_is)) ∙ ap₂ with_subcommand start (ap (λ (a : App). a.top) plan_is) in (
       p,
+      c.in_ok-plan.ensures.1,
       rw (c.arg_required_else_help.ensures, c.subcommand_required.ensures, c.no_binary_name.ensures)
           (ap (λ (a : App). record a { top = record a.top { no_binary_name = true; subcommand_required = true; arg_required_else_help = true } }) whole),
     )

@@ -1,28 +1,49 @@
-use Rattle.std.proofs.Common.{◌≡◌, ◌∙◌, ap, ap₂, true, refl, sym, rules, codes}
-use Rattle.clap.specs.Words.{App, app_of, found_of, is_simple, rows_of, subcommand_of}
-use Rattle.clap.proofs.OnLiterals.{clap_on_literals}
-use Rattle.clap.specs.declared.builder.value_parser.ValueParser.{ValueParser}
-use Rattle.std.specs.Prelude.{Option, List, ℕ, map}
+use Rattle.std.proofs.Common.{◌≡◌, ◌∙◌, ap, subst, true, map, List, [], Err, Ok}
 use Rattle.std.specs.Borrow.{Bor}
-use Rattle.mr_tool.specs.Command.{program_app}
-use Rattle.mr_tool.proofs.WordLemmas.{sub_row}
+use Rattle.clap.specs.Faults.{is_simple_and_free}
+use Rattle.clap.specs.Kinds.{HasKind}
+use Rattle.clap.specs.Words.{App, Text, fault_of, is_simple, subcommand_of}
+use Rattle.mr_tool.proofs.ReadLemmas.{memory_refused, none_read, reads_as, simple, simple_and_free, words_read, words_refused}
+use Rattle.mr_tool.specs.Words.{Reads}
+use Rattle.mr_tool.specs.declared.words.WordsFault.TheVariants.{Wrong}
 use Rattle.mr_tool.proofs.words.read_words.Goals as goal
 
-simple : (p : Option ValueParser) → is_simple (program_app p) ≡ true
-unfolding clap_on_literals
-simple p = refl
+pub returns-in_err-program : goal.returns-in_err-program
+returns-in_err-program c =
+    let read = memory_refused _ _ c.from_residual.ensures.1 in
+    record { exactly = read; plainly = reads_as _ _ read }
+
+pub returns-in_err-matches : goal.returns-in_err-matches
+returns-in_err-matches c =
+    let hashes = c.in_ok-program.ensures.0 in
+    let is = c.in_ok-program.ensures.2 in
+    let words : List Text = map (λ (word : Bor Text). word.now) c.args.words.now in
+    let kinds = subst (λ (a : App). is_simple_and_free a ≡ true → HasKind (fault_of a words) c.in_err-matches.field-0.0) is c.in_err-matches.ensures.kinds in
+    let read : Reads words c.from_residual-in_err-matches.result =
+    (hashes, c.in_ok-program.ensures.1, words_refused hashes words c.in_err-matches.field-0.0 _ (kinds (simple_and_free hashes)) c.from_residual-in_err-matches.ensures.1) in
+    record { exactly = read; plainly = reads_as words _ read }
+
+pub returns-in-Some : goal.returns-in-Some
+returns-in-Some c =
+    let hashes = c.in_ok-program.ensures.0 in
+    let is = c.in_ok-program.ensures.2 in
+    let words : List Text = map (λ (word : Bor Text). word.now) c.args.words.now in
+    let kinds = subst (λ (a : App). is_simple_and_free a ≡ true → fault_of a words ≡ []) is c.in_ok-matches.ensures.kinds in
+    let found = (c.in_ok-matches.ensures.ok.2 (ap is_simple is ∙ simple hashes)).1 ∙ ap (λ (a : App). subcommand_of a words) is in
+    let read : Reads words (Ok c.in-Some.words) =
+    (hashes, c.in_ok-program.ensures.1, words_read hashes words _ _ (kinds (simple_and_free hashes)) found c.in-Some.ensures.found) in
+    record { exactly = read; plainly = reads_as words (Ok c.in-Some.words) read }
+
+pub returns-in_err-error-in-None : goal.returns-in_err-error-in-None
+returns-in_err-error-in-None c =
+    let read = memory_refused _ _ c.from_residual-in_err-error-in-None.ensures.1 in
+    record { exactly = read; plainly = reads_as _ _ read }
 
 pub returns : goal.returns
 returns c =
-    let p = c.in_ok-program.ensures.0 in
-    let is = c.in_ok-program.ensures.1 in
-    let simple_here : is_simple (app_of c.in_ok-program.program) ≡ true = ap is_simple is ∙ simple p in
-    let found = c.in_ok-matches.ensures.ok.2 simple_here in
-    record {
-      hash_parser = p;
-      rows = rows_of (found_of c.in-Some.found.now);
-      reads =
-          ap (λ (a : App). subcommand_of a (map (λ (word : Bor (List ℕ)). word.now) c.args.words.now)) (sym is)
-          ∙ (sym found.1 ∙ sub_row c.in_ok-matches.matches (codes "plan") _ (c.in-Some.ensures.found.0 refl) c.in-Some.ensures.rows);
-      has = c.in-Some-plan_words.ensures;
-    }
+    let hashes = c.in_ok-program.ensures.0 in
+    let is = c.in_ok-program.ensures.2 in
+    let words : List Text = map (λ (word : Bor Text). word.now) c.args.words.now in
+    let found = (c.in_ok-matches.ensures.ok.2 (ap is_simple is ∙ simple hashes)).1 ∙ ap (λ (a : App). subcommand_of a words) is in
+    let read : Reads words (Err (Wrong c.in_ok-error-in-None.error)) = (hashes, c.in_ok-program.ensures.1, none_read hashes words _ found c.in-None.ensures.missing) in
+    record { exactly = read; plainly = reads_as words (Err (Wrong c.in_ok-error-in-None.error)) read }
