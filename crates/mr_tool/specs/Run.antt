@@ -1,5 +1,6 @@
 -- What a run of the program does with its words, its input and its outputs.
 use Rattle.std.specs.Prelude.{◌≡◌, ◌≢◌, ℕ, ◌+◌, ◌*◌, ◌^◌, ◌<◌, ◌≤◌, ◌⊎◌, List, ◌++◌, All, Result, Ok, Err}
+use Rattle.mr_text.specs.declared.error.TextError.TheVariants.{Truncated}
 use Rattle.mr_text.specs.declared.request.Request.{Request}
 use Rattle.mr_pools.specs.NodeName.{IsNodeName}
 use Rattle.mr_pools.specs.Pool.{IsPool, AreApart}
@@ -13,7 +14,7 @@ use Rattle.mr_tool.specs.declared.fault.Fault.{Fault}
 use Rattle.mr_tool.specs.declared.fault.Fault.TheVariants.{Memory, Input, Output, Text, Pools, Phases}
 use Rattle.mr_tool.specs.declared.words.Wanted.{Wanted}
 use Rattle.mr_tool.specs.Fault.{fault_line}
-use Rattle.mr_tool.specs.FirstRequest.{BeginsWithRequest, GetsRefusal}
+use Rattle.mr_tool.specs.FirstRequest.{Intake, IsCutShort, BeginsWithRequest, GetsRefusal}
 use Rattle.mr_tool.specs.PlanText.{plan_text}
 use Rattle.mr_tool.specs.PoolWords.{names_in, IsPoolNamed}
 use Rattle.mr_tool.specs.Command.{NamesAt, AreHashes}
@@ -76,21 +77,22 @@ RefusesSchedule plan ZeroInterval = plan.interval ≡ 0
 RefusesSchedule plan TooLate = (plan.interval ≢ 0) × (2 ^ 64 ≤ plan.start + 2 * plan.interval)
 
 -- the bytes that were read of the input begin with this request
-pub record HasRead (before after : Device) (request : Request) : Type 0 where
+pub record HasRead (before after : Intake) (request : Request) : Type 0 where
   pub bytes : List ℕ
   pub read : after.bytes ≡ before.bytes ++ bytes
   pub begins : BeginsWithRequest bytes request
 
 -- the bytes that were read get this refusal
-pub record WasRefused (before after : Device) (fault : Fault) : Type 0 where
+pub record WasRefused (before after : Intake) (fault : Fault) : Type 0 where
   pub bytes : List ℕ
   pub read : after.bytes ≡ before.bytes ++ bytes
   pub refused : GetsRefusal bytes fault
+  pub cut : fault ≡ Text Truncated → IsCutShort before after
 
 -- What a plan does with the input and the output. It writes the plan of the first request, or finds the first of the
 -- faults in this order: the pools, the schedule, the request, the output. Nothing is read before the words are found
 -- good.
-abbrev pub PlanGives : Wanted → (input input' output output' : Device) → Result (Unit {0}) Fault → Type 0
+abbrev pub PlanGives : Wanted → (input input' : Intake) (output output' : Device) → Result (Unit {0}) Fault → Type 0
 PlanGives plan input input' output output' (Ok _) =
     HasRouting plan × HasSchedule plan × ((request : Request) × HasRead input input' request
     × (output'.bytes ≡ output.bytes ++ plan_text (routing_of plan) (one_hop plan.start plan.interval) plan.at request))
@@ -100,7 +102,7 @@ PlanGives plan input input' output output' (Err (Phases refusal)) =
     HasRouting plan × RefusesSchedule plan refusal × (input' ≡ input) × (output' ≡ output)
 PlanGives plan input input' output output' (Err (Text refusal)) =
     HasRouting plan × HasSchedule plan × WasRefused input input' (Text refusal) × (output' ≡ output)
-PlanGives plan input input' output output' (Err Input) = HasRouting plan × HasSchedule plan × HasFailed input input' × (output' ≡ output)
+PlanGives plan input input' output output' (Err Input) = HasRouting plan × HasSchedule plan × (input.failures < input'.failures) × (output' ≡ output)
 PlanGives plan input input' output output' (Err Output) =
     HasRouting plan × HasSchedule plan × ((request : Request) × HasRead input input' request) × HasFailed output output'
 
@@ -114,7 +116,7 @@ EndsWith (Ok _) status faults faults' = (status ≡ DONE) × (faults' ≡ faults
 EndsWith (Err fault) status faults faults' = (status ≡ FAULT) × Prints faults faults' (fault_line fault)
 
 -- the words say a plan, and it was run
-pub record RunsPlan (hashes : NamesAt) (words : List (List ℕ)) (input input' output output' faults faults' : Device) (status : ℕ) : Type 0 where
+pub record RunsPlan (hashes : NamesAt) (words : List (List ℕ)) (input input' : Intake) (output output' faults faults' : Device) (status : ℕ) : Type 0 where
   pub wanted : Wanted
   pub says : SaysPlan hashes words wanted
   pub result : Result (Unit {0}) Fault
@@ -126,13 +128,13 @@ abbrev pub EndsAtWords : NamesAt → List (List ℕ) → ℕ → Device → Devi
 EndsAtWords hashes words status faults faults' =
     ((status ≡ WRONG_WORDS) × SayNoPlan hashes words) ⊎ EndsWith (Err Memory) status faults faults'
 
-pub record RunsNothing (hashes : NamesAt) (words : List (List ℕ)) (input input' output output' faults faults' : Device) (status : ℕ) : Type 0 where
+pub record RunsNothing (hashes : NamesAt) (words : List (List ℕ)) (input input' : Intake) (output output' faults faults' : Device) (status : ℕ) : Type 0 where
   pub unread : input' ≡ input
   pub unwritten : output' ≡ output
   pub ends : EndsAtWords hashes words status faults faults'
 
 -- the run of a program with these words
-abbrev pub Runs : List (List ℕ) → (input input' output output' faults faults' : Device) → ℕ → Type 0
+abbrev pub Runs : List (List ℕ) → (input input' : Intake) (output output' faults faults' : Device) → ℕ → Type 0
 Runs words input input' output output' faults faults' status =
     (hashes : NamesAt) × AreHashes hashes
     × (RunsPlan hashes words input input' output output' faults faults' status

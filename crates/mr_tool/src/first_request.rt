@@ -1,7 +1,7 @@
 //! The first request of an input.
-ghost use Rattle.std.specs.Prelude.{◌≡◌, List, ℕ, true, false, [], ◌++◌};
+ghost use Rattle.std.specs.Prelude.{◌≡◌, ◌+◌, ◌≤◌, List, ℕ, true, false, [], ◌++◌};
 ghost use Rattle.mr_text.specs.Stream.{Becomes};
-ghost use Rattle.mr_tool.specs.FirstRequest.{IsNextOf, IsLastOf, Reads};
+ghost use Rattle.mr_tool.specs.FirstRequest.{IsNextOf, IsLastOf, Reads, intake};
 
 use crate::fault::Fault;
 use mr_text::{Request, RequestReader, Source, TextError};
@@ -42,7 +42,9 @@ fn next_at_end(reader: &mut RequestReader) -> Result<Request, Fault>
 /// The first request of an input, read no further than the piece that completes it. The first line that is refused is
 /// the fault, an unknown command too; Truncated where the input ends before a request is whole.
 pub fn first_request<I: Source>(alloc: Global, input: &mut I) -> Result<Request, Fault>
-    ensures { Reads (I.taken input.old) (I.taken input.new) (I.failures input.old) (I.failures input.new) result }
+    ensures request { Reads (intake (I.taken input.old) (I.left input.old) (I.reads input.old) (I.failures input.old))
+        (intake (I.taken input.new) (I.left input.new) (I.reads input.new) (I.failures input.new)) result }
+    ensures reads { I.reads input.new ≤ I.reads input.old + MOST_READS }
 {
     let mut reader = RequestReader::new(alloc);
     let mut buffer = [0; BUFFER_LENGTH];

@@ -1,13 +1,14 @@
 //! The commands, from their words to the status of the program.
-ghost use Rattle.std.specs.Prelude.{◌≡◌, ◌⊎◌, map, IfOk, IfErr};
+ghost use Rattle.std.specs.Prelude.{◌≡◌, ◌+◌, ◌≤◌, ◌⊎◌, map, IfOk, IfErr};
 ghost use Rattle.mr_phases.specs.Schedule.{one_hop};
 ghost use Rattle.mr_phases.specs.declared.error.ScheduleError.{ScheduleError};
 ghost use Rattle.mr_tool.specs.Fault.{fault_line};
+ghost use Rattle.mr_tool.specs.FirstRequest.{intake};
 ghost use Rattle.mr_tool.specs.Run.{device, HasRouting, routing_of, RefusesRouting, HasSchedule, RefusesSchedule};
 ghost use Rattle.mr_tool.specs.Run.{Prints, PlanGives, Runs};
 
 use crate::fault::Fault;
-use crate::first_request::first_request;
+use crate::first_request::{MOST_READS, first_request};
 use crate::plan::{PlanError, write_plan};
 use crate::pool_words::pool_named;
 use crate::words::{Wanted, WordsFault, read_words};
@@ -79,11 +80,12 @@ fn plan<I: Source, O: Sink>(
     input: &mut I,
     output: &mut O,
 ) -> Result<(), Fault>
-    ensures { PlanGives words.now
-        (device (I.taken input.old) (I.failures input.old))
-        (device (I.taken input.new) (I.failures input.new))
+    ensures plan { PlanGives words.now
+        (intake (I.taken input.old) (I.left input.old) (I.reads input.old) (I.failures input.old))
+        (intake (I.taken input.new) (I.left input.new) (I.reads input.new) (I.failures input.new))
         (device (O.written output.old) (O.failures output.old))
         (device (O.written output.new) (O.failures output.new)) result }
+    ensures reads { I.reads input.new ≤ I.reads input.old + MOST_READS }
 {
     let routing = routing_named(alloc, words)?;
     let schedule = schedule_named(words)?;
@@ -105,13 +107,14 @@ pub fn run_words<I: Source, O: Sink, F: Sink>(
     output: &mut O,
     faults: &mut F,
 ) -> u8
-    ensures { let read = device (I.taken input.old) (I.failures input.old) in
-        let read' = device (I.taken input.new) (I.failures input.new) in
+    ensures runs { let read = intake (I.taken input.old) (I.left input.old) (I.reads input.old) (I.failures input.old) in
+        let read' = intake (I.taken input.new) (I.left input.new) (I.reads input.new) (I.failures input.new) in
         let wrote = device (O.written output.old) (O.failures output.old) in
         let wrote' = device (O.written output.new) (O.failures output.new) in
         let told = device (F.written faults.old) (F.failures faults.old) in
         let told' = device (F.written faults.new) (F.failures faults.new) in
         Runs (map (λ word. word.now) words.now) read read' wrote wrote' told told' result }
+    ensures reads { I.reads input.new ≤ I.reads input.old + MOST_READS }
 {
     match read_words(alloc, words) {
         Ok(words) => match plan(alloc, &words, input, output) {
