@@ -11,3 +11,6 @@ pub use badness::worse;
 pub use joined::Joined;
 pub use joining::{Joining, One, Two};
 pub use leg_reply::LegReply;
+
+#[cfg(test)]
+mod tests;

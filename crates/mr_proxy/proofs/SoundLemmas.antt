@@ -22,15 +22,17 @@ use Rattle.mr_phases.specs.Sides.{delete_sides_of}
 use Rattle.mr_pools.specs.Routing.{RoutingView}
 use Rattle.mr_node.specs.declared.command.NodeCommand.{NodeCommand}
 use Rattle.mr_node.specs.declared.command.NodeCommand.TheVariants.{Get, Delete}
+use Rattle.mr_proxy.specs.declared.sheet.LegId.{LegId}
 use Rattle.mr_proxy.specs.declared.sheet.LegSheet.{LegSheet}
+use Rattle.mr_proxy.specs.declared.taken.Taken.TheVariants.{Waiting, Answered}
 use Rattle.mr_proxy.specs.declared.slot.Slot.{Slot}
 use Rattle.mr_proxy.specs.Slots.{open_slot, is_open, outcome_of, is_of_kind, is_awaiting}
 use Rattle.mr_proxy.specs.Pending.{PendingView, is_complete, with_reply, with_reply_in}
-use Rattle.mr_proxy.specs.Answer.{answer_of, reply_of}
+use Rattle.mr_proxy.specs.Answer.{AnswerView, answer_of, reply_of}
 use Rattle.mr_proxy.specs.ProxyView.{ProxyView}
 use Rattle.mr_proxy.specs.Issue.{next_op, used_reading, sheets_by, sheets_of, sheets_from, targets_of, pending_of, after_issue}
-use Rattle.mr_proxy.specs.Steps.{place_of_op, pending_with, settled, left_by}
-use Rattle.mr_proxy.specs.Sound.{HasLegs, ProxyStep, sheet_of, IsOfItsKind, IsSoundPending, IsSound, HasFound, WasDeleted}
+use Rattle.mr_proxy.specs.Steps.{place_of_op, pending_with, settled, taken_by, taken_of, left_by, given_up_in, given_up_of}
+use Rattle.mr_proxy.specs.Sound.{HasLegs, ProxyStep, sheet_of, IsOfItsKind, IsSoundPending, IsSoundAnswer, IsSound, HasFound, WasDeleted}
 use Rattle.mr_proxy.specs.Sound.ProxyStep.{issues, takes, gives_up, restarts}
 use Rattle.mr_proxy.proofs.SheetLemmas.{get_map, mapped, only, sheets_say_lem, gets_ask_in_order_lem}
 
@@ -112,9 +114,9 @@ second : (a b : Bool) → (a && b) ≡ true → b ≡ true
 second true b e = e
 second false b e = cc
 
-noted_sound : (p : ProxyView) (pending noted : PendingView) (place : ℕ) (reply : LegReply) → IsSoundPending p pending
-    → IsNoting pending noted place reply → is_complete noted ≡ false → IsSoundPending p noted
-noted_sound p pending noted place reply s n open_left =
+noted_answer : (p : ProxyView) (pending noted : PendingView) (place : ℕ) (reply : LegReply) (given_up : Bool) → IsSoundPending p pending
+    → IsNoting pending noted place reply → given_up ≡ list_any is_open noted.slots → IsSoundAnswer p (answer_of noted given_up)
+noted_answer p pending noted place reply given_up s n is_given_up =
     let slot : Slot = record { sheet = n.slot.sheet; reply = Some reply } in
     let slots = slice_set pending.slots place slot in
     let kind : IsOfItsKind slot = λ other e.
@@ -132,18 +134,28 @@ noted_sound p pending noted place reply s n open_left =
       sheets = subst (λ (x : PendingView). map sheet_of x.slots ≡ sheets_by p.routing p.schedule x.op x.reading x.request) (sym n.is)
           (sheets_written pending.slots place n.slot (Some reply) n.there ∙ s.sheets);
       kinds = subst (λ (x : PendingView). All IsOfItsKind x.slots) (sym n.is) (All-set IsOfItsKind pending.slots place slot kind s.kinds);
-      waits = open_left;
+      given_up = is_given_up;
     }
+
+noted_sound : (p : ProxyView) (pending noted : PendingView) (place : ℕ) (reply : LegReply) → IsSoundPending p pending
+    → IsNoting pending noted place reply → is_complete noted ≡ false → IsSoundPending p noted
+noted_sound p pending noted place reply s n open_left =
+    let a = noted_answer p pending noted place reply (list_any is_open noted.slots) s n refl in
+    record { proxy = a.proxy; incarnation = a.incarnation; number = a.number; sheets = a.sheets; kinds = a.kinds; waits = open_left }
+
+pending_sound : (p : ProxyView) (n : ℕ) (pending : PendingView) → slice_get p.outstanding n ≡ Some pending → IsSound p → IsSoundPending p pending
+pending_sound p n pending got s =
+    let at = slice_get_within p.outstanding n pending got in
+    let read = slice_get-get_or p.outstanding n pending at in
+    let is : get_or p.outstanding n pending ≡ pending = cc in
+    subst (IsSoundPending p) is (s.pendings n pending at)
 
 settled_noted : (p : ProxyView) (n : ℕ) (pending noted : PendingView) (place : ℕ) (reply : LegReply) (t : Bool) → slice_get p.outstanding n ≡ Some pending
     → IsNoting pending noted place reply → is_complete noted ≡ t → IsSound p
     → IsSound (if t then record p { outstanding = remove p.outstanding n } else record p { outstanding = slice_set p.outstanding n noted })
 settled_noted p n pending noted place reply true got noting complete s = removed p n (slice_get_within p.outstanding n pending got) s
 settled_noted p n pending noted place reply false got noting complete s =
-    let at = slice_get_within p.outstanding n pending got in
-    let read = slice_get-get_or p.outstanding n pending at in
-    let is : get_or p.outstanding n pending ≡ pending = cc in
-    let sound = subst (IsSoundPending p) is (s.pendings n pending at) in
+    let sound = pending_sound p n pending got s in
     written p n pending noted got (ap (λ (x : PendingView). x.op) noting.is) (noted_sound p pending noted place reply sound noting complete) s
 
 settled_by : (p : ProxyView) (n : ℕ) (pending : PendingView) (place : ℕ) (reply : LegReply) (w : Option PendingView) → slice_get p.outstanding n ≡ Some pending
@@ -212,22 +224,78 @@ steps_keep_sound_lem old new s (gives_up op) = leave_sound old (place_of_op old.
 steps_keep_sound_lem old new s restarts =
     record { pendings = λ k d below. absurd (omega arith); in_order = λ i j d before below. absurd (omega arith) }
 
+none_open : (b : Bool) → not b ≡ true → false ≡ b
+none_open true e = cc
+none_open false e = refl
+
+some_open : (b : Bool) → not b ≡ false → true ≡ b
+some_open true e = refl
+some_open false e = cc
+
+completed_sound : (p : ProxyView) (n : ℕ) (pending noted : PendingView) (place : ℕ) (reply : LegReply) (answer : AnswerView) (t : Bool)
+    → slice_get p.outstanding n ≡ Some pending → IsNoting pending noted place reply → is_complete noted ≡ t → IsSound p
+    → (if t then Answered (answer_of noted false) else Waiting) ≡ Answered answer → IsSoundAnswer p answer
+completed_sound p n pending noted place reply answer true got noting complete s e =
+    let is : answer_of noted false ≡ answer = cc in
+    subst (IsSoundAnswer p) is
+    (noted_answer p pending noted place reply false (pending_sound p n pending got s) noting (none_open (list_any is_open noted.slots) complete))
+completed_sound p n pending noted place reply answer false got noting complete s e = cc
+
+taken_by_sound : (p : ProxyView) (n : ℕ) (pending : PendingView) (place : ℕ) (reply : LegReply) (answer : AnswerView) (w : Option PendingView)
+    → slice_get p.outstanding n ≡ Some pending → with_reply pending place reply ≡ w → IsSound p → taken_by reply w ≡ Answered answer
+    → IsSoundAnswer p answer
+taken_by_sound p n pending place reply answer None got e s is = cc
+taken_by_sound p n pending place reply answer (Some noted) got e s is =
+    let noting = noting_in pending noted place reply (slice_get pending.slots place) refl e in
+    completed_sound p n pending noted place reply answer (is_complete noted) got noting refl s is
+
+taken_in_sound : (p : ProxyView) (n place : ℕ) (reply : LegReply) (answer : AnswerView) (o : Option PendingView) → slice_get p.outstanding n ≡ o → IsSound p
+    → taken_by reply (option_and_then (λ pending. with_reply pending place reply) o) ≡ Answered answer → IsSoundAnswer p answer
+taken_in_sound p n place reply answer None got s is = cc
+taken_in_sound p n place reply answer (Some pending) got s is =
+    taken_by_sound p n pending place reply answer (with_reply pending place reply) got refl s is
+
+pub last_reply_answers_lem : (p : ProxyView) (id : LegId) (reply : LegReply) (answer : AnswerView) → IsSound p
+    → taken_of p id reply ≡ Answered answer → IsSoundAnswer p answer
+last_reply_answers_lem p id reply answer s is =
+    taken_in_sound p (place_of_op p.outstanding id.op) id.place reply answer (pending_with p.outstanding id.op) refl s is
+
+given_up_in_sound : (p : ProxyView) (n : ℕ) (answer : AnswerView) (o : Option PendingView) → slice_get p.outstanding n ≡ o → IsSound p
+    → given_up_in o ≡ Some answer → IsSoundAnswer p answer
+given_up_in_sound p n answer None got s e = cc
+given_up_in_sound p n answer (Some pending) got s e =
+    let is : answer_of pending true ≡ answer = cc in
+    let a = pending_sound p n pending got s in
+    let sound : IsSoundAnswer p (answer_of pending true) =
+    record {
+      proxy = a.proxy;
+      incarnation = a.incarnation;
+      number = a.number;
+      sheets = a.sheets;
+      kinds = a.kinds;
+      given_up = some_open (list_any is_open pending.slots) a.waits;
+    } in
+    subst (IsSoundAnswer p) is sound
+
+pub given_up_early_lem : (p : ProxyView) (op : OpId) (answer : AnswerView) → IsSound p → given_up_of p op ≡ Some answer → IsSoundAnswer p answer
+given_up_early_lem p op answer s e = given_up_in_sound p (place_of_op p.outstanding op) answer (pending_with p.outstanding op) refl s e
+
 -- the sheet of a slot is the request's of its place
-slot_sheet : (p : ProxyView) (pending : PendingView) (place : ℕ) (slot : Slot) → IsSoundPending p pending → slice_get pending.slots place ≡ Some slot
-    → slice_get (sheets_by p.routing p.schedule pending.op pending.reading pending.request) place ≡ Some slot.sheet
-slot_sheet p pending place slot s got = ap (λ l. slice_get l place) (sym s.sheets) ∙ get_map sheet_of pending.slots place slot got
+slot_sheet : (p : ProxyView) (answer : AnswerView) (place : ℕ) (slot : Slot) → IsSoundAnswer p answer → slice_get answer.slots place ≡ Some slot
+    → slice_get (sheets_by p.routing p.schedule answer.op answer.reading answer.request) place ≡ Some slot.sheet
+slot_sheet p answer place slot s got = ap (λ l. slice_get l place) (sym s.sheets) ∙ get_map sheet_of answer.slots place slot got
 
 hit_noted : (o : Option LegReply) (flags : ℕ) (block : List ℕ) → unwrap_or o (Failed LegLost) ≡ Hit flags block → o ≡ Some (Hit flags block)
 hit_noted None flags block e = cc
 hit_noted (Some reply) flags block e = ap Some e
 
-found_by : (p : ProxyView) (pending : PendingView) (keys : List (List ℕ)) (item : Item) → IsSoundPending p pending → pending.request ≡ request.Get keys
-    → IsHitOf keys (map outcome_of pending.slots) item → HasFound pending.slots item
-found_by p pending keys item s asked h =
-    let m = mapped outcome_of pending.slots h.place (Hit item.flags item.block) h.hit in
-    let sheets = slot_sheet p pending h.place m.from s m.there in
-    let of_get = subst (λ q. slice_get (sheets_by p.routing p.schedule pending.op pending.reading q) h.place ≡ Some m.from.sheet) asked sheets in
-    let asks = gets_ask_in_order_lem p.routing p.schedule pending.op pending.reading keys h.place m.from.sheet of_get in
+found_by : (p : ProxyView) (answer : AnswerView) (keys : List (List ℕ)) (item : Item) → IsSoundAnswer p answer → answer.request ≡ request.Get keys
+    → IsHitOf keys (map outcome_of answer.slots) item → HasFound answer.slots item
+found_by p answer keys item s asked h =
+    let m = mapped outcome_of answer.slots h.place (Hit item.flags item.block) h.hit in
+    let sheets = slot_sheet p answer h.place m.from s m.there in
+    let of_get = subst (λ q. slice_get (sheets_by p.routing p.schedule answer.op answer.reading q) h.place ≡ Some m.from.sheet) asked sheets in
+    let asks = gets_ask_in_order_lem p.routing p.schedule answer.op answer.reading keys h.place m.from.sheet of_get in
     let one = asks.there in
     let other = h.key in
     let same : asks.key ≡ item.key = cc in
@@ -240,11 +308,11 @@ found_by p pending keys item s asked h =
     }
 
 pub items_were_found_lem : ((q : Request) (replies : List LegReply) (items : List Item) → joined_reply q replies ≡ reply.Items items → AreHits q replies items)
-    → (p : ProxyView) (pending : PendingView) (given_up : Bool) (items : List Item) → IsSoundPending p pending
-    → reply_of (answer_of pending given_up) ≡ reply.Items items → All (HasFound pending.slots) items
-items_were_found_lem hits p pending given_up items s e =
-    let h = hits pending.request (map outcome_of pending.slots) items e in
-    All-weaker (IsHitOf h.keys (map outcome_of pending.slots)) (HasFound pending.slots) (λ item found. found_by p pending h.keys item s h.asked found) items h.found
+    → (p : ProxyView) (answer : AnswerView) (items : List Item) → IsSoundAnswer p answer
+    → reply_of answer ≡ reply.Items items → All (HasFound answer.slots) items
+items_were_found_lem hits p answer items s e =
+    let h = hits answer.request (map outcome_of answer.slots) items e in
+    All-weaker (IsHitOf h.keys (map outcome_of answer.slots)) (HasFound answer.slots) (λ item found. found_by p answer h.keys item s h.asked found) items h.found
 
 deleted_by : (key : List ℕ) (r : LegReply) → is_of_kind (Delete key) r ≡ true → HasSucceeded r → (r ≡ Deleted) ⊎ (r ≡ NotFound)
 deleted_by key (Hit flags block) kind mild = cc
@@ -264,17 +332,17 @@ slot_deleted key slot command kind mild =
     record { reply = r; noted = noted; deleted = deleted_by key r (ap (λ c. is_of_kind c r) (sym command) ∙ kind r noted) good }
 
 pub acknowledged_by_legs_lem : ((q : Request) (replies : List LegReply) → Acknowledges (joined_reply q replies) → All HasSucceeded replies)
-    → (p : ProxyView) (pending : PendingView) (key : List ℕ) (noreply given_up : Bool) → IsSoundPending p pending
-    → pending.request ≡ request.Delete key noreply → Acknowledges (reply_of (answer_of pending given_up)) → All WasDeleted pending.slots
-acknowledged_by_legs_lem all p pending key noreply given_up s asked a k d below =
-    let slots = pending.slots in
+    → (p : ProxyView) (answer : AnswerView) (key : List ℕ) (noreply : Bool) → IsSoundAnswer p answer
+    → answer.request ≡ request.Delete key noreply → Acknowledges (reply_of answer) → All WasDeleted answer.slots
+acknowledged_by_legs_lem all p answer key noreply s asked a k d below =
+    let slots = answer.slots in
     let slot = get_or slots k d in
     let got = slice_get-get_or slots k d below in
-    let sheets = slot_sheet p pending k slot s got in
-    let of_delete = subst (λ q. slice_get (sheets_by p.routing p.schedule pending.op pending.reading q) k ≡ Some slot.sheet) asked sheets in
-    let says = sheets_say_lem p.routing p.schedule pending.op pending.reading (request.Delete key noreply) k slot.sheet of_delete in
+    let sheets = slot_sheet p answer k slot s got in
+    let of_delete = subst (λ q. slice_get (sheets_by p.routing p.schedule answer.op answer.reading q) k ≡ Some slot.sheet) asked sheets in
+    let says = sheets_say_lem p.routing p.schedule answer.op answer.reading (request.Delete key noreply) k slot.sheet of_delete in
     let command = only (Delete key) slot.sheet.command says.command in
-    let outcomes = all pending.request (map outcome_of slots) a in
+    let outcomes = all answer.request (map outcome_of slots) a in
     let count : length (map outcome_of slots) ≡ length slots = length-map slots outcome_of in
     let mild = outcomes k (outcome_of d) (omega arith) in
     let read : get_or (map outcome_of slots) k (outcome_of d) ≡ outcome_of slot = get_or-map outcome_of slots k d (outcome_of d) below in

@@ -1,5 +1,6 @@
 -- What holds of every proxy on its way from a fresh one.
 use Rattle.std.specs.Prelude.{◌≡◌, ℕ, ◌<◌, ◌≤◌, ◌⊎◌, true, false, List, length, map, Some, None, All, AllPairs, slice_get}
+use Rattle.std.specs.List.{list_any}
 use Rattle.mr_text.specs.declared.item.Item.{Item}
 use Rattle.mr_text.specs.declared.request.Request.{Request}
 use Rattle.mr_text.specs.declared.request.Request.TheVariants.{Get, Set, Delete, Quit}
@@ -10,8 +11,9 @@ use Rattle.mr_node.specs.declared.command.NodeCommand.TheVariants as command
 use Rattle.mr_proxy.specs.declared.sheet.LegId.{LegId}
 use Rattle.mr_proxy.specs.declared.sheet.LegSheet.{LegSheet}
 use Rattle.mr_proxy.specs.declared.slot.Slot.{Slot}
-use Rattle.mr_proxy.specs.Slots.{is_of_kind}
+use Rattle.mr_proxy.specs.Slots.{is_open, is_of_kind}
 use Rattle.mr_proxy.specs.Pending.{PendingView, is_complete}
+use Rattle.mr_proxy.specs.Answer.{AnswerView}
 use Rattle.mr_proxy.specs.ProxyView.{ProxyView}
 use Rattle.mr_proxy.specs.Issue.{sheets_by, refusal_of, after_issue}
 use Rattle.mr_proxy.specs.Steps.{after_take, after_give_up, after_restart}
@@ -51,6 +53,16 @@ pub record IsSoundPending (p : ProxyView) (pending : PendingView) : Type 0 where
 pub record IsSound (p : ProxyView) : Type 0 where
   pub pendings : All (IsSoundPending p) p.outstanding
   pub in_order : AllPairs (λ earlier later. earlier.op.number < later.op.number) p.outstanding
+
+-- an answer: its legs are those of its reading, each noted reply is of its leg's kind, and it was given up exactly
+-- where a leg of it didn't answer
+pub record IsSoundAnswer (p : ProxyView) (answer : AnswerView) : Type 0 where
+  pub proxy : answer.op.proxy ≡ p.number
+  pub incarnation : answer.op.incarnation ≡ p.incarnation
+  pub number : answer.op.number < p.next
+  pub sheets : map sheet_of answer.slots ≡ sheets_by p.routing p.schedule answer.op answer.reading answer.request
+  pub kinds : All IsOfItsKind answer.slots
+  pub given_up : answer.given_up ≡ list_any is_open answer.slots
 
 -- the op was given out: by an earlier incarnation, or by this one
 pub record WasGivenOut (p : ProxyView) (op : OpId) : Type 0 where

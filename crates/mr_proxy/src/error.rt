@@ -11,7 +11,7 @@ pub enum ProxyError {
     /// Memory was refused.
     #[error("out of memory")]
     OutOfMemory,
-    /// The next number, of a request or of an incarnation, would be 18446744073709551615 or above.
+    /// The next request would be number 18446744073709551615, or the next incarnation the one after that number.
     #[error("no number is left for a request or for a restart")]
     NumbersSpent,
     /// No request of this name is under way.

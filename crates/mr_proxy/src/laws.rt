@@ -14,12 +14,13 @@ ghost use Rattle.mr_proxy.specs.declared.sheet.LegId.{LegId};
 ghost use Rattle.mr_proxy.specs.declared.sheet.LegSheet.{LegSheet};
 ghost use Rattle.mr_proxy.specs.declared.slot.Slot.{Slot};
 ghost use Rattle.mr_proxy.specs.Pending.{PendingView};
-ghost use Rattle.mr_proxy.specs.Answer.{AnswerView, answer_of, reply_of};
+ghost use Rattle.mr_proxy.specs.declared.taken.Taken.TheVariants.{Answered};
+ghost use Rattle.mr_proxy.specs.Answer.{AnswerView, reply_of};
 ghost use Rattle.mr_proxy.specs.ProxyView.{ProxyView, fresh_proxy};
 ghost use Rattle.mr_proxy.specs.Issue.{next_op, sheets_by, sheets_of, after_issue};
-ghost use Rattle.mr_proxy.specs.Steps.{open_legs_of, noted_by, after_take, given_up_of, after_give_up};
+ghost use Rattle.mr_proxy.specs.Steps.{open_legs_of, noted_by, taken_of, after_take, given_up_of, after_give_up};
 ghost use Rattle.mr_proxy.specs.Sheets.{pool_at, IsSheetOf, GoesBy, DeletesIn, AsksFor};
-ghost use Rattle.mr_proxy.specs.Sound.{ProxyStep, IsSound, IsSoundPending, WasGivenOut, HasFound, WasDeleted};
+ghost use Rattle.mr_proxy.specs.Sound.{ProxyStep, IsSound, IsSoundAnswer, WasGivenOut, HasFound, WasDeleted};
 
 use mr_join::laws::{acknowledged_by_all, items_are_hits};
 
@@ -59,18 +60,29 @@ pub fn steps_keep_sound()
     ensures { (old new : ProxyView) → IsSound old → ProxyStep old new → IsSound new }
 {}
 
+/// The answer that a last reply brings is sound: each of its legs answered.
+pub fn last_reply_answers()
+    ensures { (p : ProxyView) (id : LegId) (reply : LegReply) (answer : AnswerView) → IsSound p
+        → taken_of p id reply ≡ Answered answer → IsSoundAnswer p answer }
+{}
+
+/// The answer to a request that is given up is sound: one of its legs at least didn't answer.
+pub fn given_up_early()
+    ensures { (p : ProxyView) (op : OpId) (answer : AnswerView) → IsSound p → given_up_of p op ≡ Some answer → IsSoundAnswer p answer }
+{}
+
 /// Each item of a get's answer is a hit that was noted for a leg of that get and of that key.
 pub fn items_were_found()
-    ensures { (p : ProxyView) (pending : PendingView) (given_up : Bool) (items : List Item) → IsSoundPending p pending
-        → reply_of (answer_of pending given_up) ≡ Items items → All (HasFound pending.slots) items }
+    ensures { (p : ProxyView) (answer : AnswerView) (items : List Item) → IsSoundAnswer p answer
+        → reply_of answer ≡ Items items → All (HasFound answer.slots) items }
 {
     items_are_hits();
 }
 
 /// The answer to a delete is Deleted or NotFound only where each leg's reply is.
 pub fn acknowledged_by_legs()
-    ensures { (p : ProxyView) (pending : PendingView) (key : List ℕ) (noreply given_up : Bool) → IsSoundPending p pending
-        → pending.request ≡ Delete key noreply → Acknowledges (reply_of (answer_of pending given_up)) → All WasDeleted pending.slots }
+    ensures { (p : ProxyView) (answer : AnswerView) (key : List ℕ) (noreply : Bool) → IsSoundAnswer p answer
+        → answer.request ≡ Delete key noreply → Acknowledges (reply_of answer) → All WasDeleted answer.slots }
 {
     acknowledged_by_all();
 }

@@ -115,20 +115,21 @@ fn places_of(alloc: Global, issued: &Issued) -> Result<Vec<(Side, u32)>, Fail> {
 fn a_delete_waits_for_both_legs(rt: HostRuntime) -> Result<(), Fail> {
     let alloc = rt.alloc();
     let mut core = core_of(alloc, 0, 4)?;
-    let op = issued(&mut core, 1000, delete(alloc, b"k")?)?.op;
+    let first = issued(&mut core, 1000, delete(alloc, b"k")?)?.op;
+    assert_eq!(rt; first, op(0, 0));
     let wrong = hit(alloc, b"v")?;
     assert_eq!(rt;
-        taken_as(core.take_reply(leg(op, 0), LegReply::Deleted)),
+        taken_as(core.take_reply(leg(first, 0), LegReply::Deleted)),
         "waiting"
     );
     assert_eq!(rt;
-        taken_as(core.take_reply(leg(op, 0), LegReply::Deleted)),
+        taken_as(core.take_reply(leg(first, 0), LegReply::Deleted)),
         "stranger"
     );
-    assert_eq!(rt; taken_as(core.take_reply(leg(op, 1), wrong)), "stranger");
+    assert_eq!(rt; taken_as(core.take_reply(leg(first, 1), wrong)), "stranger");
     assert_eq!(rt; core.open_legs(), 1);
     assert_eq!(rt;
-        taken_as(core.take_reply(leg(op, 1), LegReply::NotFound)),
+        taken_as(core.take_reply(leg(first, 1), LegReply::NotFound)),
         "not found"
     );
     assert_eq!(rt; core.outstanding(), 0);
@@ -226,13 +227,17 @@ fn an_answer_is_written_in_its_canonical_text(rt: HostRuntime) -> Result<(), Fai
     Ok(())
 }
 
+fn written(alloc: Global, answer: &Answer) -> Result<Vec<u8>, Fail> {
+    let mut writer = OverWriter::new(Vec::new(alloc));
+    answer.write(&mut writer)?;
+    Ok(writer.into_inner())
+}
+
 fn text_of(alloc: Global, taken: Taken) -> Result<Vec<u8>, Fail> {
     let Taken::Answered(answer) = taken else {
         return Err(Fail::from("not answered"));
     };
-    let mut writer = OverWriter::new(Vec::new(alloc));
-    answer.write(&mut writer)?;
-    Ok(writer.into_inner())
+    written(alloc, &answer)
 }
 
 #[test]
@@ -240,16 +245,68 @@ fn a_get_with_a_lost_leg_fails(rt: HostRuntime) -> Result<(), Fail> {
     let alloc = rt.alloc();
     let mut core = core_of(alloc, 0, 4)?;
     let op = get_k_k_b(alloc, &mut core)?.op;
+    let (first, second) = (hit(alloc, b"v")?, hit(alloc, b"v")?);
     let lost = LegReply::Failed(Cause::LegLost);
+    assert_eq!(rt; taken_as(core.take_reply(leg(op, 0), first)), "waiting");
+    assert_eq!(rt; taken_as(core.take_reply(leg(op, 1), second)), "waiting");
+    let text = text_of(alloc, core.take_reply(leg(op, 2), lost))?;
+    assert_eq!(rt; text.as_slice(), b"SERVER_ERROR leg lost\r\n".as_slice());
+    Ok(())
+}
+
+fn core_that_deletes(alloc: Global) -> Result<(ProxyCore, OpId), Fail> {
+    let mut core = core_of(alloc, 0, 4)?;
+    let op = issued(&mut core, 1000, delete(alloc, b"k")?)?.op;
+    Ok((core, op))
+}
+
+#[test]
+fn a_delete_may_hear_its_new_leg_first(rt: HostRuntime) -> Result<(), Fail> {
+    let alloc = rt.alloc();
+    let (mut core, op) = core_that_deletes(alloc)?;
     assert_eq!(rt;
-        taken_as(core.take_reply(leg(op, 0), LegReply::Miss)),
+        taken_as(core.take_reply(leg(op, 1), LegReply::NotFound)),
         "waiting"
     );
+    let text = text_of(alloc, core.take_reply(leg(op, 0), LegReply::Deleted))?;
+    assert_eq!(rt; text.as_slice(), b"NOT_FOUND\r\n".as_slice());
+    Ok(())
+}
+
+#[test]
+fn a_delete_with_a_lost_leg_fails(rt: HostRuntime) -> Result<(), Fail> {
+    let alloc = rt.alloc();
+    let (mut core, op) = core_that_deletes(alloc)?;
     assert_eq!(rt;
-        taken_as(core.take_reply(leg(op, 1), LegReply::Miss)),
+        taken_as(core.take_reply(leg(op, 0), LegReply::Deleted)),
         "waiting"
     );
-    assert_eq!(rt; taken_as(core.take_reply(leg(op, 2), lost)), "leg lost");
+    let text = written(alloc, &core.give_up(op)?)?;
+    assert_eq!(rt; text.as_slice(), b"SERVER_ERROR leg lost\r\n".as_slice());
+    Ok(())
+}
+
+#[test]
+fn a_failed_delete_tells_the_old_sides_cause(rt: HostRuntime) -> Result<(), Fail> {
+    let alloc = rt.alloc();
+    let (mut core, op) = core_that_deletes(alloc)?;
+    let (busy, lost) = (
+        LegReply::Failed(Cause::Busy),
+        LegReply::Failed(Cause::LegLost),
+    );
+    assert_eq!(rt; taken_as(core.take_reply(leg(op, 1), lost)), "waiting");
+    let text = text_of(alloc, core.take_reply(leg(op, 0), busy))?;
+    assert_eq!(rt; text.as_slice(), b"SERVER_ERROR busy\r\n".as_slice());
+    Ok(())
+}
+
+#[test]
+fn a_proxy_tells_what_it_was_made_of(rt: HostRuntime) -> Result<(), Fail> {
+    let core = core_of(rt.alloc(), 3, 4)?;
+    assert_eq!(rt; core.number(), 0);
+    assert_eq!(rt; (core.incarnation(), core.room()), (3, 4));
+    assert_eq!(rt; core.schedule().start(), 1000);
+    assert_eq!(rt; core.routing().new_pool().len(), 3);
     Ok(())
 }
 
@@ -258,8 +315,15 @@ fn a_full_proxy_refuses(rt: HostRuntime) -> Result<(), Fail> {
     let alloc = rt.alloc();
     let mut core = core_of(alloc, 0, 1)?;
     assert_eq!(rt; issued(&mut core, 999, get(alloc, &[b"k"])?)?.op, op(0, 0));
-    let (refusal, _back) = refused(&mut core, 999, get(alloc, &[b"k"])?)?;
+    let (refusal, back) = refused(&mut core, 999, get(alloc, &[b"k"])?)?;
     assert_eq!(rt; refusal, ProxyError::NoRoom);
+    let Request::Get { keys } = back else {
+        return Err(Fail::from("another request came back"));
+    };
+    assert_eq!(rt; keys.as_slice().len(), 1);
+    for key in keys.as_slice() {
+        assert_eq!(rt; key.as_bytes(), b"k".as_slice());
+    }
     Ok(())
 }
 
@@ -267,11 +331,11 @@ fn a_full_proxy_refuses(rt: HostRuntime) -> Result<(), Fail> {
 fn a_request_is_given_up_once(rt: HostRuntime) -> Result<(), Fail> {
     let alloc = rt.alloc();
     let mut core = core_of(alloc, 0, 1)?;
-    let op = issued(&mut core, 999, get(alloc, &[b"k"])?)?.op;
-    assert_eq!(rt; reply_as(core.give_up(op)?.into_reply()), "leg lost");
-    assert_eq!(rt; core.give_up(op).err(), Some(ProxyError::NoSuchOp));
-    let next = issued(&mut core, 999, get(alloc, &[b"k"])?)?.op;
-    assert_eq!(rt; (next.incarnation, next.number), (0, 1));
+    let first = issued(&mut core, 999, get(alloc, &[b"k"])?)?.op;
+    let text = written(alloc, &core.give_up(first)?)?;
+    assert_eq!(rt; text.as_slice(), b"SERVER_ERROR leg lost\r\n".as_slice());
+    assert_eq!(rt; core.give_up(first).err(), Some(ProxyError::NoSuchOp));
+    assert_eq!(rt; issued(&mut core, 999, get(alloc, &[b"k"])?)?.op, op(0, 1));
     Ok(())
 }
 
@@ -308,6 +372,7 @@ fn a_restarted_proxy_knows_no_reply(rt: HostRuntime) -> Result<(), Fail> {
     let alloc = rt.alloc();
     let mut core = core_of(alloc, 0, 4)?;
     let before = issued(&mut core, 1000, delete(alloc, b"k")?)?.op;
+    assert_eq!(rt; before, op(0, 0));
     core.restart()?;
     assert_eq!(rt; issued(&mut core, 1000, delete(alloc, b"k")?)?.op, op(1, 0));
     assert_eq!(rt;
@@ -315,7 +380,7 @@ fn a_restarted_proxy_knows_no_reply(rt: HostRuntime) -> Result<(), Fail> {
         "stranger"
     );
     assert_eq!(rt;
-        taken_as(core.take_reply(leg(before, 1), LegReply::Deleted)),
+        taken_as(core.take_reply(leg(before, 1), LegReply::NotFound)),
         "stranger"
     );
     assert_eq!(rt; core.outstanding(), 1);
@@ -361,7 +426,7 @@ fn a_leg_comes_back_with_its_sheet(rt: HostRuntime) -> Result<(), Fail> {
     let mut core = core_of(alloc, 0, 4)?;
     for leg in issued(&mut core, 1200, set_a(alloc)?)?.legs {
         assert_eq!(rt; (leg.sheet().side, leg.sheet().node), (Side::New, 1));
-        let back = leg.returned(LegReply::Stored);
+        let back = leg.returned(LegReply::Stored).copy()?;
         assert_eq!(rt;
             taken_as(core.take_reply(back.sheet.id, back.reply)),
             "stored"
