@@ -1,7 +1,7 @@
 //! The service of requests that come as text.
 ghost use Rattle.std.specs.Prelude.{◌≡◌, ◌≢◌, ◌+◌, ◌*◌, ◌<◌, ◌≤◌, length};
 ghost use Rattle.mr_node.specs.Outcome.{Outcome};
-ghost use Rattle.mr_node.specs.Session.{ServiceIs};
+ghost use Rattle.mr_node.specs.Session.{ServiceIs, most_read};
 
 use crate::ended::Ended;
 use crate::error::NodeError;
@@ -40,8 +40,8 @@ pub fn serve<P: Perform, S: Source, W: Sink, C: Clock>(
     ensures service { ServiceIs (Outcome C.reads C.failures P.did P.refused) (S.taken reader.old) (S.taken reader.new) (S.left reader.new)
         (W.written writer.old) (W.written writer.new) clock.old node.old clock.new node.new result }
 
-    // No read brings more than the buffer holds. TurnsSpent comes after all reads that are allowed, each of which brought a byte.
-    ensures reads { length (S.taken reader.new) ≤ length (S.taken reader.old) + turns * READ_LENGTH }
+    // No read brings more bytes than it may. TurnsSpent comes after all reads that are allowed, each of which brought a byte.
+    ensures reads { length (S.taken reader.new) ≤ length (S.taken reader.old) + turns * most_read }
     ensures turns { result ≡ Err NodeError.TurnsSpent → length (S.taken reader.old) + turns ≤ length (S.taken reader.new) }
 
     // A fault is answered only where that device failed, and none is passed over.
