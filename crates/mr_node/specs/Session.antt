@@ -16,6 +16,10 @@ use Rattle.mr_node.specs.declared.error.NodeError.TheVariants.{ZeroCapacity, Out
 use Rattle.mr_node.specs.Output.{Exchange, Reads, SpellsExchange, output_of, reply_to_refusal, text_of_answer}
 use Rattle.mr_node.specs.Output.Exchange.{Asked, Unknown}
 
+-- the most bytes that one read may bring
+abbrev pub most_read : ℕ
+most_read = 4096
+
 -- what exchanges do, by what one request does
 abbrev pub DoesExchange : {C P : Type 0} → (C → P → Request → Reply → C → P → Type 0) → C → P → Exchange → C → P → Type 0
 DoesExchange Does clock node (Asked request outcome) clock' node' = Does clock node request outcome clock' node'

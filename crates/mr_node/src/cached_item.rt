@@ -1,4 +1,7 @@
+ghost use Rattle.std.specs.Prelude.{◌≡◌, IfOk};
+
 use mr_text::{Block, Key};
+use std::alloc::AllocError;
 
 /// An item in a cache.
 #[derive(Debug, Drop)]
@@ -11,4 +14,18 @@ pub struct CachedItem {
     pub block: Block,
     /// The moment from which on the item is expired, in seconds since the epoch. With none it never expires.
     pub expires_at: Option<u64>,
+}
+
+impl CachedItem {
+    /// An equal item.
+    pub fn copy(&self) -> Result<CachedItem, AllocError>
+        ensures { IfOk result (λ item. item ≡ self.now) }
+    {
+        Ok(CachedItem {
+            key: self.key.copy()?,
+            flags: self.flags,
+            block: self.block.copy()?,
+            expires_at: self.expires_at,
+        })
+    }
 }

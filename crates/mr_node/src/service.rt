@@ -1,7 +1,7 @@
 //! The service of requests that come as text.
 ghost use Rattle.std.specs.Prelude.{◌≡◌, ◌≢◌, ◌+◌, ◌*◌, ◌<◌, ◌≤◌, length};
 ghost use Rattle.mr_node.specs.Outcome.{Outcome};
-ghost use Rattle.mr_node.specs.Session.{ServiceIs};
+ghost use Rattle.mr_node.specs.Session.{ServiceIs, most_read};
 
 use crate::ended::Ended;
 use crate::error::NodeError;
@@ -45,7 +45,7 @@ pub fn serve<P: Perform, S: Source, W: Sink, C: Clock>(
     ensures reads { S.reads reader.new ≤ S.reads reader.old + turns }
     ensures spent { result ≡ Err NodeError.TurnsSpent → S.reads reader.new ≡ S.reads reader.old + turns }
     ensures turns { result ≡ Err NodeError.TurnsSpent → length (S.taken reader.old) + turns ≤ length (S.taken reader.new) }
-    ensures bytes { length (S.taken reader.new) ≤ length (S.taken reader.old) + turns * READ_LENGTH }
+    ensures bytes { length (S.taken reader.new) ≤ length (S.taken reader.old) + turns * most_read }
 
     // A fault is answered only where that device failed, and none is passed over.
     ensures read_fault { result ≡ Err NodeError.ReadFault → S.failures reader.old < S.failures reader.new }

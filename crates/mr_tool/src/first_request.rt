@@ -1,7 +1,7 @@
 //! The first request of an input.
 ghost use Rattle.std.specs.Prelude.{◌≡◌, ◌+◌, ◌≤◌, List, ℕ, true, false, [], ◌++◌};
 ghost use Rattle.mr_text.specs.Stream.{Becomes};
-ghost use Rattle.mr_tool.specs.FirstRequest.{IsNextOf, IsLastOf, Reads, intake};
+ghost use Rattle.mr_tool.specs.FirstRequest.{IsNextOf, IsLastOf, Reads, intake, most_reads};
 
 use crate::fault::Fault;
 use mr_text::{Request, RequestReader, Source, TextError};
@@ -44,7 +44,7 @@ fn next_at_end(reader: &mut RequestReader) -> Result<Request, Fault>
 pub fn first_request<I: Source>(alloc: Global, input: &mut I) -> Result<Request, Fault>
     ensures request { Reads (intake (I.taken input.old) (I.left input.old) (I.reads input.old) (I.failures input.old))
         (intake (I.taken input.new) (I.left input.new) (I.reads input.new) (I.failures input.new)) result }
-    ensures reads { I.reads input.new ≤ I.reads input.old + MOST_READS }
+    ensures reads { I.reads input.new ≤ I.reads input.old + most_reads }
 {
     let mut reader = RequestReader::new(alloc);
     let mut buffer = [0; BUFFER_LENGTH];

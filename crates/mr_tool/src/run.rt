@@ -3,12 +3,12 @@ ghost use Rattle.std.specs.Prelude.{◌≡◌, ◌+◌, ◌≤◌, ◌⊎◌, ma
 ghost use Rattle.mr_phases.specs.Schedule.{one_hop};
 ghost use Rattle.mr_phases.specs.declared.error.ScheduleError.{ScheduleError};
 ghost use Rattle.mr_tool.specs.Fault.{fault_line};
-ghost use Rattle.mr_tool.specs.FirstRequest.{intake};
+ghost use Rattle.mr_tool.specs.FirstRequest.{intake, most_reads};
 ghost use Rattle.mr_tool.specs.Run.{device, HasRouting, routing_of, RefusesRouting, HasSchedule, RefusesSchedule};
 ghost use Rattle.mr_tool.specs.Run.{Prints, PlanGives, Runs};
 
 use crate::fault::Fault;
-use crate::first_request::{MOST_READS, first_request};
+use crate::first_request::first_request;
 use crate::plan::{PlanError, write_plan};
 use crate::pool_words::pool_named;
 use crate::words::{Wanted, WordsFault, read_words};
@@ -85,7 +85,7 @@ fn plan<I: Source, O: Sink>(
         (intake (I.taken input.new) (I.left input.new) (I.reads input.new) (I.failures input.new))
         (device (O.written output.old) (O.failures output.old))
         (device (O.written output.new) (O.failures output.new)) result }
-    ensures reads { I.reads input.new ≤ I.reads input.old + MOST_READS }
+    ensures reads { I.reads input.new ≤ I.reads input.old + most_reads }
 {
     let routing = routing_named(alloc, words)?;
     let schedule = schedule_named(words)?;
@@ -114,7 +114,7 @@ pub fn run_words<I: Source, O: Sink, F: Sink>(
         let told = device (F.written faults.old) (F.failures faults.old) in
         let told' = device (F.written faults.new) (F.failures faults.new) in
         Runs (map (λ word. word.now) words.now) read read' wrote wrote' told told' result }
-    ensures reads { I.reads input.new ≤ I.reads input.old + MOST_READS }
+    ensures reads { I.reads input.new ≤ I.reads input.old + most_reads }
 {
     match read_words(alloc, words) {
         Ok(words) => match plan(alloc, &words, input, output) {

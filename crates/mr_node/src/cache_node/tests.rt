@@ -64,14 +64,11 @@ fn drops_the_item_that_was_not_used_for_the_longest(rt: HostRuntime) -> Result<(
 fn a_hit_is_a_use(rt: HostRuntime) -> Result<(), Fail> {
     let alloc = rt.alloc();
     let mut node = CacheNode::new(alloc, 2)?;
-    for command in vec![in alloc;
-        set(alloc, b"a", 0)?,
-        set(alloc, b"b", 0)?,
-        get(alloc, b"a")?,
-        set(alloc, b"c", 0)?,
-    ]? {
-        let _ = perform(&mut node, 100, command)?;
+    for name in [b"a".as_slice(), b"b".as_slice()] {
+        let _ = perform(&mut node, 100, set(alloc, name, 0)?)?;
     }
+    let _ = perform(&mut node, 100, get(alloc, b"a")?)?;
+    let _ = perform(&mut node, 100, set(alloc, b"c", 0)?)?;
     assert!(rt; node.peek(&key(alloc, b"a")?).is_some());
     assert!(rt; node.peek(&key(alloc, b"b")?).is_none());
     assert_eq!(rt; node.len(), 2);
@@ -219,12 +216,34 @@ fn thirty_days_count_from_the_set(rt: HostRuntime) -> Result<(), Fail> {
 fn a_delete_finds_a_copied_set(rt: HostRuntime) -> Result<(), Fail> {
     let alloc = rt.alloc();
     let mut node = CacheNode::new(alloc, 4)?;
-    for command in vec![in alloc; set(alloc, b"k", 0)?, get(alloc, b"k")?]? {
-        let _ = perform(&mut node, 100, command.copy()?)?;
-    }
+    let setting = set(alloc, b"k", 0)?.copy()?;
+    assert!(rt; matches!(perform(&mut node, 100, setting)?, LegReply::Stored));
+    let getting = get(alloc, b"k")?.copy()?;
+    assert!(rt; is_hit(&perform(&mut node, 100, getting)?));
     let deletion = delete(alloc, b"k")?.copy()?;
     assert!(rt; matches!(perform(&mut node, 100, deletion)?, LegReply::Deleted));
     assert_eq!(rt; node.len(), 0);
+    Ok(())
+}
+
+#[test]
+fn a_copied_item_is_equal(rt: HostRuntime) -> Result<(), Fail> {
+    let alloc = rt.alloc();
+    let mut node = CacheNode::new(alloc, 1)?;
+    let _ = perform(&mut node, 100, set(alloc, b"k", 10)?)?;
+    let copy = match node.peek(&key(alloc, b"k")?) {
+        Some(item) => Some(item.copy()?),
+        None => None,
+    };
+    node.restart();
+    assert!(rt;
+        copy.is_some_and(|item| {
+            item.key.as_bytes() == b"k".as_slice()
+                && item.flags == 5
+                && item.block.as_bytes() == b"v".as_slice()
+                && item.expires_at == Some(110)
+        })
+    );
     Ok(())
 }
 

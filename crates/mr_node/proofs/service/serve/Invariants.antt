@@ -1,5 +1,6 @@
 use Rattle.std.proofs.Common.{◌≡◌, ◌+◌, ◌*◌, ◌≤◌, length, false}
 use Rattle.mr_node.specs.Outcome.{Outcome}
+use Rattle.mr_node.specs.Session.{most_read}
 use Rattle.mr_node.proofs.SessionLemmas.{UnderWay}
 use Rattle.mr_node.proofs.service.serve.Given as goal
 
@@ -13,7 +14,7 @@ invariant-session g l = record {
   counted : g.S.Source.reads l.reader + l.turns_left ≡ g.S.Source.reads l.initial.reader + l.fn.turns;
   -- each read but that of the end brought a byte, and none more than it may
   brought : l.ended ≡ false → length (g.S.Source.taken l.initial.reader) + l.fn.turns ≤ length (g.S.Source.taken l.reader) + l.turns_left;
-  within : length (g.S.Source.taken l.reader) + l.turns_left * 4096 ≤ length (g.S.Source.taken l.initial.reader) + l.fn.turns * 4096;
+  within : length (g.S.Source.taken l.reader) + l.turns_left * most_read ≤ length (g.S.Source.taken l.initial.reader) + l.fn.turns * most_read;
   reads : g.S.Source.failures l.reader ≡ g.S.Source.failures l.initial.reader;
   writes : g.W.Sink.failures l.writer ≡ g.W.Sink.failures l.initial.writer;
 }
