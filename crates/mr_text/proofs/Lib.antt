@@ -24,3 +24,4 @@ pub mod CanonicalWords
 pub mod CanonicalNumbers
 pub mod CanonicalRequests
 pub mod CanonicalReplies
+pub mod Begun

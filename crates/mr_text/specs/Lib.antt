@@ -17,6 +17,7 @@ pub mod Reading
 pub mod CommandView
 pub mod RequestView
 pub mod Canonical
+pub mod Begun
 pub mod FixedBuffer
 pub mod Replies
 pub mod ReplyReading

@@ -1,5 +1,6 @@
 ghost use Rattle.std.specs.Prelude.{◌≡◌, ◌+◌, ◌<◌, ◌≤◌, ◌++◌, ℕ, List, [], Some, Option, take, length, OnOk, OnErr, IsOk, MatchResult};
 ghost use Rattle.std.specs.Io.KnownBytes.{Appends};
+ghost use Rattle.mr_text.specs.Begun.{HasBegun};
 ghost use Rattle.mr_text.specs.Canonical.{canonical_reply};
 
 use crate::counting::GhostCount;
@@ -77,6 +78,7 @@ impl Sink for FixedBuffer {
         // It fails only where there is no room, and then keeps what it has.
         ensures room { length self.old.bytes + length bytes.now ≤ FIXED_BUFFER → IsOk result }
         ensures err { OnErr result (self.new.bytes ≡ self.old.bytes) }
+        ensures counted { OnErr result (self.new.failures ≡ self.old.failures + 1) }
     {
         if bytes.len() > FIXED_BUFFER - self.filled {
             self.failures.add_one();
@@ -97,6 +99,7 @@ pub fn write_reply_at_once<W: Sink>(
 ) -> Result<(), WriteFault>
     ensures written { OnOk result (W.written writer.new ≡ W.written writer.old ++ canonical_reply reply.now) }
     ensures failures { MatchResult result (λ _. W.failures writer.new ≡ W.failures writer.old) (λ _. W.failures writer.old < W.failures writer.new) }
+    ensures begun { OnErr result (HasBegun (W.written writer.old) (canonical_reply reply.now) (W.written writer.new)) }
 {
     buffer.clear();
     match write_reply(reply, buffer) {
