@@ -1,7 +1,10 @@
 use super::*;
 use crate::cache_node::CacheNode;
+use crate::command::NodeCommand;
 use mr_clock::{ClockFault, FixedClock, ListClock};
+use mr_join::LegReply;
 use mr_text::{FailsAt, Key, OverReader, OverWriter};
+use std::alloc::AllocError;
 use std::cell::Cell;
 use std::io;
 use std::io::Read;
@@ -362,5 +365,43 @@ fn a_fault_of_a_device_leaves_what_was_done(rt: HostRuntime) -> Result<(), Fail>
         );
         assert_eq!(rt; node.len(), kept, "at {read} and {write}");
     }
+    Ok(())
+}
+
+/// A node that is always refused memory.
+#[derive(Drop)]
+struct Full;
+
+impl Perform for Full {
+    ghost did = { λ _ _ _ _ _. ⊥ };
+
+    ghost refused = { λ _ _ _ _. Unit {0} };
+
+    ghost of_kind = { λ _ _ _ _ _ never. absurd never };
+
+    fn perform(&mut self, _now: u64, _command: NodeCommand) -> Result<LegReply, AllocError> {
+        Err(AllocError)
+    }
+}
+
+#[test]
+fn answers_want_of_memory_in_a_command_and_goes_on(rt: HostRuntime) -> Result<(), Fail> {
+    let alloc = rt.alloc();
+    let input = b"set k 0 0 1 noreply\r\nv\r\nget k\r\ndelete k\r\nquit\r\n".as_slice();
+    let mut reader = OverReader::new(input);
+    let mut writer = OverWriter::new(Vec::new(alloc));
+    let ended = serve(
+        alloc,
+        &mut Full,
+        &mut reader,
+        &mut writer,
+        &mut FixedClock(999),
+        10,
+    );
+    assert_eq!(rt; ended, Ok(Ended::Quit));
+    assert_eq!(rt;
+        writer.into_inner().as_slice(),
+        b"SERVER_ERROR out of memory\r\nSERVER_ERROR out of memory\r\n".as_slice()
+    );
     Ok(())
 }
