@@ -20,8 +20,12 @@ begun_front old front back new h =
 -- its front, and a beginning of what is behind
 pub begun_behind : (old front back mid new : List ℕ) → mid ≡ old ++ front → HasBegun mid back new → HasBegun old (front ++ back) new
 begun_behind old front back mid new e h =
-    record { front = front ++ h.front; back = h.back; splits = ap (λ l. front ++ l) h.splits ∙ sym (append_assoc front h.front h.back);
-    written = h.written ∙ ap (λ l. l ++ h.front) e ∙ append_assoc old front h.front }
+    record {
+      front = front ++ h.front;
+      back = h.back;
+      splits = ap (λ l. front ++ l) h.splits ∙ sym (append_assoc front h.front h.back);
+      written = h.written ∙ ap (λ l. l ++ h.front) e ∙ append_assoc old front h.front;
+    }
 
 -- a list of pieces: those before, and a beginning of this one
 pub begun_list : {X : Type 0} (piece : X → List ℕ) (xs : List X) (i : ℕ) (x : X) (old mid new : List ℕ) → i < length xs → x ≡ get_or xs i x

@@ -8,8 +8,7 @@ returns-in-Ok c = λ fed is.
 
 pub returns-in-Err-next : goal.returns-in-Err-next
 returns-in-Err-next c = λ fed is.
-    let has = (c.in_default.ensures fed is.stands).2 in
-    (
+    let has = (c.in_default.ensures fed is.stands).2 in (
       next_refusal c.feed.new.self c.next.new.self _ c.in-Err-next.refusal has.is_closed (c.in-Err-next.ensures _ has.stands),
       next_uncut c.feed.new.self c.next.new.self _ c.in-Err-next.refusal has.is_ended (c.in-Err-next.ensures _ has.stands),
     )
