@@ -1,4 +1,5 @@
 //! Worked values of the text, and the reader beside a slow one.
+mod memory;
 mod replies;
 mod requests;
 mod slow;

@@ -1,25 +1,27 @@
 use super::*;
 use mr_text::Block;
+use std::process::Abort;
 use std::test::Fail;
 
-fn key(alloc: Global, name: &[u8]) -> Result<Key, Fail> {
-    Ok(Key::new(alloc, name)?)
+/// The key of a good name.
+fn key(alloc: Global, name: &[u8]) -> Result<Key, AllocError> {
+    Key::new(alloc, name).map_err(|_| AllocError)
 }
 
-fn set(alloc: Global, name: &[u8], exptime: i64) -> Result<NodeCommand, Fail> {
+fn set(alloc: Global, name: &[u8], exptime: i64) -> Result<NodeCommand, AllocError> {
     Ok(NodeCommand::Set {
         key: key(alloc, name)?,
         flags: 5,
         exptime,
-        block: Block::new(alloc, b"v")?,
+        block: Block::new(alloc, b"v").map_err(|_| AllocError)?,
     })
 }
 
-fn get(alloc: Global, name: &[u8]) -> Result<NodeCommand, Fail> {
+fn get(alloc: Global, name: &[u8]) -> Result<NodeCommand, AllocError> {
     Ok(NodeCommand::Get(key(alloc, name)?))
 }
 
-fn delete(alloc: Global, name: &[u8]) -> Result<NodeCommand, Fail> {
+fn delete(alloc: Global, name: &[u8]) -> Result<NodeCommand, AllocError> {
     Ok(NodeCommand::Delete(key(alloc, name)?))
 }
 
@@ -244,6 +246,80 @@ fn a_copied_item_is_equal(rt: HostRuntime) -> Result<(), Fail> {
                 && item.expires_at == Some(110)
         })
     );
+    Ok(())
+}
+
+/// Copies of what is kept, in order of use.
+fn copies(alloc: Global, node: &CacheNode) -> Result<Vec<CachedItem>, AllocError> {
+    let mut items = Vec::new(alloc);
+    for item in &node.items {
+        items.push(item.copy()?)?;
+    }
+    Ok(items)
+}
+
+fn is_same(item: &CachedItem, other: &CachedItem) -> bool {
+    item.key.as_bytes() == other.key.as_bytes()
+        && item.flags == other.flags
+        && item.block.as_bytes() == other.block.as_bytes()
+        && item.expires_at == other.expires_at
+}
+
+/// Performs a command. Where memory is refused, asserts that the content and the order are what they were, and performs
+/// it again.
+fn perform_or_keep(
+    rt: &impl Abort,
+    alloc: Global,
+    node: &mut CacheNode,
+    command: NodeCommand,
+) -> Result<LegReply, AllocError> {
+    let again = command.copy()?;
+    let before = copies(alloc, node)?;
+    if let Ok(reply) = node.perform(100, command) {
+        return Ok(reply);
+    }
+    assert_eq!(rt; node.len(), before.len());
+    assert!(rt;
+        node.items
+            .iter()
+            .zip(&before)
+            .all(|(item, copy)| is_same(item, copy))
+    );
+    node.perform(100, again)
+}
+
+/// Asserts what commands answer and leave, where one allocation may be refused.
+fn commands_are_performed(
+    rt: &impl Abort,
+    alloc: Global,
+    node: &mut CacheNode,
+) -> Result<(), AllocError> {
+    for name in [b"a".as_slice(), b"b".as_slice(), b"c".as_slice()] {
+        let stored = perform_or_keep(rt, alloc, node, set(alloc, name, 0)?)?;
+        assert!(rt; matches!(stored, LegReply::Stored), "at {name:?}");
+    }
+    assert!(rt; is_hit(&perform_or_keep(rt, alloc, node, get(alloc, b"b")?)?));
+    let missed = perform_or_keep(rt, alloc, node, get(alloc, b"a")?)?;
+    assert!(rt; matches!(missed, LegReply::Miss));
+    let deleted = perform_or_keep(rt, alloc, node, delete(alloc, b"c")?)?;
+    assert!(rt; matches!(deleted, LegReply::Deleted));
+    let kept = copies(alloc, node)?;
+    assert_eq!(rt; kept.len(), 1);
+    assert!(rt;
+        kept.iter()
+            .all(|item| item.key.as_bytes() == b"b".as_slice())
+    );
+    Ok(())
+}
+
+/// In the gate no allocation is refused; `refused-memory` refuses each in turn.
+#[test]
+fn refused_memory_changes_nothing(rt: HostRuntime) -> Result<(), Fail> {
+    let alloc = rt.alloc();
+    if commands_are_performed(&rt, alloc, &mut CacheNode::new(alloc, 2)?).is_ok() {
+        return Ok(());
+    }
+    commands_are_performed(&rt, alloc, &mut CacheNode::new(alloc, 2)?)?;
     Ok(())
 }
 

@@ -8,6 +8,7 @@ use std::alloc::AllocError;
 use std::cell::Cell;
 use std::io;
 use std::io::Read;
+use std::process::Abort;
 use std::test::Fail;
 
 /// A reader that gives one byte at a time.
@@ -403,5 +404,57 @@ fn answers_want_of_memory_in_a_command_and_goes_on(rt: HostRuntime) -> Result<()
         writer.into_inner().as_slice(),
         b"SERVER_ERROR out of memory\r\nSERVER_ERROR out of memory\r\n".as_slice()
     );
+    Ok(())
+}
+
+/// Asserts how a service ends and what it writes and keeps, where one allocation may be refused, and says whether it
+/// was.
+fn lacks_memory(rt: &impl Abort, alloc: Global) -> Result<bool, AllocError> {
+    let mut writer = OverWriter::new(Vec::with_capacity(alloc, 256)?);
+    let mut node = CacheNode::new(alloc, 2).map_err(|_| AllocError)?;
+    let ended = serve(
+        alloc,
+        &mut node,
+        &mut OverReader::new(b"set k 5 0 1\r\nv\r\nget k\r\n".as_slice()),
+        &mut writer,
+        &mut FixedClock(999),
+        10,
+    );
+    let written = writer.into_inner();
+    let is_ample = written.as_slice() == b"STORED\r\nVALUE k 5 1\r\nv\r\nEND\r\n".as_slice();
+    let outcomes = [
+        (
+            Ok(Ended::Ended),
+            b"SERVER_ERROR out of memory\r\nEND\r\n".as_slice(),
+            0,
+        ),
+        (
+            Ok(Ended::Ended),
+            b"STORED\r\nSERVER_ERROR out of memory\r\n".as_slice(),
+            1,
+        ),
+        (Err(NodeError::OutOfMemory), b"".as_slice(), 0),
+        (Err(NodeError::OutOfMemory), b"STORED\r\n".as_slice(), 1),
+    ];
+    let is_one = outcomes.iter().any(|(how, output, kept)| ended == *how
+        && written.as_slice() == *output
+        && node.len() == *kept);
+    if is_ample {
+        assert_eq!(rt; ended, Ok(Ended::Ended));
+        assert_eq!(rt; node.len(), 1);
+    } else {
+        assert!(rt; is_one, "{ended:?} after {written:?}");
+    }
+    Ok(!is_ample)
+}
+
+/// In the gate no allocation is refused; `refused-memory` refuses each in turn.
+#[test]
+fn refused_memory_is_answered_or_ends_the_service(rt: HostRuntime) -> Result<(), Fail> {
+    let alloc = rt.alloc();
+    if matches!(lacks_memory(&rt, alloc), Ok(false)) {
+        return Ok(());
+    }
+    assert!(rt; !lacks_memory(&rt, alloc)?);
     Ok(())
 }

@@ -281,9 +281,10 @@ fn agree_on_change(
     Ok(())
 }
 
+/// The same for each prefix, cut and change of one byte.
 fn agree_on_changes(rt: &impl Abort, alloc: Global, texts: Texts, text: &[u8]) -> Result<(), Fail> {
     agree_on_pieces(rt, alloc, texts, text)?;
-    for byte in [b' ', b'\r', b'\n', b'0', b'x', 0x7f, b'-', b'9'] {
+    for byte in 0..=u8::MAX {
         agree_on_change(rt, alloc, texts, text, byte)?;
     }
     Ok(())
