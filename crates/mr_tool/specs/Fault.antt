@@ -40,3 +40,7 @@ fault_line Output = codes "migctl: output\n"
 fault_line (Text refusal) = text_fault_line refusal
 fault_line (Pools refusal) = pools_fault_line refusal
 fault_line (Phases refusal) = phases_fault_line refusal
+
+-- where a word isn't text
+abbrev pub not_text_line : List ℕ
+not_text_line = codes "migctl: words are not UTF-8\n"

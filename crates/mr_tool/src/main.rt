@@ -12,15 +12,12 @@ mod tests;
 mod words;
 
 use fault::Fault;
-use mr_text::{OverReader, OverWriter, Sink};
-use run::{WRONG_WORDS, print_fault, run_words};
+use mr_text::{OverReader, OverWriter};
+use run::{print_fault, print_not_text, run_words};
 use std::alloc::{AllocError, Global};
 use std::env::Args;
 use std::process::ExitCode;
 use std::{env, io};
-
-/// What is printed where a word isn't text.
-const NOT_TEXT: &[u8] = b"migctl: words are not UTF-8\n";
 
 /// The words after the program's name, each borrowed from the arguments.
 fn words_of(alloc: Global, arguments: &[String]) -> Result<Vec<&str>, AllocError> {
@@ -54,10 +51,7 @@ fn main(rt: HostRuntime) -> ExitCode {
         Err(error) if error.kind() == io::ErrorKind::OutOfMemory => {
             print_fault(Fault::Memory, &mut faults)
         }
-        Err(_) => {
-            let _ = faults.write_all(NOT_TEXT);
-            WRONG_WORDS
-        }
+        Err(_) => print_not_text(&mut faults),
     };
     ExitCode::from(status)
 }

@@ -2,7 +2,7 @@
 ghost use Rattle.std.specs.Prelude.{◌≡◌, ◌+◌, ◌≤◌, ◌⊎◌, map, IfOk, IfErr};
 ghost use Rattle.mr_phases.specs.Schedule.{one_hop};
 ghost use Rattle.mr_phases.specs.declared.error.ScheduleError.{ScheduleError};
-ghost use Rattle.mr_tool.specs.Fault.{fault_line};
+ghost use Rattle.mr_tool.specs.Fault.{fault_line, not_text_line};
 ghost use Rattle.mr_tool.specs.FirstRequest.{intake, most_reads};
 ghost use Rattle.mr_tool.specs.Run.{device, HasRouting, routing_of, RefusesRouting, HasSchedule, RefusesSchedule};
 ghost use Rattle.mr_tool.specs.Run.{Prints, PlanGives, Runs};
@@ -34,6 +34,16 @@ pub fn print_fault<F: Sink>(fault: Fault, faults: &mut F) -> u8
 {
     let _ = faults.write_all(fault.line().as_bytes());
     FAULT
+}
+
+/// Prints that a word isn't text, which no command can have.
+pub fn print_not_text<F: Sink>(faults: &mut F) -> u8
+    ensures status { result ≡ WRONG_WORDS }
+    ensures prints { Prints (device (F.written faults.old) (F.failures faults.old))
+        (device (F.written faults.new) (F.failures faults.new)) not_text_line }
+{
+    let _ = faults.write_all("migctl: words are not UTF-8\n".as_bytes());
+    WRONG_WORDS
 }
 
 /// Prints why the words are wrong, or the help that they call for.

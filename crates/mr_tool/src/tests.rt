@@ -1,5 +1,5 @@
 //! Whole runs, over inputs and outputs in memory.
-use crate::run::run_words;
+use crate::run::{print_not_text, run_words};
 use mr_text::{FailsAt, OverReader, OverWriter, ReadFault, Sink, Source};
 use std::alloc::{AllocError, Global};
 use std::process::Abort;
@@ -187,6 +187,45 @@ fn words_are_refused_with_status_2(rt: HostRuntime) {
 }
 
 #[test]
+fn wrong_words_and_help_have_texts(rt: HostRuntime) {
+    let cases: [(&[&str], &[u8]); 4] = [
+        (
+            &["plan", OLD, NEW, "1000", "100", "md5", "999"],
+            b"error: invalid value 'md5' for '<hash>'\n  [possible values: sum, fnv1a32]\n\n\
+            For more information, try '--help'.\n",
+        ),
+        (
+            &["plan", OLD, NEW, "x", "100", "sum", "999"],
+            b"error: invalid value 'x' for '<start>': invalid digit found in string\n\n\
+            For more information, try '--help'.\n",
+        ),
+        (
+            &["draw"],
+            b"error: unrecognized subcommand 'draw'\n\nUsage: migctl <COMMAND>\n\n\
+            For more information, try '--help'.\n",
+        ),
+        (
+            &["plan", "--help"],
+            b"Prints where the request on the standard input goes\n\n\
+            Usage: migctl plan <old> <new> <start> <interval> <hash> <at>\n\n\
+            Arguments:\n\
+            \x20 <old>       The old pool: names with commas between them\n\
+            \x20 <new>       The new pool: names with commas between them\n\
+            \x20 <start>     The first second of the migration\n\
+            \x20 <interval>  The seconds of each of its two middle phases\n\
+            \x20 <hash>      The hash that places keys [possible values: sum, fnv1a32]\n\
+            \x20 <at>        The second at which the request arrives\n\n\
+            Options:\n\
+            \x20 -h, --help  Print help\n",
+        ),
+    ];
+    for (words, text) in cases {
+        let ran = run(rt.alloc(), words, b"delete k\n");
+        expect_run(&rt, &ran, 2, b"", text);
+    }
+}
+
+#[test]
 fn pools_and_schedules_are_refused_in_order(rt: HostRuntime) -> Result<(), Fail> {
     let alloc = rt.alloc();
     let mut many = String::from_str(alloc, "n")?;
@@ -349,5 +388,19 @@ fn devices_fail(rt: HostRuntime) {
     let mut input = OverReader::new(&b"get\r\n"[..]);
     let status = run_words(alloc, &words, &mut input, &mut output, &mut silent);
     assert_eq!(rt; status, 1);
+    assert!(rt; silent.into_inner().into_inner().is_empty());
+}
+
+#[test]
+fn words_that_are_no_text_get_a_line(rt: HostRuntime) {
+    let alloc = rt.alloc();
+    let mut faults = OverWriter::new(Vec::new(alloc));
+    assert_eq!(rt; print_not_text(&mut faults), 2);
+    assert_eq!(rt;
+        faults.into_inner().as_slice(),
+        b"migctl: words are not UTF-8\n".as_slice()
+    );
+    let mut silent = FailsAt::new(OverWriter::new(Vec::new(alloc)), 1);
+    assert_eq!(rt; print_not_text(&mut silent), 2);
     assert!(rt; silent.into_inner().into_inner().is_empty());
 }

@@ -113,6 +113,7 @@ fn program<'a>(alloc: Global) -> Result<Command<'a>, AllocError>
 {
     let plan = plan_command(alloc)?;
     let program = Command::new(alloc, "migctl")
+        .bin_name("migctl")?
         .about("Plans the migration of a memcached pool")
         .subcommand(plan)?;
     Ok(

@@ -5,6 +5,9 @@ use crate::{
     TextError, WriteFault,
 };
 use std::alloc::Global;
+use std::cell::Cell;
+use std::io;
+use std::io::{Read, Write};
 use std::process::Abort;
 use std::test::Fail;
 
@@ -162,6 +165,53 @@ fn one_write_fails(rt: HostRuntime) {
     fails_writing(&rt, alloc, 2, b"acd");
     fails_writing(&rt, alloc, 4, b"abc");
     fails_writing(&rt, alloc, 5, b"abcd");
+}
+
+/// A device of std whose first call fails, and which counts its calls.
+#[derive(Drop)]
+struct FirstCallFails<'a>(&'a Cell<u64>);
+
+impl FirstCallFails<'_> {
+    fn call(&self) -> io::Result<usize> {
+        self.0.set(self.0.get().saturating_add(1));
+        if self.0.get() == 1 {
+            return Err(io::ErrorKind::BrokenPipe.into());
+        }
+        Ok(1)
+    }
+}
+
+impl Read for FirstCallFails<'_> {
+    fn read(&mut self, buffer: &mut [u8]) -> io::Result<usize> {
+        Ok(self.call()?.min(buffer.len()))
+    }
+}
+
+impl Write for FirstCallFails<'_> {
+    fn write(&mut self, bytes: &[u8]) -> io::Result<usize> {
+        Ok(self.call()?.min(bytes.len()))
+    }
+
+    fn flush(&mut self) -> io::Result<()> {
+        Ok(())
+    }
+}
+
+#[test]
+fn failed_call_of_a_device_is_not_made_again(rt: HostRuntime) {
+    let calls = Cell::new(0);
+    let mut source = OverReader::new(FirstCallFails(&calls));
+    let mut buffer = [0; 4];
+    assert_eq!(rt; read_at_bound(&mut source, &mut buffer), Err(ReadFault));
+    assert_eq!(rt; calls.get(), 1);
+    assert_eq!(rt; read_at_bound(&mut source, &mut buffer), Ok(1));
+    assert_eq!(rt; calls.get(), 2);
+    calls.set(0);
+    let mut sink = OverWriter::new(FirstCallFails(&calls));
+    assert_eq!(rt; write_at_bound(&mut sink, b"a"), Err(WriteFault));
+    assert_eq!(rt; calls.get(), 1);
+    assert_eq!(rt; write_at_bound(&mut sink, b"a"), Ok(()));
+    assert_eq!(rt; calls.get(), 2);
 }
 
 #[test]

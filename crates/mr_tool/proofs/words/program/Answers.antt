@@ -8,7 +8,7 @@ pub returns : goal.returns
 returns c =
     let p = c.in_ok-plan.ensures.0 in
     let plan_is = c.in_ok-plan.ensures.2 in
-    let start : app_of c.about.result ≡ new_app (codes "migctl") = rw c.about.ensures c.new.ensures.app in
+    let start : app_of c.about.result ≡ new_app (codes "migctl") = rw (c.about.ensures, c.in_ok-bin_name.ensures.0) c.new.ensures.app in
     let whole : app_of c.in_ok-program.program ≡ with_subcommand (new_app (codes "migctl")) (plan_app p).top =
     c.in_ok-program.ensures.shape (third_is_false _ _ _ _ (ap (λ (a : App). a.top.is_plain) plan_is)) ∙ ap₂ with_subcommand start (ap (λ (a : App). a.top) plan_is) in (
       p,
