@@ -1,6 +1,6 @@
 use super::*;
 use mr_phases::Side;
-use mr_text::Cause;
+use mr_text::{Block, Cause, Line};
 use std::test::Fail;
 
 /// What a client reads of the reply.
@@ -74,5 +74,43 @@ fn the_worse_reply_is_told(rt: HostRuntime) -> Result<(), Fail> {
     assert_eq!(rt; failed(Cause::Busy).badness(), 2);
     let worst = worse(LegReply::Deleted, failed(Cause::LegLost).copy()?);
     assert_eq!(rt; told(&worst), "SERVER_ERROR leg lost");
+    Ok(())
+}
+
+#[test]
+fn equal_replies_are_the_same(rt: HostRuntime) -> Result<(), Fail> {
+    let alloc = rt.alloc();
+    let hit = |flags, text: &str| -> Result<LegReply, Fail> {
+        Ok(LegReply::Hit {
+            flags,
+            block: Block::new(alloc, text.as_bytes())?,
+        })
+    };
+    let other = |text: &str| -> Result<LegReply, Fail> {
+        Ok(failed(Cause::Other(Line::new(alloc, text.as_bytes())?)))
+    };
+    let replies = [
+        hit(0, "a")?,
+        hit(1, "a")?,
+        hit(0, "b")?,
+        LegReply::Miss,
+        LegReply::Stored,
+        LegReply::Deleted,
+        LegReply::NotFound,
+        failed(Cause::Busy),
+        failed(Cause::LegLost),
+        other("lost")?,
+        other("tired")?,
+    ];
+    for (place, reply) in replies.iter().enumerate() {
+        for (other_place, other_reply) in replies.iter().enumerate() {
+            let same = place == other_place;
+            assert_eq!(rt;
+                reply.same_as(&other_reply.copy()?),
+                same,
+                "{place} {other_place}"
+            );
+        }
+    }
     Ok(())
 }
