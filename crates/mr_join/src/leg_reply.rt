@@ -1,4 +1,5 @@
-ghost use Rattle.std.specs.Prelude.{◌≡◌, IfOk};
+//! The reply of one leg.
+ghost use Rattle.std.specs.Prelude.{◌≡◌, ◌↔◌, IsTrue, IfOk};
 
 use mr_text::{Block, Cause};
 use std::alloc::AllocError;
@@ -41,5 +42,39 @@ impl LegReply {
             LegReply::NotFound => LegReply::NotFound,
             LegReply::Failed(cause) => LegReply::Failed(cause.copy()?),
         })
+    }
+
+    /// Whether the other reply is equal. It takes no memory.
+    pub fn same_as(&self, other: &LegReply) -> bool
+        ensures { IsTrue result ↔ (self.now ≡ other.now) }
+    {
+        match (self, other) {
+            (
+                LegReply::Hit { flags, block },
+                LegReply::Hit {
+                    flags: other_flags,
+                    block: other_block,
+                },
+            ) => flags == other_flags && block.as_bytes() == other_block.as_bytes(),
+            (LegReply::Miss, LegReply::Miss)
+            | (LegReply::Stored, LegReply::Stored)
+            | (LegReply::Deleted, LegReply::Deleted)
+            | (LegReply::NotFound, LegReply::NotFound) => true,
+            (LegReply::Failed(cause), LegReply::Failed(other_cause)) => {
+                same_cause(cause, other_cause)
+            }
+            _ => false,
+        }
+    }
+}
+
+/// Whether both causes are equal: a named cause has a text of its own, and no other cause has it.
+fn same_cause(cause: &Cause, other: &Cause) -> bool
+    ensures { IsTrue result ↔ (cause.now ≡ other.now) }
+{
+    match (cause, other) {
+        (Cause::Other(line), Cause::Other(other_line)) => line.as_bytes() == other_line.as_bytes(),
+        (Cause::Other(_), _) | (_, Cause::Other(_)) => false,
+        _ => cause.text() == other.text(),
     }
 }
