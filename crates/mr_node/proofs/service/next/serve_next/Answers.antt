@@ -5,7 +5,7 @@ use Rattle.mr_text.specs.declared.error.TextError.{TextError}
 use Rattle.mr_text.specs.declared.request.Request.{Request}
 use Rattle.mr_node.specs.Outcome.{Outcome}
 use Rattle.mr_node.proofs.ServiceLemmas.{step_of_request, step_of_refusal}
-use Rattle.mr_node.proofs.service.step.step.Goals as goal
+use Rattle.mr_node.proofs.service.next.serve_next.Goals as goal
 
 pub returns-in-Ok-None : goal.returns-in-Ok-None
 returns-in-Ok-None g c rest stands =
