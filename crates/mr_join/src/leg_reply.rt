@@ -55,26 +55,13 @@ impl LegReply {
                     flags: other_flags,
                     block: other_block,
                 },
-            ) => flags == other_flags && block.as_bytes() == other_block.as_bytes(),
+            ) => flags == other_flags && block.same_as(other_block),
             (LegReply::Miss, LegReply::Miss)
             | (LegReply::Stored, LegReply::Stored)
             | (LegReply::Deleted, LegReply::Deleted)
             | (LegReply::NotFound, LegReply::NotFound) => true,
-            (LegReply::Failed(cause), LegReply::Failed(other_cause)) => {
-                same_cause(cause, other_cause)
-            }
+            (LegReply::Failed(cause), LegReply::Failed(other_cause)) => cause.same_as(other_cause),
             _ => false,
         }
-    }
-}
-
-/// Whether both causes are equal: a named cause has a text of its own, and no other cause has it.
-fn same_cause(cause: &Cause, other: &Cause) -> bool
-    ensures { IsTrue result ↔ (cause.now ≡ other.now) }
-{
-    match (cause, other) {
-        (Cause::Other(line), Cause::Other(other_line)) => line.as_bytes() == other_line.as_bytes(),
-        (Cause::Other(_), _) | (_, Cause::Other(_)) => false,
-        _ => cause.text() == other.text(),
     }
 }
