@@ -1,8 +1,8 @@
 //! What a writer leaves where one of its calls fails.
 use super::{add_repeated, reply_text, request_text};
 use crate::{
-    Block, Cause, Item, ItemList, Key, KeyList, Line, OverWriter, Reply, Request, write_reply,
-    write_request,
+    Block, Cause, Item, ItemList, Key, KeyList, Line, OverWriter, Reply, Request, WriteFault,
+    write_delete, write_get, write_reply, write_request, write_server_error, write_set,
 };
 use std::alloc::Global;
 use std::io;
@@ -188,6 +188,55 @@ fn requests_take_few_calls(rt: HostRuntime) -> Result<(), Fail> {
     request_takes(&rt, alloc, &Request::Delete { key, noreply }, 1, "delete")?;
     request_takes(&rt, alloc, &set_of(alloc, 1)?, 1, "set")?;
     request_takes(&rt, alloc, &set_of(alloc, 8192)?, 3, "long set")
+}
+
+/// A writer of one command or error.
+#[derive(Clone, Copy, Debug)]
+enum Writer {
+    Get,
+    Set,
+    Delete,
+    ServerError,
+}
+
+impl Writer {
+    fn write(
+        self,
+        key: &Key,
+        block: &Block,
+        sink: &mut OverWriter<TakesHalf>,
+    ) -> Result<(), WriteFault> {
+        match self {
+            Writer::Get => write_get(key, sink),
+            Writer::Set => write_set(key, 0, 0, block, sink),
+            Writer::Delete => write_delete(key, sink),
+            Writer::ServerError => write_server_error(&Cause::Busy, sink),
+        }
+    }
+}
+
+#[test]
+fn commands_of_one_key_stop_at_a_fault(rt: HostRuntime) -> Result<(), Fail> {
+    let alloc = rt.alloc();
+    let key = Key::new(alloc, b"k")?;
+    let block = Block::new(alloc, b"v")?;
+    for (writer, text) in [
+        (Writer::Get, b"get k\r\n".as_slice()),
+        (Writer::Set, b"set k 0 0 1\r\nv\r\n".as_slice()),
+        (Writer::Delete, b"delete k\r\n".as_slice()),
+        (Writer::ServerError, b"SERVER_ERROR busy\r\n".as_slice()),
+    ] {
+        let mut sink = OverWriter::new(TakesHalf::new(alloc, 1));
+        assert!(rt;
+            writer.write(&key, &block, &mut sink).is_err(),
+            "{writer:?}"
+        );
+        has_stopped(&rt, &sink.into_inner(), text, "one key");
+        let mut sink = OverWriter::new(TakesHalf::new(alloc, 2));
+        assert!(rt; writer.write(&key, &block, &mut sink).is_ok(), "{writer:?}");
+        assert_eq!(rt; sink.into_inner().kept.as_slice(), text, "{writer:?}");
+    }
+    Ok(())
 }
 
 #[test]

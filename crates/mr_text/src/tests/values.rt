@@ -1,8 +1,8 @@
 //! Which bytes make a value, and copies of each.
 use super::{reply_text, request_text};
 use crate::{
-    Block, Cause, Item, ItemList, Key, KeyList, Line, MAX_BLOCK, MAX_ERROR_TEXT, MAX_ITEMS,
-    MAX_KEY, MAX_LINE, Reply, Request, TextError,
+    Block, Cause, FIXED_BUFFER, Item, ItemList, Key, KeyList, Line, MAX_BLOCK, MAX_ERROR_TEXT,
+    MAX_ITEMS, MAX_KEY, MAX_LINE, Reply, Request, TextError,
 };
 use std::alloc::Global;
 use std::process::Abort;
@@ -15,6 +15,7 @@ fn limits_are_those_of_the_text(rt: HostRuntime) {
     assert_eq!(rt; MAX_BLOCK, 8192);
     assert_eq!(rt; MAX_ERROR_TEXT, 8179);
     assert_eq!(rt; MAX_ITEMS, 4094);
+    assert_eq!(rt; FIXED_BUFFER, 4096);
 }
 
 #[test]
