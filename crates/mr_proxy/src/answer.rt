@@ -24,13 +24,19 @@ impl Model for Answer {
     ghost Value = { AnswerView };
 
     ghost view = { λ a. answer_of a.pending a.given_up };
+
+    ghost use Rattle.mr_proxy.specs.Whole.{IsWhole};
+
+    ghost invariant = { λ a. IsWhole (answer_of a.pending a.given_up) };
 }
 
 impl Answer {
     ghost use Rattle.mr_proxy.specs.Answer.{answer_of, reply_of};
+    ghost use Rattle.mr_proxy.specs.Whole.{IsWhole};
 
     /// The answer to a request as it stands.
     pub(crate) fn of(pending: Pending, given_up: bool) -> Answer
+        requires { IsWhole (answer_of pending given_up) }
         ensures { result ≡ answer_of pending given_up }
     {
         Answer { pending, given_up }
@@ -57,9 +63,11 @@ impl Answer {
         self.pending.reading()
     }
 
-    /// The legs in order of place, each with its reply. A leg without one counts as lost.
+    /// The legs in order of place, each with its reply. A leg without one counts as lost. An answer has a leg, its
+    /// legs are those of its request, each reply is of its leg's kind, and it was given up where a leg is silent.
     pub fn slots(&self) -> &[Slot]
-        ensures { result.now ≡ self.now.slots }
+        ensures slots { result.now ≡ self.now.slots }
+        ensures whole { IsWhole self.now }
     {
         self.pending.slots()
     }
