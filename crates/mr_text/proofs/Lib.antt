@@ -24,4 +24,5 @@ pub mod CanonicalWords
 pub mod CanonicalNumbers
 pub mod CanonicalRequests
 pub mod CanonicalReplies
-pub mod Begun
+pub mod Writes
+pub mod Gathered

@@ -2,6 +2,7 @@
 use Rattle.std.specs.Prelude.{ℕ, List, [], ◌∷◌, ◌++◌, Bool, true, false, ℤ, codes, length, flat_map, decimal}
 use Rattle.std.specs.Fmt.{signed_decimal}
 use Rattle.mr_text.specs.CauseText.{text_of}
+use Rattle.mr_text.specs.declared.cause.Cause.{Cause}
 use Rattle.mr_text.specs.declared.item.Item.{Item}
 use Rattle.mr_text.specs.declared.reply.Reply.{Reply}
 use Rattle.mr_text.specs.declared.reply.Reply.TheVariants.{Items, Stored, Deleted, NotFound, Error, ClientError, ServerError}
@@ -37,12 +38,19 @@ value_line_text key flags block_length = codes "VALUE" ++ spaced key ++ spaced (
 abbrev pub item_text : Item → List ℕ
 item_text item = value_line_text item.key item.flags (length item.block) ++ item.block ++ line_end
 
+abbrev pub items_text : List Item → List ℕ
+items_text items = flat_map item_text items
+
+-- the line of an error: its word with a space, and the text of its cause
+abbrev pub error_text : List ℕ → Cause → List ℕ
+error_text word cause = word ++ text_of cause ++ line_end
+
 -- the spelling of a reply: an error's word is followed by its space also where the text is empty
 abbrev pub canonical_reply : Reply → List ℕ
-canonical_reply (Items items) = flat_map item_text items ++ codes "END" ++ line_end
+canonical_reply (Items items) = items_text items ++ codes "END" ++ line_end
 canonical_reply Stored = codes "STORED" ++ line_end
 canonical_reply Deleted = codes "DELETED" ++ line_end
 canonical_reply NotFound = codes "NOT_FOUND" ++ line_end
 canonical_reply Error = codes "ERROR" ++ line_end
-canonical_reply (ClientError cause) = codes "CLIENT_ERROR " ++ text_of cause ++ line_end
-canonical_reply (ServerError cause) = codes "SERVER_ERROR " ++ text_of cause ++ line_end
+canonical_reply (ClientError cause) = error_text (codes "CLIENT_ERROR ") cause
+canonical_reply (ServerError cause) = error_text (codes "SERVER_ERROR ") cause

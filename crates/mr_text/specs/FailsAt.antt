@@ -1,15 +1,29 @@
 -- What a device that is made to fail once is.
-use Rattle.std.specs.Prelude.{ℕ}
+use Rattle.std.specs.Prelude.{◌≡◌, ℕ, [], None, false}
 use Rattle.mr_text.specs.declared.fails_at.FailsAt.{FailsAt}
 
 -- the number of the call, counted from the next one, that is made to fail; 0 for none
 abbrev pub calls_until_failure : {D : Type 0} → FailsAt D → ℕ
 calls_until_failure f = f.until
 
--- how often a call was made to fail
-abbrev pub own_failures_of : {D : Type 0} → FailsAt D → ℕ
-own_failures_of f = f.own_failures
-
 -- the device within
 abbrev pub device_of : {D : Type 0} → FailsAt D → D
 device_of f = f.inner
+
+-- no call was made yet
+pub record IsUnused {D : Type 0} (f : FailsAt D) : Type 0 where
+  pub nothing_handed : f.handed ≡ []
+  pub no_room : f.least_room ≡ None
+  pub no_call : f.calls ≡ 0
+  pub no_failure : f.failures ≡ 0
+  pub not_failed : f.last_failed ≡ false
+
+-- nothing but the number of the call that is made to fail is another
+pub record IsSameBut {D : Type 0} (until : ℕ) (old new : FailsAt D) : Type 0 where
+  pub counted : new.until ≡ until
+  pub same_device : new.inner ≡ old.inner
+  pub same_handed : new.handed ≡ old.handed
+  pub same_room : new.least_room ≡ old.least_room
+  pub same_calls : new.calls ≡ old.calls
+  pub same_failures : new.failures ≡ old.failures
+  pub same_last : new.last_failed ≡ old.last_failed

@@ -1,6 +1,9 @@
 pub mod Limits
+pub mod Sink
+pub mod Source
 pub mod Count
 pub mod Roll
+pub mod Least
 pub mod Key
 pub mod Making
 pub mod TextError
@@ -17,8 +20,7 @@ pub mod Reading
 pub mod CommandView
 pub mod RequestView
 pub mod Canonical
-pub mod Begun
-pub mod FixedBuffer
+pub mod Gathering
 pub mod Replies
 pub mod ReplyReading
 pub mod ReplyView

@@ -20,3 +20,7 @@ MAX_ERROR_TEXT = 8179
 -- the most items of one reply
 abbrev pub MAX_ITEMS : ℕ
 MAX_ITEMS = 4094
+
+-- how many bytes of a text are gathered before they go out
+abbrev pub FIXED_BUFFER : ℕ
+FIXED_BUFFER = 4096

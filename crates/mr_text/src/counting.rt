@@ -2,8 +2,11 @@
 
 mod bytes;
 mod count;
+mod least;
+mod lowest;
 mod roll;
 mod tally;
 
 pub use bytes::GhostBytes;
+pub use lowest::GhostLeast;
 pub use tally::GhostCount;

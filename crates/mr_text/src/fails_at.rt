@@ -1,7 +1,8 @@
-ghost use Rattle.std.specs.Prelude.{◌≡◌, ◌≢◌, ◌+◌, ◌-◌, ◌==◌, ◌<◌, ◌≤◌, ℕ, List, ◌++◌, Option, take, length, if◌then◌else◌, IsErr, IfOk, OnOk, OnErr, MatchResult};
-ghost use Rattle.std.specs.Io.KnownBytes.{ReadConsumes, Appends};
+ghost use Rattle.std.specs.Prelude.{◌≡◌, ◌≢◌, ◌-◌, ◌==◌, false, IsErr, None, []};
+ghost use Rattle.mr_text.specs.Sink.{IsOneWrite};
+ghost use Rattle.mr_text.specs.Source.{IsOneRead};
 
-use crate::counting::GhostCount;
+use crate::counting::{GhostBytes, GhostCount, GhostLeast};
 use crate::error::{ReadFault, WriteFault};
 use crate::sink::Sink;
 use crate::source::Source;
@@ -11,23 +12,31 @@ use crate::source::Source;
 pub struct FailsAt<D> {
     inner: D,
     until: u64,
-    own_failures: GhostCount,
+    handed: GhostBytes,
+    least_room: GhostLeast,
+    calls: GhostCount,
+    failures: GhostCount,
+    last_failed: bool,
 }
 
 impl<D> FailsAt<D> {
-    ghost use Rattle.mr_text.specs.FailsAt.{calls_until_failure, own_failures_of, device_of};
+    ghost use Rattle.mr_text.specs.FailsAt.{calls_until_failure, device_of, IsUnused, IsSameBut};
 
     /// The device, with its `call`-th call of `read` or `write_all`, counted from 1, made to fail. Every other
     /// call goes to the device. With 0 none is made to fail.
     pub fn new(inner: D, call: u64) -> FailsAt<D>
         ensures device { device_of result ≡ inner }
         ensures until { calls_until_failure result ≡ call }
-        ensures failures { own_failures_of result ≡ 0 }
+        ensures unused { IsUnused result }
     {
         FailsAt {
             inner,
             until: call,
-            own_failures: GhostCount::new(),
+            handed: GhostBytes::new(),
+            least_room: GhostLeast::new(),
+            calls: GhostCount::new(),
+            failures: GhostCount::new(),
+            last_failed: false,
         }
     }
 
@@ -38,85 +47,80 @@ impl<D> FailsAt<D> {
         let FailsAt {
             inner,
             until: _,
-            own_failures: _,
+            handed: _,
+            least_room: _,
+            calls: _,
+            failures: _,
+            last_failed: _,
         } = self;
         inner
     }
 
     /// Whether this call is the one that fails.
     fn takes_failing_turn(&mut self) -> bool
-        ensures device { device_of self.new ≡ device_of self.old }
-        ensures until { calls_until_failure self.new ≡ calls_until_failure self.old - 1 }
+        ensures same { IsSameBut (calls_until_failure self.old - 1) self.old self.new }
         ensures turn { result ≡ (calls_until_failure self.old == 1) }
-        ensures failures { own_failures_of self.new ≡ (if result then own_failures_of self.old + 1 else own_failures_of self.old) }
     {
         let fails = self.until == 1;
         self.until = self.until.saturating_sub(1);
-        if fails {
-            self.own_failures.add_one();
-        }
         fails
     }
 }
 
 impl<D: Source> Source for FailsAt<D> {
-    ghost taken = { λ f. D.taken f.inner };
-
-    ghost left = { λ f. D.left f.inner };
-
-    ghost reads = { λ f. D.reads f.inner + f.own_failures };
-
-    ghost failures = { λ f. D.failures f.inner + f.own_failures };
+    ghost told = { λ f. record { taken = (D.told f.inner).taken; left = (D.told f.inner).left; reads = f.calls; failures = f.failures; least_room = f.least_room } };
 
     fn read(&mut self, buffer: &mut [u8]) -> Result<usize, ReadFault>
-        ensures within { IfOk result (λ count. count ≤ length buffer.new) }
-        ensures left { ReadConsumes (D.left self.old.inner) (D.left self.new.inner) result buffer.new }
-        ensures taken { MatchResult result
-            (λ count. D.taken self.new.inner ≡ D.taken self.old.inner ++ take count buffer.new)
-            (λ _. D.taken self.new.inner ≡ D.taken self.old.inner) }
-        ensures reads { D.reads self.new.inner + self.new.own_failures ≡ D.reads self.old.inner + self.old.own_failures + 1 }
-        ensures failures { MatchResult result
-            (λ _. D.failures self.new.inner + self.new.own_failures ≡ D.failures self.old.inner + self.old.own_failures)
-            (λ _. D.failures self.old.inner + self.old.own_failures < D.failures self.new.inner + self.new.own_failures) }
+        ensures read { IsOneRead buffer.new
+            (record { taken = (D.told self.old.inner).taken; left = (D.told self.old.inner).left; reads = self.old.calls; failures = self.old.failures; least_room = self.old.least_room })
+            result
+            (record { taken = (D.told self.new.inner).taken; left = (D.told self.new.inner).left; reads = self.new.calls; failures = self.new.failures; least_room = self.new.least_room }) }
 
-        // The turn to fail comes once, and no other call fails but by the device.
+        // The turn to fail comes once and leaves the device alone. Every other call is one of the device.
         ensures until { self.new.until ≡ self.old.until - 1 }
-        ensures own { self.new.own_failures ≡ (if self.old.until == 1 then self.old.own_failures + 1 else self.old.own_failures) }
         ensures turn { self.old.until ≡ 1 → IsErr result }
         ensures idle { self.old.until ≡ 1 → self.new.inner ≡ self.old.inner }
-        ensures device { self.old.until ≢ 1 → OnErr result (D.failures self.old.inner < D.failures self.new.inner) }
+        ensures device { self.old.until ≢ 1 → IsOneRead buffer.new (D.told self.old.inner) result (D.told self.new.inner) }
     {
+        self.calls.add_one();
+        self.least_room.meet(buffer.len());
         if self.takes_failing_turn() {
+            self.failures.add_one();
             return Err(ReadFault);
         }
-        self.inner.read(buffer)
+        let result = self.inner.read(buffer);
+        if result.is_err() {
+            self.failures.add_one();
+        }
+        result
     }
 }
 
 impl<D: Sink> Sink for FailsAt<D> {
-    ghost written = { λ f. D.written f.inner };
-
-    ghost contents = { λ f. D.contents f.inner };
-
-    ghost failures = { λ f. D.failures f.inner + f.own_failures };
+    ghost told = { λ f. record { written = (D.told f.inner).written; handed = f.handed; calls = f.calls; failures = f.failures; last_failed = f.last_failed; contents = (D.told f.inner).contents } };
 
     fn write_all(&mut self, bytes: &[u8]) -> Result<(), WriteFault>
-        ensures written { MatchResult result
-            (λ _. D.written self.new.inner ≡ D.written self.old.inner ++ bytes.now)
-            (λ _. D.written self.new.inner ≡ D.written self.old.inner) }
-        ensures contents { OnOk result (Appends (D.contents self.old.inner) (D.contents self.new.inner) bytes.now) }
-        ensures failures { MatchResult result
-            (λ _. D.failures self.new.inner + self.new.own_failures ≡ D.failures self.old.inner + self.old.own_failures)
-            (λ _. D.failures self.old.inner + self.old.own_failures < D.failures self.new.inner + self.new.own_failures) }
+        ensures write { IsOneWrite bytes.now
+            (record { written = (D.told self.old.inner).written; handed = self.old.handed; calls = self.old.calls; failures = self.old.failures; last_failed = self.old.last_failed; contents = (D.told self.old.inner).contents })
+            result
+            (record { written = (D.told self.new.inner).written; handed = self.new.handed; calls = self.new.calls; failures = self.new.failures; last_failed = self.new.last_failed; contents = (D.told self.new.inner).contents }) }
         ensures until { self.new.until ≡ self.old.until - 1 }
-        ensures own { self.new.own_failures ≡ (if self.old.until == 1 then self.old.own_failures + 1 else self.old.own_failures) }
         ensures turn { self.old.until ≡ 1 → IsErr result }
         ensures idle { self.old.until ≡ 1 → self.new.inner ≡ self.old.inner }
-        ensures device { self.old.until ≢ 1 → OnErr result (D.failures self.old.inner < D.failures self.new.inner) }
+        ensures device { self.old.until ≢ 1 → IsOneWrite bytes.now (D.told self.old.inner) result (D.told self.new.inner) }
     {
+        self.calls.add_one();
+        self.handed.extend(bytes);
         if self.takes_failing_turn() {
+            self.failures.add_one();
+            self.last_failed = true;
             return Err(WriteFault);
         }
-        self.inner.write_all(bytes)
+        let result = self.inner.write_all(bytes);
+        self.last_failed = result.is_err();
+        if self.last_failed {
+            self.failures.add_one();
+        }
+        result
     }
 }

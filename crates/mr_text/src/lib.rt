@@ -7,7 +7,7 @@ mod cause_text;
 mod counting;
 mod error;
 mod fails_at;
-mod fixed_buffer;
+mod gathering;
 mod item;
 mod item_list;
 mod kept;
@@ -29,15 +29,15 @@ mod writing;
 
 pub use block::Block;
 pub use cause::Cause;
-pub use counting::{GhostBytes, GhostCount};
+pub use counting::{GhostBytes, GhostCount, GhostLeast};
 pub use error::{ReadFault, TextError, WriteFault};
 pub use fails_at::FailsAt;
-pub use fixed_buffer::{FIXED_BUFFER, FixedBuffer, write_reply_at_once};
+pub use gathering::FixedBuffer;
 pub use item::Item;
 pub use item_list::ItemList;
 pub use key::Key;
 pub use key_list::KeyList;
-pub use limits::{MAX_BLOCK, MAX_ERROR_TEXT, MAX_ITEMS, MAX_KEY, MAX_LINE};
+pub use limits::{FIXED_BUFFER, MAX_BLOCK, MAX_ERROR_TEXT, MAX_ITEMS, MAX_KEY, MAX_LINE};
 pub use line::Line;
 pub use reply::Reply;
 pub use reply_reader::ReplyReader;
@@ -45,4 +45,7 @@ pub use request::Request;
 pub use request_reader::RequestReader;
 pub use sink::{OverWriter, Sink};
 pub use source::{OverReader, Source};
-pub use writing::{write_item, write_reply, write_request, write_server_error};
+pub use writing::{
+    put_end, put_item, write_delete, write_get, write_reply, write_request, write_server_error,
+    write_set,
+};

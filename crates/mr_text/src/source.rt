@@ -1,44 +1,29 @@
-ghost use Rattle.std.specs.Prelude.{◌≡◌, ◌+◌, ◌<◌, ◌≤◌, ℕ, List, [], ◌++◌, Option, take, length, IfOk, MatchResult};
-ghost use Rattle.std.specs.Io.KnownBytes.{ReadConsumes};
+ghost use Rattle.std.specs.Prelude.{◌≡◌, [], None};
+ghost use Rattle.mr_text.specs.Source.{SourceView, IsOneRead};
 
-use crate::counting::{GhostBytes, GhostCount};
+use crate::counting::{GhostBytes, GhostCount, GhostLeast};
 use crate::error::ReadFault;
 use std::io::Read;
 
-/// A stream of bytes to read from, whose contract tells what it gave, how often it was read and how often it failed.
+/// A stream of bytes to read from, whose contract tells what it gave, how often it was read, with how much room, and how
+/// often it failed.
 pub trait Source {
-    /// The bytes given so far.
-    ghost taken: { Self → List ℕ };
-
-    /// The bytes still to come, where they are known.
-    ghost left: { Self → Option (List ℕ) };
-
-    /// How many reads were made, those that failed included.
-    ghost reads: { Self → ℕ };
-
-    /// How often a read failed.
-    ghost failures: { Self → ℕ };
+    /// What was read of it so far.
+    ghost told: { Self → SourceView };
 
     /// Reads some bytes into the front of the buffer and says how many. No byte, in a buffer that has room,
     /// is the end of the stream.
     fn read(&mut self, buffer: &mut [u8]) -> Result<usize, ReadFault>
-        ensures within { IfOk result (λ count. count ≤ length buffer.new) }
-        ensures left { ReadConsumes (left self.old) (left self.new) result buffer.new }
-        ensures taken { MatchResult result
-            (λ count. taken self.new ≡ taken self.old ++ take count buffer.new)
-            (λ _. taken self.new ≡ taken self.old) }
-        ensures reads { reads self.new ≡ reads self.old + 1 }
-        ensures failures { MatchResult result
-            (λ _. failures self.new ≡ failures self.old)
-            (λ _. failures self.old < failures self.new) };
+        ensures { IsOneRead buffer.new (told self.old) result (told self.new) };
 }
 
-/// A reader of std as a `Source`.
+/// A reader of std as a `Source`. Each call is one call of the reader.
 pub struct OverReader<R: Read> {
     inner: R,
     taken: GhostBytes,
     reads: GhostCount,
     failures: GhostCount,
+    least_room: GhostLeast,
 }
 
 impl<R: Read + Drop> Drop for OverReader<R> {
@@ -48,6 +33,7 @@ impl<R: Read + Drop> Drop for OverReader<R> {
             taken: _,
             reads: _,
             failures: _,
+            least_room: _,
         } = self;
     }
 }
@@ -55,31 +41,25 @@ impl<R: Read + Drop> Drop for OverReader<R> {
 impl<R: Read> OverReader<R> {
     /// A source over a reader, of which nothing was taken yet.
     pub fn new(inner: R) -> OverReader<R>
-        ensures taken { ⟦<OverReader<R> as Source>⟧.taken result ≡ [] }
-        ensures left { ⟦<OverReader<R> as Source>⟧.left result ≡ R.remaining inner }
-        ensures reads { ⟦<OverReader<R> as Source>⟧.reads result ≡ 0 }
-        ensures failures { ⟦<OverReader<R> as Source>⟧.failures result ≡ 0 }
+        ensures { ⟦<OverReader<R> as Source>⟧.told result
+            ≡ record { taken = []; left = R.remaining inner; reads = 0; failures = 0; least_room = None } }
     {
         OverReader {
             inner,
             taken: GhostBytes::new(),
             reads: GhostCount::new(),
             failures: GhostCount::new(),
+            least_room: GhostLeast::new(),
         }
     }
 }
 
 impl<R: Read> Source for OverReader<R> {
-    ghost taken = { λ s. s.taken };
-
-    ghost left = { λ s. R.remaining s.inner };
-
-    ghost reads = { λ s. s.reads };
-
-    ghost failures = { λ s. s.failures };
+    ghost told = { λ s. record { taken = s.taken; left = R.remaining s.inner; reads = s.reads; failures = s.failures; least_room = s.least_room } };
 
     fn read(&mut self, buffer: &mut [u8]) -> Result<usize, ReadFault> {
         self.reads.add_one();
+        self.least_room.meet(buffer.len());
         match self.inner.read(buffer) {
             Ok(count) => {
                 self.taken.extend(&buffer[..count]);

@@ -1,4 +1,6 @@
 //! Worked values of the text, and the reader beside a slow one.
+mod devices;
+mod faults;
 mod memory;
 mod replies;
 mod requests;

@@ -1,35 +1,304 @@
 //! The canonical spelling of requests and replies, written to any sink.
-
-ghost use Rattle.std.specs.Prelude.{◌≡◌, ◌<◌, ◌++◌, length, decimal, flat_map, OnOk, OnErr, MatchResult};
-ghost use Rattle.std.specs.Fmt.{signed_decimal};
-ghost use Rattle.mr_text.specs.Canonical.{canonical_request, canonical_reply, spaced, noreply_text, line_end, set_line_text, value_line_text, item_text};
-ghost use Rattle.mr_text.specs.Begun.{HasBegun};
-ghost use Rattle.mr_text.specs.CauseText.{text_of};
+ghost use Rattle.std.specs.Prelude.{◌≡◌, ◌+◌, ◌*◌, ◌≤◌, ◌∷◌, ◌++◌, [], false, codes, flat_map, length};
+ghost use Rattle.mr_text.specs.Canonical.{canonical_request, canonical_reply, line_end, noreply_text, spaced, set_line_text, value_line_text, item_text, error_text, items_text};
+ghost use Rattle.mr_text.specs.Gathering.{Costs, Gathers, TakesFewCalls, parts_of_request, parts_of_reply, owes};
+ghost use Rattle.mr_text.specs.Sink.{Writes};
 ghost use Rattle.mr_text.specs.declared.reply.Reply.TheVariants.{ServerError};
+ghost use Rattle.mr_text.specs.declared.request.Request.TheVariants.{Get, Set, Delete};
 
 use crate::block::Block;
 use crate::cause::Cause;
 use crate::error::WriteFault;
+use crate::gathering::{FixedBuffer, LINE_END};
 use crate::item::Item;
 use crate::key::Key;
 use crate::reply::Reply;
 use crate::request::Request;
 use crate::sink::Sink;
-use itoa::{Buffer, Integer};
+use itoa::Buffer;
 
-const LINE_END: &[u8] = b"\r\n";
-
-/// Writes a request. It takes memory only as the writer does. At a fault a beginning of the text is written, and nothing else.
+/// Writes a request. It takes memory only as the writer does. At a fault a beginning of the text is written, and the
+/// call that failed is the last. A text of up to 4,096 bytes goes out in one call.
 pub fn write_request<W: Sink>(request: &Request, writer: &mut W) -> Result<(), WriteFault>
-    ensures written { OnOk result (W.written writer.new ≡ W.written writer.old ++ canonical_request request.now) }
-    ensures failures { MatchResult result (λ _. W.failures writer.new ≡ W.failures writer.old) (λ _. W.failures writer.old < W.failures writer.new) }
-    ensures begun { OnErr result (HasBegun (W.written writer.old) (canonical_request request.now) (W.written writer.new)) }
+    ensures text { Writes (canonical_request request.now) (W.told writer.old) result (W.told writer.new) }
+    ensures calls { TakesFewCalls (canonical_request request.now) (parts_of_request request.now) (W.told writer.old) (W.told writer.new) }
+{
+    let mut buffer = FixedBuffer::new();
+    put_request(request, &mut buffer, writer)?;
+    buffer.send(writer)
+}
+
+/// Writes a reply. It takes memory only as the writer does. At a fault a beginning of the text is written, and the call
+/// that failed is the last. A text of up to 4,096 bytes goes out in one call.
+pub fn write_reply<W: Sink>(reply: &Reply, writer: &mut W) -> Result<(), WriteFault>
+    ensures text { Writes (canonical_reply reply.now) (W.told writer.old) result (W.told writer.new) }
+    ensures calls { TakesFewCalls (canonical_reply reply.now) (parts_of_reply reply.now) (W.told writer.old) (W.told writer.new) }
+{
+    let mut buffer = FixedBuffer::new();
+    put_reply(reply, &mut buffer, writer)?;
+    buffer.send(writer)
+}
+
+/// Writes the reply SERVER_ERROR with a cause, as `write_reply` does.
+pub fn write_server_error<W: Sink>(cause: &Cause, writer: &mut W) -> Result<(), WriteFault>
+    ensures text { Writes (canonical_reply (ServerError cause.now)) (W.told writer.old) result (W.told writer.new) }
+    ensures calls { TakesFewCalls (canonical_reply (ServerError cause.now)) 1 (W.told writer.old) (W.told writer.new) }
+{
+    let mut buffer = FixedBuffer::new();
+    put_error(b"SERVER_ERROR ", cause, &mut buffer, writer)?;
+    buffer.send(writer)
+}
+
+/// Writes a get of one key, as `write_request` does.
+pub fn write_get<W: Sink>(key: &Key, writer: &mut W) -> Result<(), WriteFault>
+    ensures text { Writes (canonical_request (Get (key.now ∷ []))) (W.told writer.old) result (W.told writer.new) }
+    ensures calls { TakesFewCalls (canonical_request (Get (key.now ∷ []))) 1 (W.told writer.old) (W.told writer.new) }
+{
+    let mut buffer = FixedBuffer::new();
+    buffer.put_line(&[b"get ".as_slice(), key.as_bytes(), LINE_END], writer)?;
+    buffer.send(writer)
+}
+
+/// Writes a set that is answered, as `write_request` does.
+pub fn write_set<W: Sink>(
+    key: &Key,
+    flags: u32,
+    exptime: i64,
+    block: &Block,
+    writer: &mut W,
+) -> Result<(), WriteFault>
+    ensures text { Writes (canonical_request (Set key.now flags exptime block.now false)) (W.told writer.old) result (W.told writer.new) }
+    ensures calls { TakesFewCalls (canonical_request (Set key.now flags exptime block.now false)) 1 (W.told writer.old) (W.told writer.new) }
+{
+    let mut buffer = FixedBuffer::new();
+    put_set(key, flags, exptime, block, false, &mut buffer, writer)?;
+    buffer.send(writer)
+}
+
+/// Writes a delete that is answered, as `write_request` does.
+pub fn write_delete<W: Sink>(key: &Key, writer: &mut W) -> Result<(), WriteFault>
+    ensures text { Writes (canonical_request (Delete key.now false)) (W.told writer.old) result (W.told writer.new) }
+    ensures calls { TakesFewCalls (canonical_request (Delete key.now false)) 1 (W.told writer.old) (W.told writer.new) }
+{
+    let mut buffer = FixedBuffer::new();
+    put_delete(key, false, &mut buffer, writer)?;
+    buffer.send(writer)
+}
+
+/// Puts an item of a get's reply behind what is gathered: its line, and the block behind it.
+pub fn put_item<W: Sink>(
+    key: &Key,
+    flags: u32,
+    block: &Block,
+    buffer: &mut FixedBuffer,
+    writer: &mut W,
+) -> Result<(), WriteFault>
+    ensures text { Gathers (item_text (record { key = key.now; flags = flags; block = block.now }))
+        buffer.old (W.told writer.old) result buffer.new (W.told writer.new) }
+    ensures calls { Costs 2 buffer.old (W.told writer.old) result buffer.new (W.told writer.new) }
+{
+    put_value_line(key, flags, block.as_bytes().len(), buffer, writer)?;
+    buffer.put_block(block.as_bytes(), writer)
+}
+
+fn put_value_line<W: Sink>(
+    key: &Key,
+    flags: u32,
+    block_length: usize,
+    buffer: &mut FixedBuffer,
+    writer: &mut W,
+) -> Result<(), WriteFault>
+    ensures text { Gathers (value_line_text key.now flags block_length) buffer.old (W.told writer.old) result buffer.new (W.told writer.new) }
+    ensures calls { (W.told writer.new).calls ≤ (W.told writer.old).calls + owes buffer.old }
+{
+    let mut flags_text = Buffer::new();
+    let mut length_text = Buffer::new();
+    buffer.put_line(
+        &[
+            b"VALUE ".as_slice(),
+            key.as_bytes(),
+            b" ".as_slice(),
+            flags_text.format(flags).as_bytes(),
+            b" ".as_slice(),
+            length_text.format(block_length).as_bytes(),
+            LINE_END,
+        ],
+        writer,
+    )
+}
+
+fn put_items<W: Sink>(
+    items: &[Item],
+    buffer: &mut FixedBuffer,
+    writer: &mut W,
+) -> Result<(), WriteFault>
+    ensures text { Gathers (items_text items.now) buffer.old (W.told writer.old) result buffer.new (W.told writer.new) }
+    ensures calls { Costs (2 * length items.now) buffer.old (W.told writer.old) result buffer.new (W.told writer.new) }
+{
+    for item in items {
+        put_item(&item.key, item.flags, &item.block, buffer, writer)?;
+    }
+    Ok(())
+}
+
+/// Puts what stands behind the items of a reply.
+pub fn put_end<W: Sink>(buffer: &mut FixedBuffer, writer: &mut W) -> Result<(), WriteFault>
+    ensures text { Gathers (codes "END" ++ line_end) buffer.old (W.told writer.old) result buffer.new (W.told writer.new) }
+    ensures calls { (W.told writer.new).calls ≤ (W.told writer.old).calls + owes buffer.old }
+{
+    buffer.put_line(&[b"END\r\n".as_slice()], writer)
+}
+
+/// Puts an error: its word with a space, the text and the line end.
+fn put_error<W: Sink>(
+    word: &[u8],
+    cause: &Cause,
+    buffer: &mut FixedBuffer,
+    writer: &mut W,
+) -> Result<(), WriteFault>
+    requires { length word.now ≤ 16 }
+    ensures text { Gathers (error_text word.now cause.now) buffer.old (W.told writer.old) result buffer.new (W.told writer.new) }
+    ensures calls { Costs 2 buffer.old (W.told writer.old) result buffer.new (W.told writer.new) }
+{
+    buffer.put_line(&[word], writer)?;
+    buffer.put_block(cause.text(), writer)
+}
+
+/// Puts a reply.
+fn put_reply<W: Sink>(
+    reply: &Reply,
+    buffer: &mut FixedBuffer,
+    writer: &mut W,
+) -> Result<(), WriteFault>
+    ensures text { Gathers (canonical_reply reply.now) buffer.old (W.told writer.old) result buffer.new (W.told writer.new) }
+    ensures calls { (W.told writer.new).calls ≤ (W.told writer.old).calls + owes buffer.old + 2 * parts_of_reply reply.now }
+{
+    match reply {
+        Reply::Items(items) => {
+            put_items(items.as_slice(), buffer, writer)?;
+            put_end(buffer, writer)
+        }
+        Reply::Stored => buffer.put_line(&[b"STORED\r\n".as_slice()], writer),
+        Reply::Deleted => buffer.put_line(&[b"DELETED\r\n".as_slice()], writer),
+        Reply::NotFound => buffer.put_line(&[b"NOT_FOUND\r\n".as_slice()], writer),
+        Reply::Error => buffer.put_line(&[b"ERROR\r\n".as_slice()], writer),
+        Reply::ClientError(cause) => put_error(b"CLIENT_ERROR ", cause, buffer, writer),
+        Reply::ServerError(cause) => put_error(b"SERVER_ERROR ", cause, buffer, writer),
+    }
+}
+
+/// The word behind a command whose client wants no answer.
+fn noreply_word<'a>(noreply: bool) -> &'a [u8]
+    ensures { result.now ≡ noreply_text noreply }
+{
+    if noreply { b" noreply" } else { b"" }
+}
+
+fn put_set_line<W: Sink>(
+    key: &Key,
+    flags: u32,
+    exptime: i64,
+    block_length: usize,
+    noreply: bool,
+    buffer: &mut FixedBuffer,
+    writer: &mut W,
+) -> Result<(), WriteFault>
+    ensures text { Gathers (set_line_text key.now flags exptime block_length noreply) buffer.old (W.told writer.old) result buffer.new (W.told writer.new) }
+    ensures calls { (W.told writer.new).calls ≤ (W.told writer.old).calls + owes buffer.old }
+{
+    let mut flags_text = Buffer::new();
+    let mut exptime_text = Buffer::new();
+    let mut length_text = Buffer::new();
+    buffer.put_line(
+        &[
+            b"set ".as_slice(),
+            key.as_bytes(),
+            b" ".as_slice(),
+            flags_text.format(flags).as_bytes(),
+            b" ".as_slice(),
+            exptime_text.format(exptime).as_bytes(),
+            b" ".as_slice(),
+            length_text.format(block_length).as_bytes(),
+            noreply_word(noreply),
+            LINE_END,
+        ],
+        writer,
+    )
+}
+
+/// Puts a set: its line, and the block behind it.
+fn put_set<W: Sink>(
+    key: &Key,
+    flags: u32,
+    exptime: i64,
+    block: &Block,
+    noreply: bool,
+    buffer: &mut FixedBuffer,
+    writer: &mut W,
+) -> Result<(), WriteFault>
+    ensures text { Gathers (canonical_request (Set key.now flags exptime block.now noreply)) buffer.old (W.told writer.old) result buffer.new (W.told writer.new) }
+    ensures calls { Costs 2 buffer.old (W.told writer.old) result buffer.new (W.told writer.new) }
+{
+    let block = block.as_bytes();
+    put_set_line(key, flags, exptime, block.len(), noreply, buffer, writer)?;
+    buffer.put_block(block, writer)
+}
+
+fn put_delete<W: Sink>(
+    key: &Key,
+    noreply: bool,
+    buffer: &mut FixedBuffer,
+    writer: &mut W,
+) -> Result<(), WriteFault>
+    ensures text { Gathers (canonical_request (Delete key.now noreply)) buffer.old (W.told writer.old) result buffer.new (W.told writer.new) }
+    ensures calls { (W.told writer.new).calls ≤ (W.told writer.old).calls + owes buffer.old }
+{
+    buffer.put_line(
+        &[
+            b"delete ".as_slice(),
+            key.as_bytes(),
+            noreply_word(noreply),
+            LINE_END,
+        ],
+        writer,
+    )
+}
+
+fn put_key<W: Sink>(key: &Key, buffer: &mut FixedBuffer, writer: &mut W) -> Result<(), WriteFault>
+    ensures text { Gathers (spaced key.now) buffer.old (W.told writer.old) result buffer.new (W.told writer.new) }
+    ensures calls { (W.told writer.new).calls ≤ (W.told writer.old).calls + 1 }
+{
+    buffer.put_line(&[b" ".as_slice(), key.as_bytes()], writer)
+}
+
+fn put_keys<W: Sink>(
+    keys: &[Key],
+    buffer: &mut FixedBuffer,
+    writer: &mut W,
+) -> Result<(), WriteFault>
+    ensures text { Gathers (flat_map spaced keys.now) buffer.old (W.told writer.old) result buffer.new (W.told writer.new) }
+    ensures calls { (W.told writer.new).calls ≤ (W.told writer.old).calls + length keys.now }
+{
+    for key in keys {
+        put_key(key, buffer, writer)?;
+    }
+    Ok(())
+}
+
+/// Puts a request.
+fn put_request<W: Sink>(
+    request: &Request,
+    buffer: &mut FixedBuffer,
+    writer: &mut W,
+) -> Result<(), WriteFault>
+    ensures text { Gathers (canonical_request request.now) buffer.old (W.told writer.old) result buffer.new (W.told writer.new) }
+    ensures calls { (W.told writer.new).calls ≤ (W.told writer.old).calls + owes buffer.old + 2 * parts_of_request request.now }
 {
     match request {
         Request::Get { keys } => {
-            writer.write_all(b"get")?;
-            write_keys(keys.as_slice(), writer)?;
-            writer.write_all(LINE_END)
+            buffer.put_line(&[b"get".as_slice()], writer)?;
+            put_keys(keys.as_slice(), buffer, writer)?;
+            buffer.put_line(&[LINE_END], writer)
         }
         Request::Set {
             key,
@@ -37,179 +306,8 @@ pub fn write_request<W: Sink>(request: &Request, writer: &mut W) -> Result<(), W
             exptime,
             block,
             noreply,
-        } => {
-            write_set_line(
-                key,
-                *flags,
-                *exptime,
-                block.as_bytes().len(),
-                *noreply,
-                writer,
-            )?;
-            write_block(block, writer)
-        }
-        Request::Delete { key, noreply } => {
-            writer.write_all(b"delete")?;
-            write_word(key.as_bytes(), writer)?;
-            write_noreply(*noreply, writer)?;
-            writer.write_all(LINE_END)
-        }
-        Request::Quit => writer.write_all(b"quit\r\n"),
+        } => put_set(key, *flags, *exptime, block, *noreply, buffer, writer),
+        Request::Delete { key, noreply } => put_delete(key, *noreply, buffer, writer),
+        Request::Quit => buffer.put_line(&[b"quit\r\n".as_slice()], writer),
     }
-}
-
-/// Writes a reply. It takes memory only as the writer does. At a fault a beginning of the text is written, and nothing else.
-pub fn write_reply<W: Sink>(reply: &Reply, writer: &mut W) -> Result<(), WriteFault>
-    ensures written { OnOk result (W.written writer.new ≡ W.written writer.old ++ canonical_reply reply.now) }
-    ensures failures { MatchResult result (λ _. W.failures writer.new ≡ W.failures writer.old) (λ _. W.failures writer.old < W.failures writer.new) }
-    ensures begun { OnErr result (HasBegun (W.written writer.old) (canonical_reply reply.now) (W.written writer.new)) }
-{
-    match reply {
-        Reply::Items(items) => {
-            write_items(items.as_slice(), writer)?;
-            writer.write_all(b"END\r\n")
-        }
-        Reply::Stored => writer.write_all(b"STORED\r\n"),
-        Reply::Deleted => writer.write_all(b"DELETED\r\n"),
-        Reply::NotFound => writer.write_all(b"NOT_FOUND\r\n"),
-        Reply::Error => writer.write_all(b"ERROR\r\n"),
-        Reply::ClientError(cause) => write_error(b"CLIENT_ERROR ", cause, writer),
-        Reply::ServerError(cause) => write_server_error(cause, writer),
-    }
-}
-
-/// Writes the reply SERVER_ERROR with a cause. A fault is the writer's.
-pub fn write_server_error<W: Sink>(cause: &Cause, writer: &mut W) -> Result<(), WriteFault>
-    ensures written { OnOk result (W.written writer.new ≡ W.written writer.old ++ canonical_reply (ServerError cause.now)) }
-    ensures failures { MatchResult result (λ _. W.failures writer.new ≡ W.failures writer.old) (λ _. W.failures writer.old < W.failures writer.new) }
-    ensures begun { OnErr result (HasBegun (W.written writer.old) (canonical_reply (ServerError cause.now)) (W.written writer.new)) }
-{
-    write_error(b"SERVER_ERROR ", cause, writer)
-}
-
-/// A word that isn't the first.
-fn write_word<W: Sink>(word: &[u8], writer: &mut W) -> Result<(), WriteFault>
-    ensures written { OnOk result (W.written writer.new ≡ W.written writer.old ++ spaced word.now) }
-    ensures failures { MatchResult result (λ _. W.failures writer.new ≡ W.failures writer.old) (λ _. W.failures writer.old < W.failures writer.new) }
-    ensures begun { OnErr result (HasBegun (W.written writer.old) (spaced word.now) (W.written writer.new)) }
-{
-    writer.write_all(b" ")?;
-    writer.write_all(word)
-}
-
-/// A number as a word that isn't the first.
-fn write_number<N: Integer, W: Sink>(number: N, writer: &mut W) -> Result<(), WriteFault>
-    ensures written { OnOk result (W.written writer.new ≡ W.written writer.old ++ spaced (N.text number)) }
-    ensures failures { MatchResult result (λ _. W.failures writer.new ≡ W.failures writer.old) (λ _. W.failures writer.old < W.failures writer.new) }
-    ensures begun { OnErr result (HasBegun (W.written writer.old) (spaced (N.text number)) (W.written writer.new)) }
-{
-    let mut buffer = Buffer::new();
-    write_word(buffer.format(number).as_bytes(), writer)
-}
-
-fn write_noreply<W: Sink>(noreply: bool, writer: &mut W) -> Result<(), WriteFault>
-    ensures written { OnOk result (W.written writer.new ≡ W.written writer.old ++ noreply_text noreply) }
-    ensures failures { MatchResult result (λ _. W.failures writer.new ≡ W.failures writer.old) (λ _. W.failures writer.old < W.failures writer.new) }
-    ensures begun { OnErr result (HasBegun (W.written writer.old) (noreply_text noreply) (W.written writer.new)) }
-{
-    if noreply {
-        return writer.write_all(b" noreply");
-    }
-    Ok(())
-}
-
-fn write_keys<W: Sink>(keys: &[Key], writer: &mut W) -> Result<(), WriteFault>
-    ensures written { OnOk result (W.written writer.new ≡ W.written writer.old ++ flat_map spaced keys.now) }
-    ensures failures { MatchResult result (λ _. W.failures writer.new ≡ W.failures writer.old) (λ _. W.failures writer.old < W.failures writer.new) }
-    ensures begun { OnErr result (HasBegun (W.written writer.old) (flat_map spaced keys.now) (W.written writer.new)) }
-{
-    for key in keys {
-        write_word(key.as_bytes(), writer)?;
-    }
-    Ok(())
-}
-
-fn write_set_line<W: Sink>(
-    key: &Key,
-    flags: u32,
-    exptime: i64,
-    block_length: usize,
-    noreply: bool,
-    writer: &mut W,
-) -> Result<(), WriteFault>
-    ensures written { OnOk result (W.written writer.new ≡ W.written writer.old ++ set_line_text key.now flags exptime block_length noreply) }
-    ensures failures { MatchResult result (λ _. W.failures writer.new ≡ W.failures writer.old) (λ _. W.failures writer.old < W.failures writer.new) }
-    ensures begun { OnErr result (HasBegun (W.written writer.old) (set_line_text key.now flags exptime block_length noreply) (W.written writer.new)) }
-{
-    writer.write_all(b"set")?;
-    write_word(key.as_bytes(), writer)?;
-    write_number(flags, writer)?;
-    write_number(exptime, writer)?;
-    write_number(block_length, writer)?;
-    write_noreply(noreply, writer)?;
-    writer.write_all(LINE_END)
-}
-
-fn write_items<W: Sink>(items: &[Item], writer: &mut W) -> Result<(), WriteFault>
-    ensures written { OnOk result (W.written writer.new ≡ W.written writer.old ++ flat_map item_text items.now) }
-    ensures failures { MatchResult result (λ _. W.failures writer.new ≡ W.failures writer.old) (λ _. W.failures writer.old < W.failures writer.new) }
-    ensures begun { OnErr result (HasBegun (W.written writer.old) (flat_map item_text items.now) (W.written writer.new)) }
-{
-    for item in items {
-        write_item(&item.key, item.flags, &item.block, writer)?;
-    }
-    Ok(())
-}
-
-/// Writes an item of a get's reply: its line, and the block behind it. A fault is the writer's.
-pub fn write_item<W: Sink>(
-    key: &Key,
-    flags: u32,
-    block: &Block,
-    writer: &mut W,
-) -> Result<(), WriteFault>
-    ensures written { OnOk result (W.written writer.new ≡ W.written writer.old ++ item_text (record { key = key.now; flags = flags; block = block.now })) }
-    ensures failures { MatchResult result (λ _. W.failures writer.new ≡ W.failures writer.old) (λ _. W.failures writer.old < W.failures writer.new) }
-    ensures begun { OnErr result (HasBegun (W.written writer.old) (item_text (record { key = key.now; flags = flags; block = block.now })) (W.written writer.new)) }
-{
-    write_value_line(key, flags, block.as_bytes().len(), writer)?;
-    write_block(block, writer)
-}
-
-fn write_value_line<W: Sink>(
-    key: &Key,
-    flags: u32,
-    block_length: usize,
-    writer: &mut W,
-) -> Result<(), WriteFault>
-    ensures written { OnOk result (W.written writer.new ≡ W.written writer.old ++ value_line_text key.now flags block_length) }
-    ensures failures { MatchResult result (λ _. W.failures writer.new ≡ W.failures writer.old) (λ _. W.failures writer.old < W.failures writer.new) }
-    ensures begun { OnErr result (HasBegun (W.written writer.old) (value_line_text key.now flags block_length) (W.written writer.new)) }
-{
-    writer.write_all(b"VALUE")?;
-    write_word(key.as_bytes(), writer)?;
-    write_number(flags, writer)?;
-    write_number(block_length, writer)?;
-    writer.write_all(LINE_END)
-}
-
-/// A block with the line end behind it.
-fn write_block<W: Sink>(block: &Block, writer: &mut W) -> Result<(), WriteFault>
-    ensures written { OnOk result (W.written writer.new ≡ W.written writer.old ++ (block.now ++ line_end)) }
-    ensures failures { MatchResult result (λ _. W.failures writer.new ≡ W.failures writer.old) (λ _. W.failures writer.old < W.failures writer.new) }
-    ensures begun { OnErr result (HasBegun (W.written writer.old) (block.now ++ line_end) (W.written writer.new)) }
-{
-    writer.write_all(block.as_bytes())?;
-    writer.write_all(LINE_END)
-}
-
-/// The word of an error with its space, the text and the line end.
-fn write_error<W: Sink>(word: &[u8], cause: &Cause, writer: &mut W) -> Result<(), WriteFault>
-    ensures written { OnOk result (W.written writer.new ≡ W.written writer.old ++ (word.now ++ text_of cause.now ++ line_end)) }
-    ensures failures { MatchResult result (λ _. W.failures writer.new ≡ W.failures writer.old) (λ _. W.failures writer.old < W.failures writer.new) }
-    ensures begun { OnErr result (HasBegun (W.written writer.old) (word.now ++ text_of cause.now ++ line_end) (W.written writer.new)) }
-{
-    writer.write_all(word)?;
-    writer.write_all(cause.text())?;
-    writer.write_all(LINE_END)
 }

@@ -1,8 +1,17 @@
 //! Readers that are refused memory once: the same call made again gives what it would have given.
-use crate::{FixedBuffer, ReplyReader, RequestReader, TextError, write_reply, write_request};
-use std::alloc::Global;
+use crate::{OverWriter, ReplyReader, RequestReader, TextError, write_reply, write_request};
+use std::alloc::{AllocError, Global};
 use std::process::Abort;
 use std::test::Fail;
+
+/// A sink that has room for the texts of this file, made at the second try where the first one is refused.
+fn roomy_sink(alloc: Global) -> Result<OverWriter<Vec<u8>>, AllocError> {
+    let bytes = match Vec::with_capacity(alloc, 128) {
+        Ok(bytes) => bytes,
+        Err(_) => Vec::with_capacity(alloc, 128)?,
+    };
+    Ok(OverWriter::new(bytes))
+}
 
 /// Asserts that a request is read as it is written, where one allocation may be refused.
 fn request_is_read(rt: &impl Abort, alloc: Global, text: &[u8]) -> Result<(), Fail> {
@@ -14,11 +23,11 @@ fn request_is_read(rt: &impl Abort, alloc: Global, text: &[u8]) -> Result<(), Fa
         Err(TextError::OutOfMemory) => reader.next()?,
         answer => answer?,
     };
-    let mut buffer = FixedBuffer::new();
+    let mut sink = roomy_sink(alloc)?;
     if let Some(request) = read {
-        write_request(&request, &mut buffer)?;
+        write_request(&request, &mut sink)?;
     }
-    assert_eq!(rt; buffer.as_slice(), text);
+    assert_eq!(rt; sink.into_inner().as_slice(), text);
     Ok(())
 }
 
@@ -32,11 +41,11 @@ fn reply_is_read(rt: &impl Abort, alloc: Global, text: &[u8]) -> Result<(), Fail
         Err(TextError::OutOfMemory) => reader.next()?,
         answer => answer?,
     };
-    let mut buffer = FixedBuffer::new();
+    let mut sink = roomy_sink(alloc)?;
     if let Some(reply) = read {
-        write_reply(&reply, &mut buffer)?;
+        write_reply(&reply, &mut sink)?;
     }
-    assert_eq!(rt; buffer.as_slice(), text);
+    assert_eq!(rt; sink.into_inner().as_slice(), text);
     Ok(())
 }
 

@@ -1,51 +1,12 @@
 //! The bytes that requests and replies are written as.
-ghost use Rattle.std.specs.Prelude.{Some};
-
-use super::{add_repeated, reply_text, request_text};
+use super::{reply_text, request_text};
 use crate::{
-    Block, Cause, FailsAt, FixedBuffer, GhostCount, Item, ItemList, Key, KeyList, Line, OverWriter,
-    Reply, Request, Sink, WriteFault, write_reply, write_reply_at_once, write_request,
+    Block, Cause, Item, ItemList, Key, KeyList, Line, OverWriter, Reply, Request, write_delete,
+    write_get, write_set,
 };
 use std::alloc::Global;
 use std::process::Abort;
 use std::test::Fail;
-
-/// A sink that keeps what it is given, and counts the writes.
-#[derive(Drop)]
-struct CountedWrites {
-    bytes: Vec<u8>,
-    writes: u64,
-    failures: GhostCount,
-}
-
-impl CountedWrites {
-    fn new(alloc: Global) -> CountedWrites {
-        CountedWrites {
-            bytes: Vec::new(alloc),
-            writes: 0,
-            failures: GhostCount::new(),
-        }
-    }
-}
-
-impl Sink for CountedWrites {
-    ghost written = { λ s. s.bytes.items };
-
-    ghost contents = { λ s. Some s.bytes.items };
-
-    ghost failures = { λ s. s.failures };
-
-    fn write_all(&mut self, bytes: &[u8]) -> Result<(), WriteFault> {
-        self.writes = self.writes.saturating_add(1);
-        match self.bytes.extend_from_slice(bytes) {
-            Ok(()) => Ok(()),
-            Err(_) => {
-                self.failures.add_one();
-                Err(WriteFault)
-            }
-        }
-    }
-}
 
 /// Asserts what a request and its copy are written as.
 fn is_request(rt: &impl Abort, alloc: Global, request: Request, text: &[u8]) -> Result<(), Fail> {
@@ -99,6 +60,20 @@ fn requests_are_written(rt: HostRuntime) -> Result<(), Fail> {
     is_request(&rt, alloc, delete(alloc, false)?, b"delete k\r\n")?;
     is_request(&rt, alloc, delete(alloc, true)?, b"delete k noreply\r\n")?;
     is_request(&rt, alloc, Request::Quit, b"quit\r\n")
+}
+
+#[test]
+fn commands_of_one_key_are_written(rt: HostRuntime) -> Result<(), Fail> {
+    let alloc = rt.alloc();
+    let key = Key::new(alloc, b"k")?;
+    let block = Block::new(alloc, b"v")?;
+    let mut sink = OverWriter::new(Vec::new(alloc));
+    write_get(&key, &mut sink)?;
+    write_set(&key, 7, -1, &block, &mut sink)?;
+    write_delete(&key, &mut sink)?;
+    let wanted = b"get k\r\nset k 7 -1 1\r\nv\r\ndelete k\r\n".as_slice();
+    assert_eq!(rt; sink.into_inner().as_slice(), wanted);
+    Ok(())
 }
 
 /// Asserts what a set of `v` with this moment is written as.
@@ -167,76 +142,4 @@ fn errors_are_written(rt: HostRuntime) -> Result<(), Fail> {
     is_reply(&rt, alloc, failed, b"SERVER_ERROR leg lost\r\n")?;
     is_reply(&rt, alloc, other(alloc, b"")?, b"SERVER_ERROR \r\n")?;
     is_reply(&rt, alloc, other(alloc, b" a\r")?, b"SERVER_ERROR  a\r\r\n")
-}
-
-#[test]
-fn short_reply_takes_one_write(rt: HostRuntime) -> Result<(), Fail> {
-    let alloc = rt.alloc();
-    let mut buffer = FixedBuffer::new();
-    let mut sink = CountedWrites::new(alloc);
-    let item = one_item(alloc, 0, b"v")?;
-    write_reply_at_once(&item, &mut buffer, &mut sink)?;
-    assert_eq!(rt; sink.writes, 1);
-    write_reply_at_once(&Reply::Stored, &mut buffer, &mut sink)?;
-    assert_eq!(rt; sink.writes, 2);
-    let wanted = b"VALUE k 0 1\r\nv\r\nEND\r\nSTORED\r\n".as_slice();
-    assert_eq!(rt; sink.bytes.as_slice(), wanted);
-    Ok(())
-}
-
-/// Asserts whether a reply with so many bytes of data is written at once, and that it is written as ever.
-fn is_at_once(rt: &impl Abort, alloc: Global, length: usize, at_once: bool) -> Result<(), Fail> {
-    let mut block = Vec::new(alloc);
-    add_repeated(&mut block, b'x', length)?;
-    let reply = one_item(alloc, 0, &block)?;
-    let text = reply_text(alloc, &reply)?;
-    let mut buffer = FixedBuffer::new();
-    let mut sink = CountedWrites::new(alloc);
-    write_reply_at_once(&reply, &mut buffer, &mut sink)?;
-    assert_eq!(rt; text.len(), length.saturating_add(23));
-    assert_eq!(rt; sink.bytes.as_slice(), text.as_slice());
-    assert_eq!(rt; sink.writes == 1, at_once);
-    Ok(())
-}
-
-#[test]
-fn reply_of_4096_bytes_takes_one_write(rt: HostRuntime) -> Result<(), Fail> {
-    // Beside the data, the line of the item, `END` and the line ends have 23 bytes.
-    is_at_once(&rt, rt.alloc(), 4073, true)?;
-    is_at_once(&rt, rt.alloc(), 4074, false)
-}
-
-/// Asserts that a reply isn't written where this write fails.
-fn is_not_written(rt: &impl Abort, alloc: Global, reply: &Reply, call: u64) {
-    let mut sink = FailsAt::new(OverWriter::new(Vec::new(alloc)), call);
-    assert_eq!(rt; write_reply(reply, &mut sink), Err(WriteFault), "{call}");
-}
-
-#[test]
-fn reply_passes_on_faults(rt: HostRuntime) -> Result<(), Fail> {
-    let reply = one_item(rt.alloc(), 0, b"v")?;
-    for call in 1..6 {
-        is_not_written(&rt, rt.alloc(), &reply, call);
-    }
-    Ok(())
-}
-
-#[test]
-fn request_passes_on_faults(rt: HostRuntime) -> Result<(), Fail> {
-    let request = set(rt.alloc(), b"v", 0, true)?;
-    for call in 1..6 {
-        let mut sink = FailsAt::new(OverWriter::new(Vec::new(rt.alloc())), call);
-        let written = write_request(&request, &mut sink);
-        assert_eq!(rt; written, Err(WriteFault), "{call}");
-    }
-    Ok(())
-}
-
-#[test]
-fn reply_at_once_passes_on_a_fault(rt: HostRuntime) {
-    let mut buffer = FixedBuffer::new();
-    let mut sink = FailsAt::new(OverWriter::new(Vec::new(rt.alloc())), 1);
-    let written = write_reply_at_once(&Reply::Stored, &mut buffer, &mut sink);
-    assert_eq!(rt; written, Err(WriteFault));
-    assert_eq!(rt; sink.into_inner().into_inner().as_slice(), b"".as_slice());
 }

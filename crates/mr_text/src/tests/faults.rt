@@ -1,0 +1,203 @@
+//! What a writer leaves where one of its calls fails.
+use super::{add_repeated, reply_text, request_text};
+use crate::{
+    Block, Cause, Item, ItemList, Key, KeyList, Line, OverWriter, Reply, Request, write_reply,
+    write_request,
+};
+use std::alloc::Global;
+use std::io;
+use std::io::Write;
+use std::process::Abort;
+use std::test::Fail;
+
+/// A writer of std that takes half of one piece and fails then. It keeps what it took.
+#[derive(Drop)]
+struct TakesHalf {
+    kept: Vec<u8>,
+    calls: usize,
+    fails_at: usize,
+    has_failed: bool,
+}
+
+impl TakesHalf {
+    fn new(alloc: Global, fails_at: usize) -> TakesHalf {
+        TakesHalf {
+            kept: Vec::new(alloc),
+            calls: 0,
+            fails_at,
+            has_failed: false,
+        }
+    }
+}
+
+impl Write for TakesHalf {
+    fn write(&mut self, bytes: &[u8]) -> io::Result<usize> {
+        self.calls = self.calls.saturating_add(1);
+        if self.calls > self.fails_at {
+            self.has_failed = true;
+            return Err(io::ErrorKind::BrokenPipe.into());
+        }
+        let taken = if self.calls == self.fails_at {
+            bytes.len() / 2
+        } else {
+            bytes.len()
+        };
+        match self.kept.extend_from_slice(&bytes[..taken]) {
+            Ok(()) => Ok(taken),
+            Err(_) => Err(io::ErrorKind::OutOfMemory.into()),
+        }
+    }
+
+    fn flush(&mut self) -> io::Result<()> {
+        Ok(())
+    }
+}
+
+/// Asserts what a device that failed in one call was left with: a beginning of the text, half of the failing piece
+/// with it, and no call after the one that failed.
+fn has_stopped(rt: &impl Abort, device: &TakesHalf, text: &[u8], at: &str) {
+    assert!(rt; text.starts_with(device.kept.as_slice()), "{at}");
+    assert!(rt; device.kept.len() < text.len(), "{at}");
+    assert_eq!(rt; device.calls, device.fails_at.saturating_add(1), "{at}");
+}
+
+/// Asserts that a reply takes so many calls, and what each of them leaves where it fails.
+fn reply_takes(
+    rt: &impl Abort,
+    alloc: Global,
+    reply: &Reply,
+    calls: usize,
+    at: &str,
+) -> Result<(), Fail> {
+    let text = reply_text(alloc, reply)?;
+    for call in 1..calls.saturating_add(1) {
+        let mut sink = OverWriter::new(TakesHalf::new(alloc, call));
+        assert!(rt; write_reply(reply, &mut sink).is_err(), "{at}");
+        has_stopped(rt, &sink.into_inner(), text.as_slice(), at);
+    }
+    let mut sink = OverWriter::new(TakesHalf::new(alloc, calls.saturating_add(1)));
+    assert!(rt; write_reply(reply, &mut sink).is_ok(), "{at}");
+    let device = sink.into_inner();
+    assert_eq!(rt; device.calls, calls, "{at}");
+    assert_eq!(rt; device.kept.as_slice(), text.as_slice(), "{at}");
+    Ok(())
+}
+
+/// The same of a request.
+fn request_takes(
+    rt: &impl Abort,
+    alloc: Global,
+    request: &Request,
+    calls: usize,
+    at: &str,
+) -> Result<(), Fail> {
+    let text = request_text(alloc, request)?;
+    for call in 1..calls.saturating_add(1) {
+        let mut sink = OverWriter::new(TakesHalf::new(alloc, call));
+        assert!(rt; write_request(request, &mut sink).is_err(), "{at}");
+        has_stopped(rt, &sink.into_inner(), text.as_slice(), at);
+    }
+    let mut sink = OverWriter::new(TakesHalf::new(alloc, calls.saturating_add(1)));
+    assert!(rt; write_request(request, &mut sink).is_ok(), "{at}");
+    let device = sink.into_inner();
+    assert_eq!(rt; device.calls, calls, "{at}");
+    assert_eq!(rt; device.kept.as_slice(), text.as_slice(), "{at}");
+    Ok(())
+}
+
+fn block_of(alloc: Global, length: usize) -> Result<Block, Fail> {
+    let mut bytes = Vec::new(alloc);
+    add_repeated(&mut bytes, b'x', length)?;
+    Ok(Block::new(alloc, bytes.as_slice())?)
+}
+
+/// Items of `k` with data of these lengths.
+fn items_of(alloc: Global, lengths: &[usize]) -> Result<Reply, Fail> {
+    let mut items = Vec::new(alloc);
+    for length in lengths {
+        items.push(Item {
+            key: Key::new(alloc, b"k")?,
+            flags: 0,
+            block: block_of(alloc, *length)?,
+        })?;
+    }
+    Ok(Reply::Items(ItemList::new(items)))
+}
+
+#[test]
+fn short_replies_take_one_call(rt: HostRuntime) -> Result<(), Fail> {
+    let alloc = rt.alloc();
+    reply_takes(&rt, alloc, &Reply::Stored, 1, "stored")?;
+    reply_takes(&rt, alloc, &Reply::ServerError(Cause::LegLost), 1, "lost")?;
+    reply_takes(&rt, alloc, &items_of(alloc, &[])?, 1, "none")?;
+    reply_takes(&rt, alloc, &items_of(alloc, &[1, 0, 7])?, 1, "three")
+}
+
+#[test]
+fn reply_of_4096_bytes_takes_one_call(rt: HostRuntime) -> Result<(), Fail> {
+    let alloc = rt.alloc();
+    // Beside the data, the line of the item, `END` and the line ends have 23 bytes.
+    let whole = items_of(alloc, &[4073])?;
+    assert_eq!(rt; reply_text(alloc, &whole)?.len(), 4096);
+    reply_takes(&rt, alloc, &whole, 1, "4096")?;
+    reply_takes(&rt, alloc, &items_of(alloc, &[4074])?, 2, "4097")
+}
+
+#[test]
+fn long_replies_take_two_calls_for_an_item(rt: HostRuntime) -> Result<(), Fail> {
+    let alloc = rt.alloc();
+    // The line, the block by itself, and its line end with `END`.
+    reply_takes(&rt, alloc, &items_of(alloc, &[8192])?, 3, "one")?;
+    // The line of the second item goes out with the line end of the first.
+    reply_takes(&rt, alloc, &items_of(alloc, &[8192, 8192])?, 5, "two")?;
+    // Small ones are gathered.
+    reply_takes(
+        &rt,
+        alloc,
+        &items_of(alloc, &[1000, 1000, 1000, 1000, 1000])?,
+        2,
+        "five",
+    )
+}
+
+#[test]
+fn long_error_takes_three_calls(rt: HostRuntime) -> Result<(), Fail> {
+    let alloc = rt.alloc();
+    let mut text = Vec::new(alloc);
+    add_repeated(&mut text, b'x', 8179)?;
+    let error = Reply::ServerError(Cause::Other(Line::new(alloc, text.as_slice())?));
+    reply_takes(&rt, alloc, &error, 3, "8179")
+}
+
+fn set_of(alloc: Global, length: usize) -> Result<Request, Fail> {
+    Ok(Request::Set {
+        key: Key::new(alloc, b"k")?,
+        flags: 0,
+        exptime: 0,
+        block: block_of(alloc, length)?,
+        noreply: true,
+    })
+}
+
+#[test]
+fn requests_take_few_calls(rt: HostRuntime) -> Result<(), Fail> {
+    let alloc = rt.alloc();
+    request_takes(&rt, alloc, &Request::Quit, 1, "quit")?;
+    let key = Key::new(alloc, b"k")?;
+    let noreply = false;
+    request_takes(&rt, alloc, &Request::Delete { key, noreply }, 1, "delete")?;
+    request_takes(&rt, alloc, &set_of(alloc, 1)?, 1, "set")?;
+    request_takes(&rt, alloc, &set_of(alloc, 8192)?, 3, "long set")
+}
+
+#[test]
+fn get_of_many_keys_takes_three_calls(rt: HostRuntime) -> Result<(), Fail> {
+    let alloc = rt.alloc();
+    let mut keys = Vec::new(alloc);
+    for _ in 0..4094 {
+        keys.push(Key::new(alloc, b"k")?)?;
+    }
+    let keys = KeyList::new(keys)?;
+    // 8,193 bytes: twice the buffer, and what is left.
+    request_takes(&rt, alloc, &Request::Get { keys }, 3, "get")
+}
