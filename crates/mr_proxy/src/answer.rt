@@ -1,6 +1,8 @@
 //! The answer to a request.
-ghost use Rattle.std.specs.Prelude.{◌≡◌, ◌<◌, ◌++◌, IfOk, OnOk, MatchResult};
+ghost use Rattle.std.specs.Prelude.{◌≡◌, IfOk};
 ghost use Rattle.mr_text.specs.Canonical.{canonical_reply};
+ghost use Rattle.mr_text.specs.Gathering.{TakesFewCalls, parts_of_reply};
+ghost use Rattle.mr_text.specs.Sink.{Writes};
 
 use crate::join::joined;
 use crate::pending::Pending;
@@ -79,10 +81,12 @@ impl Answer {
         self.given_up
     }
 
-    /// Writes what the client is told, in its canonical text. It takes memory only as the writer does.
+    /// Writes what the client is told, in its canonical text. It takes memory only as the writer does. At a fault a
+    /// beginning of the text is written, and the call that failed is the last. A text of up to 4,096 bytes goes out
+    /// in one call.
     pub fn write<W: Sink>(&self, writer: &mut W) -> Result<(), WriteFault>
-        ensures written { OnOk result (W.written writer.new ≡ W.written writer.old ++ canonical_reply (reply_of self.now)) }
-        ensures failures { MatchResult result (λ _. W.failures writer.new ≡ W.failures writer.old) (λ _. W.failures writer.old < W.failures writer.new) }
+        ensures text { Writes (canonical_reply (reply_of self.now)) (W.told writer.old) result (W.told writer.new) }
+        ensures calls { TakesFewCalls (canonical_reply (reply_of self.now)) (parts_of_reply (reply_of self.now)) (W.told writer.old) (W.told writer.new) }
     {
         write_joined(self.pending.request(), self.pending.slots(), writer)
     }
