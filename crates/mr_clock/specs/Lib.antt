@@ -1,1 +1,3 @@
 pub mod Script
+pub mod Readings
+pub mod ClockError

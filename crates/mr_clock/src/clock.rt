@@ -1,4 +1,4 @@
-ghost use Rattle.std.specs.Prelude.{◌≡◌, ◌<◌, ℕ, Option, Some, None, MatchResult};
+ghost use Rattle.std.specs.Prelude.{◌≡◌, ◌+◌, ℕ, Option, Some, None, MatchResult};
 
 use crate::error::ClockFault;
 
@@ -18,5 +18,5 @@ pub trait Clock {
             (λ _. reads self.old None self.new) }
         ensures failures { MatchResult result
             (λ _. failures self.new ≡ failures self.old)
-            (λ _. failures self.old < failures self.new) };
+            (λ _. failures self.new ≡ failures self.old + 1) };
 }

@@ -5,8 +5,10 @@ mod clock;
 mod error;
 mod fixed_clock;
 mod list_clock;
+mod readings;
 
 pub use clock::Clock;
-pub use error::ClockFault;
+pub use error::{ClockError, ClockFault};
 pub use fixed_clock::FixedClock;
 pub use list_clock::ListClock;
+pub use readings::Readings;

@@ -1,6 +1,19 @@
-//! What happened in a fleet of proxies, told by the name that each request has.
+//! What happened in a fleet of proxies, in one list of entries, and a judge that reads this list alone.
 #![tactic(auto)]
 
+mod entry;
+mod error;
+mod history;
+mod judge;
 mod op_id;
+mod search;
+#[cfg(test)]
+mod tests;
+mod verdict;
 
+pub use entry::{Author, Entry};
+pub use error::HistoryError;
+pub use history::History;
+pub use judge::judge_history;
 pub use op_id::OpId;
+pub use verdict::Verdict;

@@ -1,4 +1,5 @@
-ghost use Rattle.std.specs.Prelude.{◌≡◌, IfOk};
+//! The reply of one leg.
+ghost use Rattle.std.specs.Prelude.{◌≡◌, ◌↔◌, IsTrue, IfOk};
 
 use mr_text::{Block, Cause};
 use std::alloc::AllocError;
@@ -41,5 +42,26 @@ impl LegReply {
             LegReply::NotFound => LegReply::NotFound,
             LegReply::Failed(cause) => LegReply::Failed(cause.copy()?),
         })
+    }
+
+    /// Whether the other reply is equal. It takes no memory.
+    pub fn same_as(&self, other: &LegReply) -> bool
+        ensures { IsTrue result ↔ (self.now ≡ other.now) }
+    {
+        match (self, other) {
+            (
+                LegReply::Hit { flags, block },
+                LegReply::Hit {
+                    flags: other_flags,
+                    block: other_block,
+                },
+            ) => flags == other_flags && block.same_as(other_block),
+            (LegReply::Miss, LegReply::Miss)
+            | (LegReply::Stored, LegReply::Stored)
+            | (LegReply::Deleted, LegReply::Deleted)
+            | (LegReply::NotFound, LegReply::NotFound) => true,
+            (LegReply::Failed(cause), LegReply::Failed(other_cause)) => cause.same_as(other_cause),
+            _ => false,
+        }
     }
 }

@@ -1,6 +1,6 @@
 use super::*;
 use mr_phases::Side;
-use mr_text::Cause;
+use mr_text::{Block, Cause};
 use std::test::Fail;
 
 /// What a client reads of the reply.
@@ -74,5 +74,17 @@ fn the_worse_reply_is_told(rt: HostRuntime) -> Result<(), Fail> {
     assert_eq!(rt; failed(Cause::Busy).badness(), 2);
     let worst = worse(LegReply::Deleted, failed(Cause::LegLost).copy()?);
     assert_eq!(rt; told(&worst), "SERVER_ERROR leg lost");
+    Ok(())
+}
+
+#[test]
+fn equal_replies_are_the_same(rt: HostRuntime) -> Result<(), Fail> {
+    let block = Block::new(rt.alloc(), b"a")?;
+    let hit = LegReply::Hit { flags: 1, block };
+    assert!(rt; hit.same_as(&hit.copy()?));
+    assert!(rt; !hit.same_as(&LegReply::Miss));
+    assert!(rt; LegReply::Stored.same_as(&LegReply::Stored));
+    assert!(rt; failed(Cause::Busy).same_as(&failed(Cause::Busy)));
+    assert!(rt; !failed(Cause::Busy).same_as(&failed(Cause::LegLost)));
     Ok(())
 }

@@ -1,11 +1,9 @@
 -- Each command leaves a list of items that a cache may keep.
-use Rattle.std.proofs.Common.{◌≡◌, ◌∙◌, ℕ, ◌-◌, ◌<◌, ◌≤◌, List, ◌∷◌, ◌++◌, length, take, true, false, cond, Option, Some, None, refl, sym, ap, subst, arith}
-use Rattle.std.specs.Option.{option_to_list}
+use Rattle.std.proofs.Common.{◌≡◌, ◌∙◌, ℕ, ◌-◌, ◌<◌, ◌≤◌, List, ◌∷◌, length, take, Some, None, sym, ap, arith}
 use Rattle.std.proofs.lemmas.List.{length-take, take_all}
 use Rattle.mr_node.specs.declared.cached_item.CachedItem.{CachedItem}
-use Rattle.mr_node.specs.Expiry.{is_alive}
 use Rattle.mr_node.specs.Items.{item_of, without, IsKept}
-use Rattle.mr_node.specs.Recency.{unless_expired, live_item, put_in_front}
+use Rattle.mr_node.specs.Recency.{put_in_front}
 use Rattle.mr_node.proofs.ItemLemmas.{distinct-without, length-without, length-without_found, found_key, distinct_in_front, without_absent}
 
 pub kept-without : (capacity : ℕ) (key : List ℕ) (items : List CachedItem) → IsKept capacity items → IsKept capacity (without key items)
@@ -49,16 +47,3 @@ pub put_absent : (capacity : ℕ) (item : CachedItem) (items : List CachedItem) 
     → put_in_front capacity item (without item.key items) ≡ item ∷ items
 put_absent capacity item items absent fewer =
     ap (put_in_front capacity item) (without_absent item.key items absent) ∙ ap (λ l. item ∷ l) (take_all (capacity - 1) items (omega arith))
-
-kept_used : (capacity now : ℕ) (key : List ℕ) (items : List CachedItem) (found : Option CachedItem) → item_of key items ≡ found → IsKept capacity items
-    → IsKept capacity (option_to_list (unless_expired now found) ++ without key items)
-kept_used capacity now key items None e kept = kept-without capacity key items kept
-kept_used capacity now key items (Some item) e kept =
-    elim (is_alive now item.expires_at) as (λ b. IsKept capacity (option_to_list (cond b (Some item) None) ++ without key items)) [
-      | true ↦ subst (IsKept capacity) (put_found capacity key items item kept e) (kept-put_in_front capacity item items kept)
-      | false ↦ kept-without capacity key items kept
-    ]
-
-pub kept_get : (capacity now : ℕ) (key : List ℕ) (items : List CachedItem) → IsKept capacity items
-    → IsKept capacity (option_to_list (live_item now key items) ++ without key items)
-kept_get capacity now key items kept = kept_used capacity now key items (item_of key items) refl kept

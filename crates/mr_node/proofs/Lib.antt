@@ -1,3 +1,4 @@
+pub mod MoveLemmas
 pub mod ItemLemmas
 pub mod KeptLemmas
 pub mod StepLemmas

@@ -12,8 +12,8 @@ use Rattle.mr_text.specs.declared.request.Request.TheVariants.{Get, Set, Delete,
 use Rattle.mr_node.specs.declared.ended.Ended.{Ended}
 use Rattle.mr_node.specs.declared.ended.Ended.TheVariants as how
 use Rattle.mr_node.specs.declared.error.NodeError.{NodeError}
-use Rattle.mr_node.specs.declared.service.next.Step.{Step}
-use Rattle.mr_node.specs.declared.service.next.Step.TheVariants.{Served, Waits, Ends}
+use Rattle.mr_node.specs.declared.service.step.Step.{Step}
+use Rattle.mr_node.specs.declared.service.step.Step.TheVariants.{Served, Waits, Ends}
 use Rattle.mr_node.specs.Output.{IsServed}
 use Rattle.mr_node.specs.Output.Exchange.{Asked, Unknown}
 use Rattle.mr_node.specs.Step.{RequestIs, RefusalIs, StepIs, EndIs}

@@ -10,8 +10,8 @@ use Rattle.mr_node.specs.declared.ended.Ended.{Ended}
 use Rattle.mr_node.specs.declared.ended.Ended.TheVariants as how
 use Rattle.mr_node.specs.declared.error.NodeError.{NodeError}
 use Rattle.mr_node.specs.declared.error.NodeError.TheVariants.{OutOfMemory, ReadFault, WriteFault, TurnsSpent}
-use Rattle.mr_node.specs.declared.service.next.Step.{Step}
-use Rattle.mr_node.specs.declared.service.next.Step.TheVariants.{Served, Waits, Ends}
+use Rattle.mr_node.specs.declared.service.step.Step.{Step}
+use Rattle.mr_node.specs.declared.service.step.Step.TheVariants.{Served, Waits, Ends}
 use Rattle.mr_node.specs.Output.{Exchange, Reads, SpellsExchange, output_of, text_of_exchange}
 use Rattle.mr_node.specs.Session.{Performs, DoesExchange, Serves, ServiceIs}
 use Rattle.mr_node.specs.Step.{StepIs, PieceIs}

@@ -1,5 +1,5 @@
 -- What a request comes to, over anything that performs commands and any clock.
-use Rattle.std.specs.Prelude.{◌≡◌, ℕ, ◌<◌, ◌⊎◌, List, [], ◌∷◌, ◌++◌, Option, Some, None}
+use Rattle.std.specs.Prelude.{◌≡◌, ℕ, ◌+◌, ◌⊎◌, List, [], ◌∷◌, ◌++◌, Option, Some, None}
 use Rattle.std.specs.Option.{option_to_list}
 use Rattle.mr_text.specs.declared.cause.Cause.{Cause}
 use Rattle.mr_text.specs.declared.cause.Cause.TheVariants.{OutOfMemory, ClockFault}
@@ -83,7 +83,7 @@ abbrev pub Outcome : {C P : Type 0} → (C → Option ℕ → C → Type 0) → 
     → C → P → Request → Reply → C → P → Type 0
 Outcome reads failures did refused clock old request reply clock' new =
     ((now : ℕ) × reads clock (Some now) clock' × OutcomeAt did refused old now request reply new) ⊎
-    (reads clock None clock' × (failures clock < failures clock') × (reply ≡ ServerError ClockFault) × (new ≡ old))
+    (reads clock None clock' × (failures clock' ≡ failures clock + 1) × (reply ≡ ServerError ClockFault) × (new ≡ old))
 
 -- the command changes what is kept, and tells nothing of it
 abbrev pub IsChange : NodeCommand → Type 0

@@ -1,5 +1,5 @@
 -- A cache as a list of items, the one used last in front, and what each command does to it.
-use Rattle.std.specs.Prelude.{◌≡◌, ℕ, ◌-◌, ◌<◌, ◌≤◌, ◌⊎◌, List, [], ◌∷◌, ◌++◌, length, take, Option, Some, None, is_some, IsTrue, IsSome, Result, Ok, Err, if◌then◌else◌}
+use Rattle.std.specs.Prelude.{◌≡◌, ℕ, ◌-◌, ◌≤◌, ◌⊎◌, List, [], ◌∷◌, ◌++◌, take, Option, Some, None, is_some, IsTrue, IsSome, Result, Ok, Err, if◌then◌else◌}
 use Rattle.std.specs.Option.{option_to_list}
 use Rattle.mr_join.specs.declared.leg_reply.LegReply.{LegReply}
 use Rattle.mr_join.specs.declared.leg_reply.LegReply.TheVariants.{Hit, Miss, Stored, Deleted, NotFound}
@@ -55,11 +55,11 @@ pub record RecencyStep (old : CacheView) (now : ℕ) (command : NodeCommand) (re
   pub answers : reply ≡ reply_of now command old.items
   pub leaves : new ≡ record old { items = items_after old.capacity now command old.items }
 
--- only a hit needs room for a copy, and a new key room in a cache that isn't full
+-- only a hit needs memory, for a copy, and a new key that is kept
 abbrev pub MayLackMemory : CacheView → ℕ → NodeCommand → Type 0
 MayLackMemory old now (Get key) = IsSome (live_item now key old.items)
 MayLackMemory old now (Set key flags exptime block) =
-    IsTrue (is_alive now (expiry_of now exptime)) × (item_of key old.items ≡ None) × (length old.items < old.capacity)
+    IsTrue (is_alive now (expiry_of now exptime)) × (item_of key old.items ≡ None)
 MayLackMemory old now (Delete key) = ⊥
 
 -- an empty cache, or ZeroCapacity where it could hold nothing

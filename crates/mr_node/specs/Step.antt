@@ -13,8 +13,8 @@ use Rattle.mr_node.specs.declared.ended.Ended.{Ended}
 use Rattle.mr_node.specs.declared.ended.Ended.TheVariants as how
 use Rattle.mr_node.specs.declared.error.NodeError.{NodeError}
 use Rattle.mr_node.specs.declared.error.NodeError.TheVariants.{OutOfMemory, ReadFault, WriteFault}
-use Rattle.mr_node.specs.declared.service.next.Step.{Step}
-use Rattle.mr_node.specs.declared.service.next.Step.TheVariants.{Served, Waits, Ends}
+use Rattle.mr_node.specs.declared.service.step.Step.{Step}
+use Rattle.mr_node.specs.declared.service.step.Step.TheVariants.{Served, Waits, Ends}
 use Rattle.mr_node.specs.Output.Exchange.{Asked}
 use Rattle.mr_node.specs.Output.{Exchange, IsServed, SpellsExchange, text_of_exchange, reply_to_refusal, text_of_answer}
 use Rattle.mr_node.specs.Session.{DoesExchange, IsUnanswered}

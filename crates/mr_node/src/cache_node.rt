@@ -6,7 +6,7 @@ use crate::command::NodeCommand;
 use crate::error::NodeError;
 use crate::expiry::{expiry_of, is_alive};
 use crate::perform::Perform;
-use crate::recency::{is_named, keep, take_out, use_again};
+use crate::recency::{is_named, keep, move_to_front, place_of, take_out};
 use mr_join::LegReply;
 use mr_text::Key;
 use std::alloc::{AllocError, Global};
@@ -82,36 +82,29 @@ impl CacheNode {
         self.items.clear();
     }
 
-    /// The item under this key, unless it is expired.
-    fn live(&self, now: u64, key: &Key) -> Option<&CachedItem>
-        ensures { option_copied result ≡ live_item now key.now self.now.items }
-    {
-        match self.peek(key) {
-            Some(item) if is_alive(now, item.expires_at) => Some(item),
-            _ => None,
-        }
-    }
-
-    fn get(&mut self, now: u64, key: Key) -> Result<LegReply, AllocError>
+    /// What a get comes to. Its item is looked for once; a hit moves it to the front.
+    fn look_up(&mut self, now: u64, key: &Key) -> Result<LegReply, AllocError>
         ensures { MatchResult result
-            (λ reply. RecencyStep self.old now (Get key) reply self.new)
-            (λ _. (self.new ≡ self.old) × MayLackMemory self.old now (Get key)) }
+            (λ reply. RecencyStep self.old now (Get key.now) reply self.new)
+            (λ _. (self.new ≡ self.old) × MayLackMemory self.old now (Get key.now)) }
     {
-        let reply = match self.live(now, &key) {
-            Some(item) => LegReply::Hit {
-                flags: item.flags,
-                block: item.block.copy()?,
-            },
-            None => LegReply::Miss,
+        let Some(place) = place_of(&self.items, key) else {
+            return Ok(LegReply::Miss);
         };
-        use_again(&mut self.items, now, &key);
+        let item = &self.items[place];
+        if !is_alive(now, item.expires_at) {
+            let _ = self.items.remove(place);
+            return Ok(LegReply::Miss);
+        }
+        let reply = hit(item)?;
+        move_to_front(&mut self.items, place);
         Ok(reply)
     }
 
     fn set(&mut self, now: u64, item: CachedItem) -> Result<LegReply, AllocError>
         ensures { MatchResult result
             (λ reply. (reply ≡ Stored) × (self.new ≡ record self.old { items = after_set self.old.capacity now item self.old.items }))
-            (λ _. (self.new ≡ self.old) × IsTrue (is_alive now item.expires_at) × (item_of item.key self.old.items ≡ None) × (length self.old.items < self.old.capacity)) }
+            (λ _. (self.new ≡ self.old) × IsTrue (is_alive now item.expires_at) × (item_of item.key self.old.items ≡ None)) }
     {
         if is_alive(now, item.expires_at) {
             keep(&mut self.items, self.capacity, item)?;
@@ -131,8 +124,22 @@ impl CacheNode {
     }
 }
 
+ghost use Rattle.std.specs.Prelude.{IfOk};
+ghost use Rattle.mr_join.specs.declared.leg_reply.LegReply.TheVariants.{Hit};
+
+/// The answer to a get that finds this item.
+fn hit(item: &CachedItem) -> Result<LegReply, AllocError>
+    ensures { IfOk result (λ reply. reply ≡ Hit item.now.flags item.now.block) }
+{
+    Ok(LegReply::Hit {
+        flags: item.flags,
+        block: item.block.copy()?,
+    })
+}
+
 impl Perform for CacheNode {
     ghost use Rattle.mr_node.specs.Recency.{RecencyStep, MayLackMemory};
+    ghost use Rattle.mr_node.specs.declared.command.NodeCommand.TheVariants.{Get};
 
     ghost did = { RecencyStep };
 
@@ -149,7 +156,7 @@ impl Perform for CacheNode {
         ensures memory { OnErr result (MayLackMemory self.old now command) }
     {
         match command {
-            NodeCommand::Get(key) => self.get(now, key),
+            NodeCommand::Get(key) => self.look_up(now, &key),
             NodeCommand::Set {
                 key,
                 flags,
@@ -166,5 +173,14 @@ impl Perform for CacheNode {
             ),
             NodeCommand::Delete(key) => Ok(self.delete(now, key)),
         }
+    }
+
+    fn get(&mut self, now: u64, key: &Key) -> Result<LegReply, AllocError>
+        ensures done { MatchResult result
+            (λ reply. RecencyStep self.old now (Get key.now) reply self.new)
+            (λ _. self.new ≡ self.old) }
+        ensures memory { OnErr result (MayLackMemory self.old now (Get key.now)) }
+    {
+        self.look_up(now, key)
     }
 }

@@ -109,15 +109,8 @@ fn look_up<P: Perform>(node: &mut P, now: u64, key: Key) -> Result<Option<Item>,
         (λ found. LooksUp P.did node.old now key found node.new)
         (λ cause. FailsToLookUp P.did P.refused node.old now key cause node.new) }
 {
-    let Ok(name) = key.copy() else {
-        return Err(Cause::OutOfMemory);
-    };
-    match node.perform(now, NodeCommand::Get(key)) {
-        Ok(LegReply::Hit { flags, block }) => Ok(Some(Item {
-            key: name,
-            flags,
-            block,
-        })),
+    match node.get(now, &key) {
+        Ok(LegReply::Hit { flags, block }) => Ok(Some(Item { key, flags, block })),
         Ok(LegReply::Miss) => Ok(None),
         Ok(LegReply::Failed(cause)) => Err(cause),
         Ok(LegReply::Stored | LegReply::Deleted | LegReply::NotFound) => unreachable!(),

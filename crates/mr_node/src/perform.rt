@@ -2,9 +2,11 @@ ghost use Rattle.std.specs.Prelude.{ℕ, MatchResult};
 ghost use Rattle.mr_join.specs.declared.leg_reply.LegReply.{LegReply};
 ghost use Rattle.mr_node.specs.Kinds.{IsOfKind};
 ghost use Rattle.mr_node.specs.declared.command.NodeCommand.{NodeCommand};
+ghost use Rattle.mr_node.specs.declared.command.NodeCommand.TheVariants.{Get};
 
 use crate::command::NodeCommand;
 use mr_join::LegReply;
+use mr_text::Key;
 use std::alloc::AllocError;
 
 /// What performs commands, as a cache does.
@@ -22,6 +24,12 @@ pub trait Perform {
         ensures { MatchResult result
             (λ reply. did self.old now command reply self.new)
             (λ _. refused self.old now command self.new) };
+
+    /// Performs a get of a lent key, as `perform` does.
+    fn get(&mut self, now: u64, key: &Key) -> Result<LegReply, AllocError>
+        ensures { MatchResult result
+            (λ reply. did self.old now (Get key.now) reply self.new)
+            (λ _. refused self.old now (Get key.now) self.new) };
 
     /// A command gets a reply of its own kind, or fails.
     ghost of_kind: { (old : Self) (now : ℕ) (command : NodeCommand) (reply : LegReply) (new : Self)

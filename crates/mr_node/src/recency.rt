@@ -1,11 +1,11 @@
 //! Items in order of use, the one used last in front.
-ghost use Rattle.std.specs.Prelude.{◌≡◌, ◌+◌, ◌<◌, ◌≤◌, ◌∷◌, ◌++◌, None, vec_len, vec_capacity, position, OnSome, MatchResult};
-ghost use Rattle.std.specs.Option.{option_to_list};
+ghost use Rattle.std.specs.Prelude.{◌≡◌, ◌+◌, ◌<◌, ◌≤◌, ◌∷◌, Some, None, length, vec_len, vec_capacity, position, OnSome, MatchResult};
+ghost use Rattle.std.specs.List.{remove, slice_get};
 ghost use Rattle.mr_node.specs.Items.{is_named, item_of, without, HasDistinctKeys, IsKept};
-ghost use Rattle.mr_node.specs.Recency.{live_item, put_in_front};
+ghost use Rattle.mr_node.specs.Recency.{put_in_front};
+ghost use Rattle.mr_node.specs.declared.cached_item.CachedItem.{CachedItem};
 
 use crate::cached_item::CachedItem;
-use crate::expiry::is_alive;
 use mr_text::Key;
 use std::alloc::AllocError;
 
@@ -43,15 +43,13 @@ fn put_first(items: &mut Vec<CachedItem>, item: CachedItem)
     let _ = items.insert(0, item);
 }
 
-/// Moves the item under this key to the front, or takes it out where it is expired.
-pub(crate) fn use_again(items: &mut Vec<CachedItem>, now: u64, key: &Key)
-    requires { HasDistinctKeys items.old.items }
-    ensures { items.new.items ≡ option_to_list (live_item now key.now items.old.items) ++ without key.now items.old.items }
+/// Moves the item at this place to the front.
+pub(crate) fn move_to_front(items: &mut [CachedItem], place: usize)
+    requires { place < length items.old }
+    ensures len { length items.new ≡ length items.old }
+    ensures items { (item : CachedItem) → slice_get items.old place ≡ Some item → items.new ≡ item ∷ remove items.old place }
 {
-    match take_out(items, key) {
-        Some(item) if is_alive(now, item.expires_at) => put_first(items, item),
-        _ => {}
-    }
+    items[..=place].rotate_right(1);
 }
 
 /// Puts the item in front, in the place of the one under its key. A new key drops the last item where there are as many

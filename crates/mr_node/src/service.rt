@@ -6,9 +6,9 @@ ghost use Rattle.mr_node.specs.Session.{ServiceIs, most_read};
 use crate::ended::Ended;
 use crate::error::NodeError;
 use crate::perform::Perform;
-use crate::service::next::Step;
+use crate::service::next::serve_next;
 use crate::service::piece::read_piece;
-use crate::service::step::step;
+use crate::service::step::Step;
 use mr_clock::Clock;
 use mr_text::{FixedBuffer, RequestReader, Sink, Source};
 use std::alloc::Global;
@@ -59,7 +59,7 @@ pub fn serve<P: Perform, S: Source, W: Sink, C: Clock>(
     let mut ended = false;
     let mut turns_left = turns;
     'session: loop {
-        match step(alloc, node, &mut requests, &mut answer, writer, clock)? {
+        match serve_next(alloc, node, &mut requests, &mut answer, writer, clock)? {
             Step::Served => {}
             Step::Ends(how) => return Ok(how),
             Step::Waits => {

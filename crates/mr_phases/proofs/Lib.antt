@@ -1,3 +1,4 @@
+pub mod InForceLemmas
 pub mod Members
 pub mod PhaseLemmas
 pub mod PoolLemmas

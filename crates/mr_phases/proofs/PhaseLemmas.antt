@@ -13,11 +13,11 @@ stands_by h t false true c x y z = (ltb-false _ _ x, ltb-true _ _ y)
 stands_by h t false false true x y z = (ltb-false _ _ y, ltb-true _ _ z)
 stands_by h t false false false x y z = ltb-false _ _ z
 
-stands_in_own : (h : Hop) (t : ℕ) → StandsIn (phase_in h t) h t
+pub stands_in_own : (h : Hop) (t : ℕ) → StandsIn (phase_in h t) h t
 stands_in_own h t = stands_by h t (nat_lt t h.start) (nat_lt t (h.start + h.interval)) (nat_lt t (h.start + 2 * h.interval)) refl refl refl
 
 -- the ranges do not meet
-only_one : (h : Hop) (t : ℕ) (p q : PhaseName) → StandsIn p h t → StandsIn q h t → p ≡ q
+pub only_one : (h : Hop) (t : ℕ) (p q : PhaseName) → StandsIn p h t → StandsIn q h t → p ≡ q
 only_one h t OldOnly OldOnly a b = refl
 only_one h t OldOnly BothReadOld a b = absurd (omega arith)
 only_one h t OldOnly BothReadNew a b = absurd (omega arith)

@@ -1,3 +1,4 @@
+pub mod InForce
 pub mod Judged
 pub mod PhaseText
 pub mod Pools

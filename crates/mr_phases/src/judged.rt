@@ -1,4 +1,4 @@
-//! What a proxy finds of a request from one reading of its clock.
+//! A reading judged: the one of the four phases in which it stands.
 ghost use Rattle.std.specs.Prelude.{◌≡◌, ◌≤◌, ◌↔◌, IsOk, IfOk, IfErr};
 ghost use Rattle.mr_phases.specs.Sides.{read_side_of, sides_at, sides_in};
 ghost use Rattle.mr_phases.specs.Schedule.{phase_of, IsSchedule};
@@ -6,6 +6,7 @@ ghost use Rattle.mr_phases.specs.Judged.{name_of, reading_of, hops_of, IsJudgeme
 
 use crate::phase::{BothReadNew, BothReadOld, NewOnly, OldOnly, Phase};
 use crate::phase_name::PhaseName;
+use crate::plain_phase::PlainPhase;
 use crate::schedule::Schedule;
 use crate::side::{RequestKind, Side};
 use crate::sides::Sides;
@@ -37,16 +38,26 @@ pub fn judge(schedule: Schedule, now: u64) -> Judged
 }
 
 impl Judged {
+    /// The phase as plain values: the one way from the variant to what it holds.
+    fn plain(&self) -> PlainPhase
+        ensures schedule { result.schedule ≡ hops_of self.now }
+        ensures reading { result.reading ≡ reading_of self.now }
+        ensures name { result.name ≡ name_of self.now }
+    {
+        match self {
+            Judged::OldOnly(phase) => phase.plain(),
+            Judged::BothReadOld(phase) => phase.plain(),
+            Judged::BothReadNew(phase) => phase.plain(),
+            Judged::NewOnly(phase) => phase.plain(),
+        }
+    }
+
     /// An equal value.
     pub fn copy(&self) -> Judged
         ensures { result ≡ self.now }
     {
-        match self {
-            Judged::OldOnly(phase) => Judged::OldOnly(phase.copy()),
-            Judged::BothReadOld(phase) => Judged::BothReadOld(phase.copy()),
-            Judged::BothReadNew(phase) => Judged::BothReadNew(phase.copy()),
-            Judged::NewOnly(phase) => Judged::NewOnly(phase.copy()),
-        }
+        let plain = self.plain();
+        judge(plain.schedule, plain.reading)
     }
 
     /// The name of the phase.
@@ -54,60 +65,35 @@ impl Judged {
         ensures by_variant { result ≡ name_of self.now }
         ensures by_reading { result ≡ phase_of (hops_of self.now) (reading_of self.now) }
     {
-        match self {
-            Judged::OldOnly(phase) => phase.name(),
-            Judged::BothReadOld(phase) => phase.name(),
-            Judged::BothReadNew(phase) => phase.name(),
-            Judged::NewOnly(phase) => phase.name(),
-        }
+        self.plain().name
     }
 
     /// The reading, in seconds since the epoch.
     pub fn reading(&self) -> u64
         ensures { result ≡ reading_of self.now }
     {
-        match self {
-            Judged::OldOnly(phase) => phase.reading(),
-            Judged::BothReadOld(phase) => phase.reading(),
-            Judged::BothReadNew(phase) => phase.reading(),
-            Judged::NewOnly(phase) => phase.reading(),
-        }
+        self.plain().reading
     }
 
     /// The schedule in which the reading stands.
     pub fn schedule(&self) -> Schedule
         ensures { result ≡ hops_of self.now }
     {
-        match self {
-            Judged::OldOnly(phase) => phase.schedule(),
-            Judged::BothReadOld(phase) => phase.schedule(),
-            Judged::BothReadNew(phase) => phase.schedule(),
-            Judged::NewOnly(phase) => phase.schedule(),
-        }
+        self.plain().schedule
     }
 
     /// The side of gets and sets.
     pub fn read_side(&self) -> Side
         ensures { result ≡ read_side_of (phase_of (hops_of self.now) (reading_of self.now)) }
     {
-        match self {
-            Judged::OldOnly(phase) => phase.read_side(),
-            Judged::BothReadOld(phase) => phase.read_side(),
-            Judged::BothReadNew(phase) => phase.read_side(),
-            Judged::NewOnly(phase) => phase.read_side(),
-        }
+        self.plain().read_side
     }
 
     /// The sides that a request goes to, the old one first.
     pub fn sides(&self, kind: RequestKind) -> Sides
         ensures { sides_in result ≡ sides_at (hops_of self.now) kind (reading_of self.now) }
     {
-        match self {
-            Judged::OldOnly(phase) => phase.sides(kind),
-            Judged::BothReadOld(phase) => phase.sides(kind),
-            Judged::BothReadNew(phase) => phase.sides(kind),
-            Judged::NewOnly(phase) => phase.sides(kind),
-        }
+        self.plain().sides(kind)
     }
 
     /// The judgement at a later reading. An earlier one hands the same value back as the error.

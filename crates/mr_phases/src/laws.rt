@@ -1,8 +1,9 @@
 //! The laws by which a fleet whose clocks differ by at most the least interval keeps its deletes. They hold of
 //! every chain of migrations, and speak of pools, numbered from 0 in the order of the migrations.
-ghost use Rattle.std.specs.Prelude.{◌≡◌, ℕ, ◌+◌, ◌<◌, ◌≤◌, ◌↔◌, List, [], ◌∷◌, Contains};
+ghost use Rattle.std.specs.Prelude.{◌≡◌, ℕ, ◌+◌, ◌<◌, ◌≤◌, ◌↔◌, List, [], ◌∷◌, length, Contains};
 ghost use Rattle.mr_phases.specs.declared.phase_name.PhaseName.{PhaseName};
-ghost use Rattle.mr_phases.specs.Schedule.{Hop, phase_in, StandsIn, IsChain, least_interval, first_start, first_interval};
+ghost use Rattle.mr_phases.specs.Schedule.{Hop, phase_in, StandsIn, hop_of, phase_of, IsChain, least_interval, first_start, first_interval};
+ghost use Rattle.mr_phases.specs.InForce.{StandsAt};
 ghost use Rattle.mr_phases.specs.Pools.{read_pool, delete_pools, SomeFrom};
 
 /// The pool that one clock reads is among those that another clock deletes from.
@@ -24,9 +25,16 @@ pub fn deletes_up()
         → Contains (delete_pools hops t) pool → SomeFrom (delete_pools hops u) pool }
 {}
 
-/// A reading is in the phase in whose range it stands, and in no other.
+/// Of one migration, a reading is in the phase in whose range it stands, and in no other.
 pub fn phase_ranges()
     ensures { (h : Hop) (t : ℕ) (phase : PhaseName) → (phase_in h t ≡ phase) ↔ StandsIn phase h t }
+{}
+
+/// Of several migrations the last whose start is reached is in force, or the first where none is; a reading is in
+/// the phase of that one in whose range it stands, and in no other.
+pub fn phase_in_force()
+    ensures { (hops : List Hop) (t number : ℕ) (phase : PhaseName) → IsChain hops → 0 < length hops
+        → ((hop_of hops t ≡ number) × (phase_of hops t ≡ phase)) ↔ StandsAt hops t number phase }
 {}
 
 /// Before the first start a delete goes to the first pool alone.

@@ -7,6 +7,7 @@ mod judged;
 pub mod laws;
 mod phase;
 mod phase_name;
+mod plain_phase;
 mod schedule;
 mod side;
 mod sides;

@@ -6,6 +6,7 @@ ghost use Rattle.mr_phases.specs.Schedule.{phase_of};
 ghost use Rattle.mr_phases.specs.Reading.{Reading};
 
 use crate::phase_name::PhaseName;
+use crate::plain_phase::PlainPhase;
 use crate::schedule::Schedule;
 use crate::side::{RequestKind, Side};
 use crate::sides::{OneSide, SideCount, Sides, TwoSides};
@@ -169,13 +170,27 @@ impl<P: PhaseKind> Phase<P> {
         Phase::at(self.schedule, self.reading)
     }
 
+    /// The same as plain values.
+    pub(crate) fn plain(&self) -> PlainPhase
+        ensures schedule { result.schedule ≡ self.now.hops }
+        ensures reading { result.reading ≡ self.now.reading }
+        ensures name { result.name ≡ P.name }
+    {
+        PlainPhase {
+            schedule: self.schedule,
+            reading: self.reading,
+            name: P::name(),
+            read_side: P::read_side(),
+            delete_sides: P::delete_sides().into_sides(),
+        }
+    }
+
     /// The phase's name.
     pub fn name(&self) -> PhaseName
         ensures by_type { result ≡ P.name }
         ensures by_reading { result ≡ phase_of self.now.hops self.now.reading }
     {
-        let _ = &self.reading; // the reading stands in P
-        P::name()
+        self.plain().name
     }
 
     /// The reading, in seconds since the epoch.
@@ -196,8 +211,7 @@ impl<P: PhaseKind> Phase<P> {
     pub fn read_side(&self) -> Side
         ensures { result ≡ read_side_of (phase_of self.now.hops self.now.reading) }
     {
-        let _ = &self.reading; // the reading stands in P
-        P::read_side()
+        self.plain().read_side
     }
 
     /// The sides of a delete: `OneSide` or `TwoSides`, by the type P.
@@ -205,7 +219,7 @@ impl<P: PhaseKind> Phase<P> {
         ensures { P.DeleteSides.sides result
             ≡ delete_sides_of (phase_of self.now.hops self.now.reading) }
     {
-        let _ = &self.reading; // the reading stands in P
+        self.stands_in_phase();
         P::delete_sides()
     }
 
@@ -213,12 +227,13 @@ impl<P: PhaseKind> Phase<P> {
     pub fn sides(&self, kind: RequestKind) -> Sides
         ensures { sides_in result ≡ sides_at self.now.hops kind self.now.reading }
     {
-        match kind {
-            RequestKind::Get | RequestKind::Set => {
-                let side = self.read_side();
-                Sides::One(OneSide::of(side))
-            }
-            RequestKind::Delete => self.delete_sides().into_sides(),
-        }
+        self.plain().sides(kind)
+    }
+
+    /// The reading stands in P: what the type keeps.
+    fn stands_in_phase(&self)
+        ensures { P.name ≡ phase_of self.now.hops self.now.reading }
+    {
+        let _ = &self.reading;
     }
 }

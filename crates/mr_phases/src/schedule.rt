@@ -7,7 +7,9 @@ use crate::phase_name::PhaseName;
 use std::marker::Model;
 
 /// When a migration begins, and how long each of its two middle phases lasts. To a contract it is the list
-/// of its hops, today one.
+/// of its hops, today one. For several migrations in a row the fields here change, `start` and `interval` ask for a
+/// hop, `least_interval` and `phase_at` go over all hops, and `Judged` tells the hop in force. What speaks of
+/// `phase_of` stays: the definitions and the laws hold of every chain.
 #[derive(Clone, Copy, Debug)]
 pub struct Schedule {
     start: u64,

@@ -14,6 +14,8 @@ pub enum Side {
 }
 
 impl Side {
+    ghost use Rattle.mr_phases.specs.Pools.{pool_of};
+
     /// The printed name: `old` or `new`.
     pub fn as_str(self) -> &'static str
         ensures { result.now ≡ side_text self }
@@ -21,6 +23,17 @@ impl Side {
         match self {
             Side::Old => "old",
             Side::New => "new",
+        }
+    }
+
+    /// The number of the side's pool at a hop, both counted from 0: a hop leaves the pool of its own number, and
+    /// moves to the next.
+    pub fn pool_number(self, hop: u32) -> usize
+        ensures { result ≡ pool_of hop self }
+    {
+        match self {
+            Side::Old => hop as usize,
+            Side::New => hop as usize + 1,
         }
     }
 }

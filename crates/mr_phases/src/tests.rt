@@ -125,11 +125,20 @@ fn names_are_printed(rt: HostRuntime) -> Result<(), Fail> {
 }
 
 #[test]
+fn a_hop_moves_to_the_next_pool(rt: HostRuntime) {
+    assert_eq!(rt; Side::Old.pool_number(0), 0);
+    assert_eq!(rt; Side::New.pool_number(0), 1);
+    assert_eq!(rt; Side::Old.pool_number(3), 3);
+    assert_eq!(rt; Side::New.pool_number(3), 4);
+}
+
+#[test]
 fn laws_can_be_cited() {
     laws::overlap();
     laws::read_up();
     laws::deletes_up();
     laws::phase_ranges();
+    laws::phase_in_force();
     laws::deletes_old_before_start();
     laws::reads_old_before_middle();
 }

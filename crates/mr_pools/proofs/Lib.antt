@@ -1,3 +1,4 @@
+pub mod NameLemmas
 pub mod NodeNameLemmas
 pub mod PoolLemmas
 pub mod RoutingLemmas

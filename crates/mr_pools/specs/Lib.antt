@@ -1,6 +1,7 @@
 pub mod Hash
 pub mod Limits
 pub mod Making
+pub mod Names
 pub mod NodeName
 pub mod Pool
 pub mod PoolError

@@ -3,10 +3,10 @@ ghost use Rattle.std.specs.Prelude.{◌≡◌, ◌≢◌, ℕ, List, true, IfSom
 use mr_text::Key;
 
 /// Where the 32-bit hash by Fowler, Noll and Vo starts.
-pub const FNV_OFFSET_BASIS: u32 = 2166136261;
+const FNV_OFFSET_BASIS: u32 = 2166136261;
 
 /// What that hash multiplies by at each byte.
-pub const FNV_PRIME: u32 = 16777619;
+const FNV_PRIME: u32 = 16777619;
 
 /// A hash of keys, by which a pool places them.
 pub trait KeyHash: Eq + Copy {

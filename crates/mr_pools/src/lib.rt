@@ -4,6 +4,7 @@
 
 mod error;
 mod hash;
+pub mod laws;
 mod limits;
 mod name;
 mod pool;

@@ -1,4 +1,4 @@
-ghost use Rattle.std.specs.Prelude.{◌≡◌, ◌<◌, ◌↔◌, length, IsTrue, IfOk};
+ghost use Rattle.std.specs.Prelude.{◌≡◌, ◌<◌, ◌↔◌, length, slice_get, Some, IsTrue, IfOk};
 
 use crate::error::PoolError;
 use crate::hash::NamedHash;
@@ -11,19 +11,18 @@ use std::marker::Model;
 /// stands in two of the pools.
 #[derive(Debug, Drop)]
 pub struct Routing {
-    old: Pool,
-    new: Pool,
+    pools: [Pool; 2],
     hash: NamedHash,
 }
 
 impl Model for Routing {
-    ghost use Rattle.mr_pools.specs.Routing.{RoutingView, IsRouting, routing_between};
+    ghost use Rattle.mr_pools.specs.Routing.{RoutingView, IsRouting};
 
     ghost Value = { RoutingView };
 
-    ghost view = { λ r. routing_between r.old r.new r.hash };
+    ghost view = { λ r. record { pools = r.pools; hash = r.hash } };
 
-    ghost invariant = { λ r. IsRouting (routing_between r.old r.new r.hash) };
+    ghost invariant = { λ r. IsRouting (record { pools = r.pools; hash = r.hash }) };
 }
 
 impl Routing {
@@ -36,7 +35,10 @@ impl Routing {
         if !are_apart(old.names(), new.names()) {
             return Err(PoolError::SharedName);
         }
-        Ok(Routing { old, new, hash })
+        Ok(Routing {
+            pools: [old, new],
+            hash,
+        })
     }
 
     /// The pool that is left.
@@ -44,7 +46,7 @@ impl Routing {
         ensures pool { result.now ≡ pool_of self.now 0 }
         ensures routing { IsRouting self.now }
     {
-        &self.old
+        &self.pools[0]
     }
 
     /// The pool that takes over.
@@ -52,20 +54,25 @@ impl Routing {
         ensures pool { result.now ≡ pool_of self.now 1 }
         ensures routing { IsRouting self.now }
     {
-        &self.new
+        &self.pools[1]
+    }
+
+    /// The pools, from the one that is left to the one that takes over last: a pool's number is its index here.
+    pub fn pools(&self) -> &[Pool]
+        ensures pools { result.now ≡ self.now.pools }
+        ensures routing { IsRouting self.now }
+    {
+        self.pools.as_slice()
     }
 
     /// The pool of a number: 0 is the old one.
     pub fn pool(&self, number: usize) -> &Pool
         requires { number < length self.now.pools }
+        ensures there { slice_get self.now.pools number ≡ Some result.now }
         ensures pool { result.now ≡ pool_of self.now number }
         ensures routing { IsRouting self.now }
     {
-        if number == 0 {
-            self.old_pool()
-        } else {
-            self.new_pool()
-        }
+        &self.pools()[number]
     }
 
     /// The hash that places keys.
@@ -90,8 +97,7 @@ impl Routing {
         ensures { IfOk result (λ routing. routing ≡ self.now) }
     {
         Ok(Routing {
-            old: self.old.copy()?,
-            new: self.new.copy()?,
+            pools: [self.old_pool().copy()?, self.new_pool().copy()?],
             hash: self.hash,
         })
     }
@@ -100,6 +106,8 @@ impl Routing {
     pub fn same_as(&self, other: &Routing) -> bool
         ensures { IsTrue result ↔ (self.now ≡ other.now) }
     {
-        self.old.same_as(&other.old) && self.new.same_as(&other.new) && self.hash == other.hash
+        self.old_pool().same_as(other.old_pool())
+            && self.new_pool().same_as(other.new_pool())
+            && self.hash == other.hash
     }
 }

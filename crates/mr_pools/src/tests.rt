@@ -1,5 +1,5 @@
 //! Worked values of names, hashes, pools and routings.
-use crate::{Fnv1a32, KeyHash, NamedHash, NodeName, Pool, PoolError, Routing, SumHash};
+use crate::{Fnv1a32, KeyHash, NamedHash, NodeName, Pool, PoolError, Routing, SumHash, laws};
 use mr_text::Key;
 use std::alloc::Global;
 use std::test::Fail;
@@ -160,6 +160,8 @@ fn copies_are_equal(rt: HostRuntime) -> Result<(), Fail> {
     let copy = routing.copy()?;
     assert_eq!(rt; routing.same_as(&copy), true);
     assert_eq!(rt; copy.old_pool().names().len(), 2);
+    assert_eq!(rt; copy.pools().len(), 2);
+    assert_eq!(rt; copy.pools()[1].same_as(routing.new_pool()), true);
     assert_eq!(rt; routing.old_pool().same_as(&copy.old_pool().copy()?), true);
     assert_eq!(rt; routing.old_pool().same_as(routing.new_pool()), false);
     let other = Routing::new(
@@ -169,4 +171,12 @@ fn copies_are_equal(rt: HostRuntime) -> Result<(), Fail> {
     )?;
     assert_eq!(rt; routing.same_as(&other), false);
     Ok(())
+}
+
+#[test]
+fn laws_can_be_cited() {
+    laws::limits();
+    laws::pools_share_no_name();
+    laws::names_are_distinct();
+    laws::names_stand_once();
 }

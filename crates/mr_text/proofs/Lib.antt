@@ -26,3 +26,4 @@ pub mod CanonicalRequests
 pub mod CanonicalReplies
 pub mod Writes
 pub mod Gathered
+pub mod Leaving

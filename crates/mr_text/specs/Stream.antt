@@ -1,5 +1,5 @@
 -- What a reader answers, of requests or of replies, for the bytes that it has not read yet.
-use Rattle.std.specs.Prelude.{◌≡◌, ◌≢◌, ℕ, Bool, true, false, List, [], ◌++◌, ◌||◌, not, IsTrue, Option, Some, None, Result, Ok, Err}
+use Rattle.std.specs.Prelude.{◌≡◌, ◌≢◌, ℕ, Bool, true, false, List, [], ◌++◌, length, ◌||◌, not, IsTrue, Option, Some, None, Result, Ok, Err}
 use Rattle.mr_text.specs.declared.error.TextError.{TextError}
 use Rattle.mr_text.specs.declared.error.TextError.TheVariants.{UnknownCommand, Truncated, Closed, OutOfMemory}
 
@@ -12,6 +12,10 @@ pub record ReaderView : Type 0 where
 -- the reader has these bytes still to read
 abbrev pub StandsFor : ReaderView → List ℕ → Type 0
 StandsFor reader rest = reader.kept ≡ rest
+
+-- how many bytes it has still to read, by which a loop over what it gives ends
+abbrev pub unread : ReaderView → ℕ
+unread reader = length reader.kept
 
 -- the bytes begin with this item's spelling, and these follow
 pub record BeginsWith {Item : Type 0} (Spells : List ℕ → Item → Type 0) (bytes : List ℕ) (item : Item) (after : List ℕ) : Type 0 where

@@ -1,4 +1,4 @@
-ghost use Rattle.std.specs.Prelude.{◌≡◌, ◌≤◌, length, IfOk};
+ghost use Rattle.std.specs.Prelude.{◌≡◌, ◌≤◌, length, IfOk, ◌↔◌, IsTrue};
 ghost use Rattle.mr_text.specs.Block.{IsBlock};
 ghost use Rattle.mr_text.specs.declared.error.TextError.TheVariants.{DataTooLong};
 
@@ -52,6 +52,13 @@ impl Block {
         ensures block { IsBlock result.now }
     {
         self.bytes.as_slice()
+    }
+
+    /// Whether the other block is equal.
+    pub fn same_as(&self, other: &Block) -> bool
+        ensures { IsTrue result ↔ (self.now ≡ other.now) }
+    {
+        self.as_bytes() == other.as_bytes()
     }
 
     /// An equal block.

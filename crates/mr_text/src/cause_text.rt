@@ -30,6 +30,17 @@ impl Cause {
         }
     }
 
+    /// Whether the other cause is equal. A named cause has a text of its own, and no other cause has it.
+    pub fn same_as(&self, other: &Cause) -> bool
+        ensures { IsTrue result ↔ (self.now ≡ other.now) }
+    {
+        match (self, other) {
+            (Cause::Other(line), Cause::Other(other_line)) => line.same_as(other_line),
+            (Cause::Other(_), _) | (_, Cause::Other(_)) => false,
+            _ => self.text() == other.text(),
+        }
+    }
+
     /// An equal cause.
     pub fn copy(&self) -> Result<Cause, AllocError>
         ensures { IfOk result (λ cause. cause ≡ self.now) }

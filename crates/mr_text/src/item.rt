@@ -1,4 +1,4 @@
-ghost use Rattle.std.specs.Prelude.{◌≡◌, IfOk};
+ghost use Rattle.std.specs.Prelude.{◌≡◌, IfOk, ◌↔◌, IsTrue};
 
 use crate::block::Block;
 use crate::key::Key;
@@ -16,6 +16,15 @@ pub struct Item {
 }
 
 impl Item {
+    /// Whether the other item is equal.
+    pub fn same_as(&self, other: &Item) -> bool
+        ensures { IsTrue result ↔ (self.now ≡ other.now) }
+    {
+        self.key.same_as(&other.key)
+            && self.flags == other.flags
+            && self.block.same_as(&other.block)
+    }
+
     /// An equal item.
     pub fn copy(&self) -> Result<Item, AllocError>
         ensures { IfOk result (λ item. item ≡ self.now) }

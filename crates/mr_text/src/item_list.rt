@@ -1,4 +1,4 @@
-ghost use Rattle.std.specs.Prelude.{◌≡◌, ◌≤◌, length, IfOk, vec_len};
+ghost use Rattle.std.specs.Prelude.{◌≡◌, ◌≤◌, length, IfOk, vec_len, ◌↔◌, IsTrue};
 
 use crate::item::Item;
 use crate::limits::MAX_ITEMS;
@@ -48,6 +48,13 @@ impl ItemList {
         self.items
     }
 
+    /// Whether the other list is equal.
+    pub fn same_as(&self, other: &ItemList) -> bool
+        ensures { IsTrue result ↔ (self.now ≡ other.now) }
+    {
+        same_items(self.as_slice(), other.as_slice())
+    }
+
     /// An equal list.
     pub fn copy(&self) -> Result<ItemList, AllocError>
         ensures { IfOk result (λ list. list ≡ self.now) }
@@ -58,4 +65,19 @@ impl ItemList {
         }
         Ok(ItemList { items })
     }
+}
+
+/// Whether both lists are equal.
+fn same_items(items: &[Item], others: &[Item]) -> bool
+    ensures { IsTrue result ↔ (items.now ≡ others.now) }
+{
+    if items.len() != others.len() {
+        return false;
+    }
+    for (place, item) in items.iter().enumerate() {
+        if !item.same_as(&others[place]) {
+            return false;
+        }
+    }
+    true
 }

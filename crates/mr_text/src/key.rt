@@ -1,4 +1,4 @@
-ghost use Rattle.std.specs.Prelude.{◌≡◌, ◌≤◌, length, IfOk};
+ghost use Rattle.std.specs.Prelude.{◌≡◌, ◌≤◌, length, IfOk, ◌↔◌, IsTrue};
 ghost use Rattle.std.specs.List.{list_all};
 ghost use Rattle.mr_text.specs.Key.{IsKey, key_byte_test, key_test};
 ghost use Rattle.mr_text.specs.declared.error.TextError.TheVariants.{BadKey};
@@ -84,6 +84,13 @@ impl Key {
         ensures short { result ≤ MAX_KEY }
     {
         self.bytes.len()
+    }
+
+    /// Whether the other key is equal.
+    pub fn same_as(&self, other: &Key) -> bool
+        ensures { IsTrue result ↔ (self.now ≡ other.now) }
+    {
+        self.as_bytes() == other.as_bytes()
     }
 
     /// An equal key.

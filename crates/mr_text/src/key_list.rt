@@ -85,6 +85,13 @@ impl KeyList {
         self.keys
     }
 
+    /// Whether the other list is equal.
+    pub fn same_as(&self, other: &KeyList) -> bool
+        ensures { IsTrue result ↔ (self.now ≡ other.now) }
+    {
+        same_keys(self.as_slice(), other.as_slice())
+    }
+
     /// An equal list.
     pub fn copy(&self) -> Result<KeyList, AllocError>
         ensures { IfOk result (λ list. list ≡ self.now) }
@@ -95,4 +102,19 @@ impl KeyList {
         }
         Ok(KeyList { keys })
     }
+}
+
+/// Whether both lists are equal.
+fn same_keys(keys: &[Key], others: &[Key]) -> bool
+    ensures { IsTrue result ↔ (keys.now ≡ others.now) }
+{
+    if keys.len() != others.len() {
+        return false;
+    }
+    for (place, key) in keys.iter().enumerate() {
+        if !key.same_as(&others[place]) {
+            return false;
+        }
+    }
+    true
 }

@@ -1,12 +1,14 @@
 //! The laws of the text, which hold of every request and every reply that the types of this crate can hold.
-ghost use Rattle.std.specs.Prelude.{◌≡◌, ℕ, List, [], ◌++◌, All};
+ghost use Rattle.std.specs.Prelude.{◌≡◌, ◌<◌, ◌↔◌, ℕ, List, [], ◌++◌, length, false, Some, Ok, Err, All};
 ghost use Rattle.mr_text.specs.declared.request.Request.{Request};
 ghost use Rattle.mr_text.specs.declared.reply.Reply.{Reply};
 ghost use Rattle.mr_text.specs.declared.error.TextError.{TextError};
+ghost use Rattle.mr_text.specs.declared.error.TextError.TheVariants.{UnknownCommand};
 ghost use Rattle.mr_text.specs.Commands.{IsExptime};
 ghost use Rattle.mr_text.specs.Key.{IsKey};
 ghost use Rattle.mr_text.specs.Canonical.{canonical_request, canonical_reply};
-ghost use Rattle.mr_text.specs.Requests.{SpellsRequest, RefusesRequest};
+ghost use Rattle.mr_text.specs.Requests.{SpellsRequest, RefusesRequest, SkipsLine, is_quit};
+ghost use Rattle.mr_text.specs.Stream.{ReaderView, StandsFor, NextIs, unread};
 ghost use Rattle.mr_text.specs.Replies.{SpellsReply, RefusesReply};
 ghost use Rattle.mr_text.specs.Valid.{IsFlags, IsValidRequest, IsValidItem, IsValidCause, IsValidReply};
 
@@ -52,6 +54,31 @@ pub fn no_reply_is_refused()
 pub fn replies_have_one_refusal()
     ensures { (bytes : List ℕ) (refusal other : TextError)
         → RefusesReply refusal bytes → RefusesReply other bytes → refusal ≡ other }
+{}
+
+/// Every reader stands for some rest, of as many bytes as it has still to read.
+pub fn readers_stand_for_a_rest()
+    ensures { (reader : ReaderView) → (rest : List ℕ) × StandsFor reader rest × (unread reader ≡ length rest) }
+{}
+
+/// A request that a reader gives leaves it fewer bytes to read, so that a loop over requests ends.
+pub fn requests_leave_less()
+    ensures { (old new : ReaderView) (rest : List ℕ) (request : Request) → StandsFor old rest
+        → NextIs SpellsRequest RefusesRequest SkipsLine is_quit old new rest (Ok (Some request))
+        → unread new < unread old }
+{}
+
+/// A line that a reader skips leaves it fewer bytes to read.
+pub fn skipped_lines_leave_less()
+    ensures { (old new : ReaderView) (rest : List ℕ) → StandsFor old rest
+        → NextIs SpellsRequest RefusesRequest SkipsLine is_quit old new rest (Err (UnknownCommand false))
+        → unread new < unread old }
+{}
+
+/// A line is skipped exactly where the bytes get the refusal of an unknown command that doesn't close.
+pub fn skipped_lines_are_refused()
+    ensures { (bytes : List ℕ)
+        → ((after : List ℕ) × SkipsLine bytes after) ↔ RefusesRequest (UnknownCommand false) bytes }
 {}
 
 /// The canonical text of a request spells that request: a reader that comes to it gives it, whatever follows.

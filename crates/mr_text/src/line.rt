@@ -59,6 +59,13 @@ impl Line {
         self.bytes.as_slice()
     }
 
+    /// Whether the other line is equal.
+    pub fn same_as(&self, other: &Line) -> bool
+        ensures { IsTrue result ↔ (self.now ≡ other.now) }
+    {
+        self.as_bytes() == other.as_bytes()
+    }
+
     /// An equal text.
     pub fn copy(&self) -> Result<Line, AllocError>
         ensures { IfOk result (λ line. line ≡ self.now) }

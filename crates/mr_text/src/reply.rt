@@ -1,4 +1,4 @@
-ghost use Rattle.std.specs.Prelude.{◌≡◌, IfOk};
+ghost use Rattle.std.specs.Prelude.{◌≡◌, IfOk, ◌↔◌, IsTrue};
 
 use crate::cause::Cause;
 use crate::item_list::ItemList;
@@ -24,6 +24,22 @@ pub enum Reply {
 }
 
 impl Reply {
+    /// Whether the other reply is equal.
+    pub fn same_as(&self, other: &Reply) -> bool
+        ensures { IsTrue result ↔ (self.now ≡ other.now) }
+    {
+        match (self, other) {
+            (Reply::Items(items), Reply::Items(others)) => items.same_as(others),
+            (Reply::ClientError(cause), Reply::ClientError(other))
+            | (Reply::ServerError(cause), Reply::ServerError(other)) => cause.same_as(other),
+            (Reply::Stored, Reply::Stored)
+            | (Reply::Deleted, Reply::Deleted)
+            | (Reply::NotFound, Reply::NotFound)
+            | (Reply::Error, Reply::Error) => true,
+            _ => false,
+        }
+    }
+
     /// An equal reply.
     pub fn copy(&self) -> Result<Reply, AllocError>
         ensures { IfOk result (λ reply. reply ≡ self.now) }

@@ -1,4 +1,4 @@
-ghost use Rattle.std.specs.Prelude.{◌≡◌, IfOk};
+ghost use Rattle.std.specs.Prelude.{◌≡◌, ◌↔◌, IsTrue, IfOk};
 
 use crate::block::Block;
 use crate::key::Key;
@@ -39,6 +39,46 @@ pub enum Request {
 }
 
 impl Request {
+    /// Whether the other request is equal.
+    pub fn same_as(&self, other: &Request) -> bool
+        ensures { IsTrue result ↔ (self.now ≡ other.now) }
+    {
+        match (self, other) {
+            (Request::Get { keys }, Request::Get { keys: others }) => keys.same_as(others),
+            (
+                Request::Set {
+                    key,
+                    flags,
+                    exptime,
+                    block,
+                    noreply,
+                },
+                Request::Set {
+                    key: other_key,
+                    flags: other_flags,
+                    exptime: other_exptime,
+                    block: other_block,
+                    noreply: other_noreply,
+                },
+            ) => {
+                key.same_as(other_key)
+                    && flags == other_flags
+                    && exptime == other_exptime
+                    && block.same_as(other_block)
+                    && noreply == other_noreply
+            }
+            (
+                Request::Delete { key, noreply },
+                Request::Delete {
+                    key: other_key,
+                    noreply: other_noreply,
+                },
+            ) => key.same_as(other_key) && noreply == other_noreply,
+            (Request::Quit, Request::Quit) => true,
+            _ => false,
+        }
+    }
+
     /// An equal request.
     pub fn copy(&self) -> Result<Request, AllocError>
         ensures { IfOk result (λ request. request ≡ self.now) }

@@ -9,7 +9,7 @@ use crate::ended::Ended;
 use crate::error::NodeError;
 use crate::outcome::outcome;
 use crate::perform::Perform;
-use crate::service::next::Step;
+use crate::service::step::Step;
 use mr_clock::Clock;
 use mr_text::{Cause, FixedBuffer, Reply, Request, Sink, TextError, write_reply_at_once};
 use std::alloc::Global;

@@ -383,6 +383,10 @@ impl Perform for Full {
     fn perform(&mut self, _now: u64, _command: NodeCommand) -> Result<LegReply, AllocError> {
         Err(AllocError)
     }
+
+    fn get(&mut self, _now: u64, _key: &Key) -> Result<LegReply, AllocError> {
+        Err(AllocError)
+    }
 }
 
 #[test]

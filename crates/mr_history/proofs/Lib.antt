@@ -1,0 +1,4 @@
+pub mod Lists
+pub mod TestLemmas
+pub mod FormLemmas
+pub mod JudgeLemmas
