@@ -5,3 +5,4 @@ pub mod SheetLemmas
 pub mod SoundLemmas
 pub mod OpenLemmas
 pub mod WritingLemmas
+pub mod TakeLemmas

@@ -1,9 +1,10 @@
 -- How many legs may answer yet, from step to step.
-use Rattle.std.proofs.Common.{◌≡◌, ℕ, ◌+◌, ◌≤◌, Bool, true, false, not, ◌||◌, cond, List, [], ◌∷◌, length, map, get_or, remove, slice_get, slice_set, sum_by, count_by, Option, Some, None, if◌then◌else◌, refl, sym, ap, ◌∙◌, arith}
+use Rattle.std.proofs.Common.{◌≡◌, ℕ, ◌+◌, ◌≤◌, ◌==◌, Bool, true, false, not, ◌||◌, cond, List, [], ◌∷◌, length, map, get_or, remove, slice_get, slice_set, sum_by, count_by, is_some, Option, Some, None, if◌then◌else◌, refl, sym, ap, ◌∙◌, arith}
 use Rattle.std.specs.List.{list_any}
 use Rattle.std.specs.Option.{option_and_then}
 use Rattle.std.proofs.lemmas.List.Sums.{sum_by-cons, sum_by_push, sum_by-set, sum_by-remove}
 use Rattle.std.proofs.lemmas.Option.{slice_get_within, slice_get-get_or}
+use Rattle.std.proofs.lemmas.Map.Views.{exact_unsigned_eq}
 use Rattle.mr_text.specs.declared.request.Request.{Request}
 use Rattle.mr_history.specs.declared.op_id.OpId.{OpId}
 use Rattle.mr_join.specs.declared.leg_reply.LegReply.{LegReply}
@@ -22,7 +23,7 @@ use Rattle.mr_proxy.proofs.SoundLemmas.{IsNoting, noting_in}
 abbrev pub open_count : PendingView → ℕ
 open_count pending = count_by is_open pending.slots
 
-all_open : (sheets : List LegSheet) → count_by is_open (map open_slot sheets) ≡ length sheets
+pub all_open : (sheets : List LegSheet) → count_by is_open (map open_slot sheets) ≡ length sheets
 all_open [] = refl
 all_open (sheet ∷ sheets) =
     let head = sum_by-cons (λ (slot : Slot). cond (is_open slot) 1 0) (open_slot sheet) (map open_slot sheets) in
@@ -132,3 +133,49 @@ left_closes p n answer (Some pending) got s e =
 pub give_up_closes_lem : (p : ProxyView) (op : OpId) (answer : AnswerView) → IsSound p → given_up_of p op ≡ Some answer
     → open_legs_of (after_give_up p op) + 1 ≤ open_legs_of p
 give_up_closes_lem p op answer s e = left_closes p (place_of_op p.outstanding op) answer (pending_with p.outstanding op) refl s e
+
+-- a reply that is noted closes one leg
+pub noted_closes : (pending noted : PendingView) (place : ℕ) (reply : LegReply) → with_reply pending place reply ≡ Some noted
+    → count_by is_open noted.slots + 1 ≡ count_by is_open pending.slots
+noted_closes pending noted place reply e =
+    one_less pending noted place reply (noting_in pending noted place reply (slice_get pending.slots place) refl e)
+
+some_of : {X : Type 0} (o : Option X) → is_some o ≡ true → (x : X) × (o ≡ Some x)
+some_of None e = cc
+some_of (Some x) e = (x, refl)
+
+-- what noting makes of the request, by the leg that stood there
+pub noting_writes : (pending : PendingView) (place : ℕ) (reply : LegReply) (slot : Slot) → is_some (with_reply pending place reply) ≡ true
+    → slot ≡ get_or pending.slots place slot
+    → with_reply pending place reply ≡ Some (record pending { slots = slice_set pending.slots place (record { sheet = slot.sheet; reply = Some reply }) })
+noting_writes pending place reply slot awaited read =
+    let (noted, is) = some_of (with_reply pending place reply) awaited in
+    let n = noting_in pending noted place reply (slice_get pending.slots place) refl is in
+    let got = slice_get-get_or pending.slots place slot (slice_get_within pending.slots place n.slot n.there) in
+    let there = n.there in
+    let same : n.slot ≡ slot = cc in
+    is ∙ ap Some n.is
+    ∙ ap (λ (s : Slot). Some (record pending { slots = slice_set pending.slots place (record { sheet = s.sheet; reply = Some reply }) })) same
+
+pub note_counts : (view now : PendingView) (place : ℕ) (reply : LegReply) (slot : Slot) → view ≡ now → is_some (with_reply now place reply) ≡ true
+    → slot ≡ get_or view.slots place slot
+    → count_by is_open (slice_set view.slots place (record { sheet = slot.sheet; reply = Some reply })) + 1 ≡ count_by is_open view.slots
+note_counts view now place reply slot same awaited read =
+    let some : is_some (with_reply view place reply) ≡ true = ap (λ v. is_some (with_reply v place reply)) same ∙ awaited in
+    noted_closes view (record view { slots = slice_set view.slots place (record { sheet = slot.sheet; reply = Some reply }) }) place reply
+    (noting_writes view place reply slot some read)
+
+none_by : (n : ℕ) (t : Bool) → (n == 0) ≡ t → 1 ≤ n → false ≡ t
+none_by n true e some = let none = exact_unsigned_eq n 0 e in absurd (omega arith)
+none_by n false e some = refl
+
+none_is : (n : ℕ) → 1 ≤ n → false ≡ (n == 0)
+none_is n some = none_by n (n == 0) refl some
+
+complete_by : (slots : List Slot) (t : Bool) → list_any is_open slots ≡ t → not t ≡ (count_by is_open slots == 0)
+complete_by slots true e = none_is (count_by is_open slots) (some_open slots e)
+complete_by slots false e = let none = none_open slots e in rw none refl
+
+-- it was the last one where none is counted any more
+pub noted_last : (pending : PendingView) → is_complete pending ≡ (count_by is_open pending.slots == 0)
+noted_last pending = complete_by pending.slots (list_any is_open pending.slots) refl

@@ -1,11 +1,12 @@
 -- What holds of every proxy on its way from a fresh one.
-use Rattle.std.proofs.Common.{◌≡◌, ℕ, zero, suc, ◌<◌, ◌⊎◌, Bool, true, false, not, ◌&&◌, List, [], ◌∷◌, length, map, take, drop, get_or, remove, slice_get, slice_set, All, Option, Some, None, unwrap_or, if◌then◌else◌, refl, sym, ap, subst, ◌∙◌, inl, inr, arith}
+use Rattle.std.proofs.Common.{◌≡◌, ℕ, zero, suc, ◌<◌, ◌≤◌, ◌⊎◌, Bool, true, false, not, ◌&&◌, List, [], ◌∷◌, length, map, take, drop, get_or, remove, slice_get, slice_set, All, Option, Some, None, unwrap_or, if◌then◌else◌, refl, sym, ap, subst, ◌∙◌, inl, inr, arith}
 use Rattle.std.specs.List.{list_any}
 use Rattle.std.specs.Option.{option_and_then}
 use Rattle.std.proofs.lemmas.List.Elements.{All-append, All-take, All-drop, All-set, All-push, All-map, All-weaker}
 use Rattle.std.proofs.lemmas.List.Quantifiers.{all_pairs_push, all_pairs_remove}
 use Rattle.std.proofs.lemmas.Option.{slice_get_within, slice_get-get_or}
 use Rattle.std.proofs.lemmas.List.{length-map, get_or-map}
+use Rattle.std.proofs.lemmas.Nat.{mod_below}
 use Rattle.mr_text.specs.declared.cause.Cause.TheVariants.{LegLost}
 use Rattle.mr_text.specs.declared.item.Item.{Item}
 use Rattle.mr_text.specs.declared.request.Request.{Request}
@@ -17,11 +18,14 @@ use Rattle.mr_join.specs.declared.leg_reply.LegReply.TheVariants.{Hit, Miss, Sto
 use Rattle.mr_join.specs.Join.{joined_reply, AreHits, IsHitOf, Acknowledges, HasSucceeded}
 use Rattle.mr_phases.specs.declared.phase_name.PhaseName.{PhaseName}
 use Rattle.mr_phases.specs.declared.phase_name.PhaseName.TheVariants.{OldOnly, BothReadOld, BothReadNew, NewOnly}
-use Rattle.mr_phases.specs.Schedule.{phase_of}
+use Rattle.mr_phases.specs.Schedule.{Hop, IsSchedule, phase_of}
 use Rattle.mr_phases.specs.Sides.{delete_sides_of}
-use Rattle.mr_pools.specs.Routing.{RoutingView}
+use Rattle.mr_phases.specs.declared.side.Side.{Side}
+use Rattle.mr_phases.specs.declared.side.Side.TheVariants.{Old, New}
+use Rattle.mr_pools.specs.Routing.{RoutingView, IsRouting, pool_of}
+use Rattle.mr_pools.specs.Hash.{spot_by}
 use Rattle.mr_node.specs.declared.command.NodeCommand.{NodeCommand}
-use Rattle.mr_node.specs.declared.command.NodeCommand.TheVariants.{Get, Delete}
+use Rattle.mr_node.specs.declared.command.NodeCommand.TheVariants.{Get, Set, Delete}
 use Rattle.mr_proxy.specs.declared.sheet.LegId.{LegId}
 use Rattle.mr_proxy.specs.declared.sheet.LegSheet.{LegSheet}
 use Rattle.mr_proxy.specs.declared.taken.Taken.TheVariants.{Waiting, Answered}
@@ -29,10 +33,12 @@ use Rattle.mr_proxy.specs.declared.slot.Slot.{Slot}
 use Rattle.mr_proxy.specs.Slots.{open_slot, is_open, outcome_of, is_of_kind, is_awaiting}
 use Rattle.mr_proxy.specs.Pending.{PendingView, is_complete, with_reply, with_reply_in}
 use Rattle.mr_proxy.specs.Answer.{AnswerView, answer_of, reply_of}
-use Rattle.mr_proxy.specs.ProxyView.{ProxyView}
-use Rattle.mr_proxy.specs.Issue.{next_op, used_reading, sheets_by, sheets_of, sheets_from, targets_of, pending_of, after_issue}
+use Rattle.mr_proxy.specs.ProxyView.{ProxyView, fresh_proxy}
+use Rattle.mr_proxy.specs.Issue.{key_of, pool_number, next_op, used_reading, sheets_by, sheets_of, sheets_from, targets_of, pending_of, after_issue}
 use Rattle.mr_proxy.specs.Steps.{place_of_op, pending_with, settled, taken_by, taken_of, left_by, given_up_in, given_up_of}
-use Rattle.mr_proxy.specs.Sound.{HasLegs, ProxyStep, sheet_of, IsOfItsKind, IsSoundPending, IsSoundAnswer, IsSound, HasFound, WasDeleted}
+use Rattle.mr_proxy.specs.Sheets.{pool_at}
+use Rattle.mr_proxy.specs.Whole.{IsCommandAt, IsLegAt, IsOfItsKind, IsWhole}
+use Rattle.mr_proxy.specs.Sound.{HasLegs, ProxyStep, sheet_of, IsSoundPending, IsSoundAnswer, IsPlaced, IsSound, HasFound, WasDeleted}
 use Rattle.mr_proxy.specs.Sound.ProxyStep.{issues, takes, gives_up, restarts}
 use Rattle.mr_proxy.proofs.SheetLemmas.{get_map, mapped, only, sheets_say_lem, gets_ask_in_order_lem}
 
@@ -41,12 +47,14 @@ same_pending : (p : ProxyView) (list : List PendingView) (pending : PendingView)
 same_pending p list pending s =
     record { proxy = s.proxy; incarnation = s.incarnation; number = s.number; sheets = s.sheets; kinds = s.kinds; waits = s.waits }
 
-removed : (p : ProxyView) (n : ℕ) → n < length p.outstanding → IsSound p → IsSound (record p { outstanding = remove p.outstanding n })
+pub removed : (p : ProxyView) (n : ℕ) → n < length p.outstanding → IsSound p → IsSound (record p { outstanding = remove p.outstanding n })
 removed p n within s =
     let list = remove p.outstanding n in
     let q : ProxyView = record p { outstanding = list } in
     let all : All (IsSoundPending q) p.outstanding = All-weaker (IsSoundPending p) (IsSoundPending q) (same_pending p list) p.outstanding s.pendings in
     record {
+      routing = s.routing;
+      schedule = s.schedule;
       pendings = All-append (IsSoundPending q) (take n p.outstanding) (drop (suc n) p.outstanding)
           (All-take (IsSoundPending q) n p.outstanding all) (All-drop (IsSoundPending q) (suc n) p.outstanding all);
       in_order = all_pairs_remove (λ (a b : PendingView). a.op.number < b.op.number) p.outstanding n within s.in_order;
@@ -74,6 +82,8 @@ written p n old new got same sound s =
     let q : ProxyView = record p { outstanding = list } in
     let all : All (IsSoundPending q) p.outstanding = All-weaker (IsSoundPending p) (IsSoundPending q) (same_pending p list) p.outstanding s.pendings in
     record {
+      routing = s.routing;
+      schedule = s.schedule;
       pendings = All-set (IsSoundPending q) p.outstanding n new (same_pending p list new sound) all;
       in_order = λ i j d before within.
           let first = number_written p.outstanding n old new i d got same in
@@ -114,6 +124,33 @@ second : (a b : Bool) → (a && b) ≡ true → b ≡ true
 second true b e = e
 second false b e = cc
 
+told_at : (routing : RoutingView) (hops : List Hop) (op : OpId) (u : ℕ) (q : Request) (place : ℕ) (sheet : LegSheet)
+    → slice_get (sheets_by routing hops op u q) place ≡ Some sheet → IsCommandAt q place sheet.command
+told_at routing hops op u (request.Get keys) place sheet e =
+    let asks = gets_ask_in_order_lem routing hops op u keys place sheet e in
+    get_map Get keys place asks.key asks.there ∙ ap Some (sym asks.command)
+told_at routing hops op u (request.Set key flags exptime block noreply) place sheet e =
+    only (Set key flags exptime block) sheet.command (sheets_say_lem routing hops op u (request.Set key flags exptime block noreply) place sheet e).command
+told_at routing hops op u (request.Delete key noreply) place sheet e =
+    only (Delete key) sheet.command (sheets_say_lem routing hops op u (request.Delete key noreply) place sheet e).command
+told_at routing hops op u request.Quit place sheet e =
+    let c = (sheets_say_lem routing hops op u request.Quit place sheet e).command in
+    let below = c.1 in
+    absurd (omega arith)
+
+-- each leg is the request's of its place
+leg_at : (routing : RoutingView) (hops : List Hop) (op : OpId) (u : ℕ) (q : Request) (slots : List Slot) → map sheet_of slots ≡ sheets_by routing hops op u q
+    → (place : ℕ) (slot : Slot) → slice_get slots place ≡ Some slot → IsLegAt op q place slot
+leg_at routing hops op u q slots e place slot got =
+    let sheet : slice_get (sheets_by routing hops op u q) place ≡ Some slot.sheet =
+    ap (λ l. slice_get l place) (sym e) ∙ get_map sheet_of slots place slot got in
+    let says = sheets_say_lem routing hops op u q place slot.sheet sheet in
+    record { named = says.named; told = told_at routing hops op u q place slot.sheet sheet }
+
+has_leg : (slots : List Slot) → not (list_any is_open slots) ≡ false → 1 ≤ length slots
+has_leg [] e = cc
+has_leg (slot ∷ slots) e = omega arith
+
 noted_answer : (p : ProxyView) (pending noted : PendingView) (place : ℕ) (reply : LegReply) (given_up : Bool) → IsSoundPending p pending
     → IsNoting pending noted place reply → given_up ≡ list_any is_open noted.slots → IsSoundAnswer p (answer_of noted given_up)
 noted_answer p pending noted place reply given_up s n is_given_up =
@@ -127,21 +164,31 @@ noted_answer p pending noted place reply given_up s n is_given_up =
     let incarnation = ap (λ (x : OpId). x.incarnation) op in
     let number = ap (λ (x : OpId). x.number) op in
     let below = s.number in
+    let sheets : map sheet_of noted.slots ≡ sheets_by p.routing p.schedule noted.op noted.reading noted.request =
+    subst (λ (x : PendingView). map sheet_of x.slots ≡ sheets_by p.routing p.schedule x.op x.reading x.request) (sym n.is)
+    (sheets_written pending.slots place n.slot (Some reply) n.there ∙ s.sheets) in
+    let some : 1 ≤ length pending.slots = has_leg pending.slots s.waits in
+    let count : length noted.slots ≡ length pending.slots =
+    ap (λ (x : PendingView). length x.slots) n.is ∙ length_written pending.slots place slot in
     record {
       proxy = proxy ∙ s.proxy;
       incarnation = incarnation ∙ s.incarnation;
       number = omega arith;
-      sheets = subst (λ (x : PendingView). map sheet_of x.slots ≡ sheets_by p.routing p.schedule x.op x.reading x.request) (sym n.is)
-          (sheets_written pending.slots place n.slot (Some reply) n.there ∙ s.sheets);
-      kinds = subst (λ (x : PendingView). All IsOfItsKind x.slots) (sym n.is) (All-set IsOfItsKind pending.slots place slot kind s.kinds);
-      given_up = is_given_up;
+      sheets = sheets;
+      whole =
+          record {
+            has_leg = omega arith;
+            legs = leg_at p.routing p.schedule noted.op noted.reading noted.request noted.slots sheets;
+            kinds = subst (λ (x : PendingView). All IsOfItsKind x.slots) (sym n.is) (All-set IsOfItsKind pending.slots place slot kind s.kinds);
+            given_up = is_given_up;
+          };
     }
 
 noted_sound : (p : ProxyView) (pending noted : PendingView) (place : ℕ) (reply : LegReply) → IsSoundPending p pending
     → IsNoting pending noted place reply → is_complete noted ≡ false → IsSoundPending p noted
 noted_sound p pending noted place reply s n open_left =
     let a = noted_answer p pending noted place reply (list_any is_open noted.slots) s n refl in
-    record { proxy = a.proxy; incarnation = a.incarnation; number = a.number; sheets = a.sheets; kinds = a.kinds; waits = open_left }
+    record { proxy = a.proxy; incarnation = a.incarnation; number = a.number; sheets = a.sheets; kinds = a.whole.kinds; waits = open_left }
 
 pending_sound : (p : ProxyView) (n : ℕ) (pending : PendingView) → slice_get p.outstanding n ≡ Some pending → IsSound p → IsSoundPending p pending
 pending_sound p n pending got s =
@@ -197,7 +244,7 @@ older_pending p t q pending s =
     let below = s.number in
     record { proxy = s.proxy; incarnation = s.incarnation; number = omega arith; sheets = s.sheets; kinds = s.kinds; waits = s.waits }
 
-issue_sound : (p : ProxyView) (t : ℕ) (q : Request) → HasLegs q → IsSound p → IsSound (after_issue p t q)
+pub issue_sound : (p : ProxyView) (t : ℕ) (q : Request) → HasLegs q → IsSound p → IsSound (after_issue p t q)
 issue_sound p t q legs s =
     let new = after_issue p t q in
     let unnoted : (sheet : LegSheet) → IsOfItsKind (open_slot sheet) = λ sheet reply e. cc in
@@ -211,6 +258,8 @@ issue_sound p t q legs s =
       waits = issued_waits p t q legs;
     } in
     record {
+      routing = s.routing;
+      schedule = s.schedule;
       pendings = All-push (IsSoundPending new) p.outstanding (pending_of p t q)
           (All-weaker (IsSoundPending p) (IsSoundPending new) (older_pending p t q) p.outstanding s.pendings) sound;
       in_order = all_pairs_push (λ (a b : PendingView). a.op.number < b.op.number) p.outstanding (pending_of p t q) s.in_order
@@ -222,7 +271,7 @@ steps_keep_sound_lem old new s (issues t q legs accepted) = issue_sound old t q 
 steps_keep_sound_lem old new s (takes id reply) = take_sound old (place_of_op old.outstanding id.op) id.place reply (pending_with old.outstanding id.op) refl s
 steps_keep_sound_lem old new s (gives_up op) = leave_sound old (place_of_op old.outstanding op) (pending_with old.outstanding op) refl s
 steps_keep_sound_lem old new s restarts =
-    record { pendings = λ k d below. absurd (omega arith); in_order = λ i j d before below. absurd (omega arith) }
+    record { routing = s.routing; schedule = s.schedule; pendings = λ k d below. absurd (omega arith); in_order = λ i j d before below. absurd (omega arith) }
 
 none_open : (b : Bool) → not b ≡ true → false ≡ b
 none_open true e = cc
@@ -272,47 +321,49 @@ given_up_in_sound p n answer (Some pending) got s e =
       incarnation = a.incarnation;
       number = a.number;
       sheets = a.sheets;
-      kinds = a.kinds;
-      given_up = some_open (list_any is_open pending.slots) a.waits;
+      whole =
+          record {
+            has_leg = has_leg pending.slots a.waits;
+            legs = leg_at p.routing p.schedule pending.op pending.reading pending.request pending.slots a.sheets;
+            kinds = a.kinds;
+            given_up = some_open (list_any is_open pending.slots) a.waits;
+          };
     } in
     subst (IsSoundAnswer p) is sound
 
 pub given_up_early_lem : (p : ProxyView) (op : OpId) (answer : AnswerView) → IsSound p → given_up_of p op ≡ Some answer → IsSoundAnswer p answer
 given_up_early_lem p op answer s e = given_up_in_sound p (place_of_op p.outstanding op) answer (pending_with p.outstanding op) refl s e
 
--- the sheet of a slot is the request's of its place
-slot_sheet : (p : ProxyView) (answer : AnswerView) (place : ℕ) (slot : Slot) → IsSoundAnswer p answer → slice_get answer.slots place ≡ Some slot
-    → slice_get (sheets_by p.routing p.schedule answer.op answer.reading answer.request) place ≡ Some slot.sheet
-slot_sheet p answer place slot s got = ap (λ l. slice_get l place) (sym s.sheets) ∙ get_map sheet_of answer.slots place slot got
-
 hit_noted : (o : Option LegReply) (flags : ℕ) (block : List ℕ) → unwrap_or o (Failed LegLost) ≡ Hit flags block → o ≡ Some (Hit flags block)
 hit_noted None flags block e = cc
 hit_noted (Some reply) flags block e = ap Some e
 
-found_by : (p : ProxyView) (answer : AnswerView) (keys : List (List ℕ)) (item : Item) → IsSoundAnswer p answer → answer.request ≡ request.Get keys
+-- the command of a get's leg names the key of its place
+key_at : (keys : List (List ℕ)) (place : ℕ) (key : List ℕ) (command : NodeCommand) → slice_get keys place ≡ Some key
+    → slice_get (map Get keys) place ≡ Some command → command ≡ Get key
+key_at keys place key command there told =
+    let got = get_map Get keys place key there in cc
+
+found_by : (answer : AnswerView) (keys : List (List ℕ)) (item : Item) → IsWhole answer → answer.request ≡ request.Get keys
     → IsHitOf keys (map outcome_of answer.slots) item → HasFound answer.slots item
-found_by p answer keys item s asked h =
+found_by answer keys item s asked h =
     let m = mapped outcome_of answer.slots h.place (Hit item.flags item.block) h.hit in
-    let sheets = slot_sheet p answer h.place m.from s m.there in
-    let of_get = subst (λ q. slice_get (sheets_by p.routing p.schedule answer.op answer.reading q) h.place ≡ Some m.from.sheet) asked sheets in
-    let asks = gets_ask_in_order_lem p.routing p.schedule answer.op answer.reading keys h.place m.from.sheet of_get in
-    let one = asks.there in
-    let other = h.key in
-    let same : asks.key ≡ item.key = cc in
+    let leg = s.legs h.place m.from m.there in
+    let told = subst (λ q. IsCommandAt q h.place m.from.sheet.command) asked leg.told in
     record {
       place = h.place;
       slot = m.from;
       there = m.there;
-      command = asks.command ∙ ap Get same;
+      command = key_at keys h.place item.key m.from.sheet.command h.key told;
       hit = hit_noted m.from.reply item.flags item.block (sym m.is);
     }
 
 pub items_were_found_lem : ((q : Request) (replies : List LegReply) (items : List Item) → joined_reply q replies ≡ reply.Items items → AreHits q replies items)
-    → (p : ProxyView) (answer : AnswerView) (items : List Item) → IsSoundAnswer p answer
+    → (answer : AnswerView) (items : List Item) → IsWhole answer
     → reply_of answer ≡ reply.Items items → All (HasFound answer.slots) items
-items_were_found_lem hits p answer items s e =
+items_were_found_lem hits answer items s e =
     let h = hits answer.request (map outcome_of answer.slots) items e in
-    All-weaker (IsHitOf h.keys (map outcome_of answer.slots)) (HasFound answer.slots) (λ item found. found_by p answer h.keys item s h.asked found) items h.found
+    All-weaker (IsHitOf h.keys (map outcome_of answer.slots)) (HasFound answer.slots) (λ item found. found_by answer h.keys item s h.asked found) items h.found
 
 deleted_by : (key : List ℕ) (r : LegReply) → is_of_kind (Delete key) r ≡ true → HasSucceeded r → (r ≡ Deleted) ⊎ (r ≡ NotFound)
 deleted_by key (Hit flags block) kind mild = cc
@@ -332,18 +383,45 @@ slot_deleted key slot command kind mild =
     record { reply = r; noted = noted; deleted = deleted_by key r (ap (λ c. is_of_kind c r) (sym command) ∙ kind r noted) good }
 
 pub acknowledged_by_legs_lem : ((q : Request) (replies : List LegReply) → Acknowledges (joined_reply q replies) → All HasSucceeded replies)
-    → (p : ProxyView) (answer : AnswerView) (key : List ℕ) (noreply : Bool) → IsSoundAnswer p answer
+    → (answer : AnswerView) (key : List ℕ) (noreply : Bool) → IsWhole answer
     → answer.request ≡ request.Delete key noreply → Acknowledges (reply_of answer) → All WasDeleted answer.slots
-acknowledged_by_legs_lem all p answer key noreply s asked a k d below =
+acknowledged_by_legs_lem all answer key noreply s asked a k d below =
     let slots = answer.slots in
     let slot = get_or slots k d in
-    let got = slice_get-get_or slots k d below in
-    let sheets = slot_sheet p answer k slot s got in
-    let of_delete = subst (λ q. slice_get (sheets_by p.routing p.schedule answer.op answer.reading q) k ≡ Some slot.sheet) asked sheets in
-    let says = sheets_say_lem p.routing p.schedule answer.op answer.reading (request.Delete key noreply) k slot.sheet of_delete in
-    let command = only (Delete key) slot.sheet.command says.command in
+    let leg = s.legs k slot (slice_get-get_or slots k d below) in
+    let command : slot.sheet.command ≡ Delete key = subst (λ q. IsCommandAt q k slot.sheet.command) asked leg.told in
     let outcomes = all answer.request (map outcome_of slots) a in
     let count : length (map outcome_of slots) ≡ length slots = length-map slots outcome_of in
     let mild = outcomes k (outcome_of d) (omega arith) in
     let read : get_or (map outcome_of slots) k (outcome_of d) ≡ outcome_of slot = get_or-map outcome_of slots k d (outcome_of d) below in
     slot_deleted key slot command (s.kinds k d below) (subst HasSucceeded read mild)
+
+-- a fresh proxy is sound where its routing and its schedule are
+pub fresh_sound : (number incarnation : ℕ) (routing : RoutingView) (hops : List Hop) (room : ℕ) → IsRouting routing → IsSchedule hops
+    → IsSound (fresh_proxy number incarnation routing hops room)
+fresh_sound number incarnation routing hops room apart phases =
+    record { routing = apart; schedule = phases; pendings = λ k d below. absurd (omega arith); in_order = λ i j d before below. absurd (omega arith) }
+
+opened_some : (sheets : List LegSheet) → not (list_any is_open (map open_slot sheets)) ≡ false → 1 ≤ length sheets
+opened_some [] e = cc
+opened_some (sheet ∷ sheets) e = omega arith
+
+-- an accepted request has a leg
+pub issued_some : (p : ProxyView) (t : ℕ) (q : Request) → HasLegs q → 1 ≤ length (sheets_of p t q)
+issued_some p t q legs = opened_some (sheets_of p t q) (issued_waits p t q legs)
+
+pool_within : (routing : RoutingView) (side : Side) → IsRouting routing → 0 < length (pool_of routing (pool_number side))
+pool_within routing Old r = let pairs = r.migrates in let sized = r.sized 0 (omega arith) in let some = sized.not_empty in omega arith
+pool_within routing New r = let pairs = r.migrates in let sized = r.sized 1 (omega arith) in let some = sized.not_empty in omega arith
+
+-- each node of a request's sheets is one of its pool
+pub nodes_within : (routing : RoutingView) (hops : List Hop) (op : OpId) (u : ℕ) (q : Request) → IsRouting routing
+    → All (IsPlaced routing) (sheets_by routing hops op u q)
+nodes_within routing hops op u q r k d below =
+    let sheets = sheets_by routing hops op u q in
+    let sheet = get_or sheets k d in
+    let says = sheets_say_lem routing hops op u q k sheet (slice_get-get_or sheets k d below) in
+    let node = says.node in
+    let some = pool_within routing sheet.side r in
+    let least = mod_below (spot_by routing.hash (key_of sheet.command)) (length (pool_of routing (pool_at sheet))) some in
+    omega arith

@@ -2,12 +2,11 @@
 use Rattle.std.proofs.Common.{◌≡◌, ℕ, zero, suc, ◌<◌, ◌≤◌, Bool, true, false, List, [], ◌∷◌, length, get_or, remove, slice_get, slice_set, Option, Some, refl, sym, ap, ◌∙◌, arith}
 use Rattle.std.specs.Option.{option_and_then}
 use Rattle.std.specs.List.{position_or_len}
-use Rattle.std.proofs.lemmas.Option.{slice_get_read}
 use Rattle.mr_join.specs.declared.leg_reply.LegReply.{LegReply}
 use Rattle.mr_proxy.specs.declared.sheet.LegId.{LegId}
 use Rattle.mr_proxy.specs.Pending.{PendingView, is_complete, with_reply}
 use Rattle.mr_proxy.specs.ProxyView.{ProxyView}
-use Rattle.mr_proxy.specs.Steps.{place_of_op, noted_by, settled, after_take}
+use Rattle.mr_proxy.specs.Steps.{place_of_op, noted_by, settled}
 
 pub remove_written : {X : Type 0} (list : List X) (place : ℕ) (x : X) → remove (slice_set list place x) place ≡ remove list place
 remove_written [] zero x = refl
@@ -26,26 +25,13 @@ none_passes test [] fails = omega arith
 none_passes test (x ∷ list) fails =
     fails_first test x list (fails 0 x (omega arith)) (none_passes test list (λ k d below. fails (suc k) d (omega arith)))
 
-settled_complete : (p : ProxyView) (place : ℕ) (pending : PendingView) → is_complete pending ≡ true
+pub settled_complete : (p : ProxyView) (place : ℕ) (pending : PendingView) → is_complete pending ≡ true
     → settled p place (Some pending) ≡ record p { outstanding = remove p.outstanding place }
 settled_complete p place pending e = rw e
 
-noted_at : (p : ProxyView) (id : LegId) (reply : LegReply) (place : ℕ) (pending : PendingView) (noted : Option PendingView)
+pub noted_at : (p : ProxyView) (id : LegId) (reply : LegReply) (place : ℕ) (pending : PendingView) (noted : Option PendingView)
     → place ≡ place_of_op p.outstanding id.op → slice_get p.outstanding place ≡ Some pending → with_reply pending id.place reply ≡ noted
     → noted_by p id reply ≡ noted
 noted_at p id reply place pending noted at got is =
     let note = λ (pending : PendingView). with_reply pending id.place reply in
     ap (λ n. option_and_then note (slice_get p.outstanding n)) (sym at) ∙ ap (option_and_then note) got ∙ is
-
--- the last reply is noted, and the request leaves
-pub answered_state : (p : ProxyView) (id : LegId) (reply : LegReply) (place : ℕ) (pending noted : PendingView) (left : List PendingView)
-    → place ≡ place_of_op p.outstanding id.op → place < length p.outstanding → pending ≡ get_or p.outstanding place pending
-    → with_reply pending id.place reply ≡ Some noted → is_complete noted ≡ true → left ≡ remove (slice_set p.outstanding place noted) place
-    → record p { outstanding = left } ≡ after_take p id reply
-answered_state p id reply place pending noted left at within read is complete gone =
-    let got : slice_get p.outstanding place ≡ Some pending = slice_get_read p.outstanding (length p.outstanding) place pending refl within read in
-    let result : after_take p id reply ≡ record p { outstanding = remove p.outstanding place } =
-    ap (λ n. settled p n (noted_by p id reply)) (sym at)
-    ∙ ap (settled p place) (noted_at p id reply place pending (Some noted) at got is)
-    ∙ settled_complete p place noted complete in
-    ap (λ (list : List PendingView). record p { outstanding = list }) (gone ∙ remove_written p.outstanding place noted) ∙ sym result

@@ -1,8 +1,10 @@
 pub mod ProxyError
 pub mod Slots
 pub mod Pending
+pub mod Noted
 pub mod Room
 pub mod Answer
+pub mod Whole
 pub mod ProxyView
 pub mod Issue
 pub mod Steps

@@ -1,19 +1,21 @@
 -- What holds of every proxy on its way from a fresh one.
-use Rattle.std.specs.Prelude.{◌≡◌, ℕ, ◌<◌, ◌≤◌, ◌⊎◌, true, false, List, length, map, Some, None, All, AllPairs, slice_get}
-use Rattle.std.specs.List.{list_any}
+use Rattle.std.specs.Prelude.{◌≡◌, ℕ, ◌<◌, ◌≤◌, ◌⊎◌, false, List, length, map, Some, None, All, AllPairs, slice_get}
 use Rattle.mr_text.specs.declared.item.Item.{Item}
 use Rattle.mr_text.specs.declared.request.Request.{Request}
 use Rattle.mr_text.specs.declared.request.Request.TheVariants.{Get, Set, Delete, Quit}
 use Rattle.mr_history.specs.declared.op_id.OpId.{OpId}
 use Rattle.mr_join.specs.declared.leg_reply.LegReply.{LegReply}
 use Rattle.mr_join.specs.declared.leg_reply.LegReply.TheVariants.{Hit, Deleted, NotFound}
+use Rattle.mr_phases.specs.Schedule.{IsSchedule}
+use Rattle.mr_pools.specs.Routing.{RoutingView, IsRouting, pool_of}
 use Rattle.mr_node.specs.declared.command.NodeCommand.TheVariants as command
 use Rattle.mr_proxy.specs.declared.sheet.LegId.{LegId}
 use Rattle.mr_proxy.specs.declared.sheet.LegSheet.{LegSheet}
 use Rattle.mr_proxy.specs.declared.slot.Slot.{Slot}
-use Rattle.mr_proxy.specs.Slots.{is_open, is_of_kind}
 use Rattle.mr_proxy.specs.Pending.{PendingView, is_complete}
 use Rattle.mr_proxy.specs.Answer.{AnswerView}
+use Rattle.mr_proxy.specs.Whole.{IsOfItsKind, IsWhole}
+use Rattle.mr_proxy.specs.Sheets.{pool_at}
 use Rattle.mr_proxy.specs.ProxyView.{ProxyView}
 use Rattle.mr_proxy.specs.Issue.{sheets_by, refusal_of, after_issue}
 use Rattle.mr_proxy.specs.Steps.{after_take, after_give_up, after_restart}
@@ -35,10 +37,6 @@ pub data ProxyStep (old : ProxyView) : ProxyView → Type 0 where
 abbrev pub sheet_of : Slot → LegSheet
 sheet_of slot = slot.sheet
 
--- what was noted is a reply that a node may give to that command
-abbrev pub IsOfItsKind : Slot → Type 0
-IsOfItsKind slot = (reply : LegReply) → slot.reply ≡ Some reply → is_of_kind slot.sheet.command reply ≡ true
-
 -- a request under way: it was named by this incarnation, its legs are those of its reading, each noted reply is of
 -- its leg's kind, and a leg is open
 pub record IsSoundPending (p : ProxyView) (pending : PendingView) : Type 0 where
@@ -49,20 +47,25 @@ pub record IsSoundPending (p : ProxyView) (pending : PendingView) : Type 0 where
   pub kinds : All IsOfItsKind pending.slots
   pub waits : is_complete pending ≡ false
 
--- the requests under way are sound, and stand in order of their numbers
+-- no node stands in two pools, the phases follow one another, the requests under way are sound, and they stand in
+-- order of their numbers
 pub record IsSound (p : ProxyView) : Type 0 where
+  pub routing : IsRouting p.routing
+  pub schedule : IsSchedule p.schedule
   pub pendings : All (IsSoundPending p) p.outstanding
   pub in_order : AllPairs (λ earlier later. earlier.op.number < later.op.number) p.outstanding
 
--- an answer: its legs are those of its reading, each noted reply is of its leg's kind, and it was given up exactly
--- where a leg of it didn't answer
+-- an answer of this proxy: it was named by this incarnation, and its legs are those of its reading
 pub record IsSoundAnswer (p : ProxyView) (answer : AnswerView) : Type 0 where
   pub proxy : answer.op.proxy ≡ p.number
   pub incarnation : answer.op.incarnation ≡ p.incarnation
   pub number : answer.op.number < p.next
   pub sheets : map sheet_of answer.slots ≡ sheets_by p.routing p.schedule answer.op answer.reading answer.request
-  pub kinds : All IsOfItsKind answer.slots
-  pub given_up : answer.given_up ≡ list_any is_open answer.slots
+  pub whole : IsWhole answer
+
+-- the node of a sheet is one of its pool
+abbrev pub IsPlaced : RoutingView → LegSheet → Type 0
+IsPlaced routing sheet = sheet.node < length (pool_of routing (pool_at sheet))
 
 -- the op was given out: by an earlier incarnation, or by this one
 pub record WasGivenOut (p : ProxyView) (op : OpId) : Type 0 where

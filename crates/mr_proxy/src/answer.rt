@@ -1,6 +1,8 @@
 //! The answer to a request.
-ghost use Rattle.std.specs.Prelude.{◌≡◌, ◌<◌, ◌++◌, IfOk, OnOk, MatchResult};
+ghost use Rattle.std.specs.Prelude.{◌≡◌, IfOk};
 ghost use Rattle.mr_text.specs.Canonical.{canonical_reply};
+ghost use Rattle.mr_text.specs.Gathering.{TakesFewCalls, parts_of_reply};
+ghost use Rattle.mr_text.specs.Sink.{Writes};
 
 use crate::join::joined;
 use crate::pending::Pending;
@@ -24,13 +26,19 @@ impl Model for Answer {
     ghost Value = { AnswerView };
 
     ghost view = { λ a. answer_of a.pending a.given_up };
+
+    ghost use Rattle.mr_proxy.specs.Whole.{IsWhole};
+
+    ghost invariant = { λ a. IsWhole (answer_of a.pending a.given_up) };
 }
 
 impl Answer {
     ghost use Rattle.mr_proxy.specs.Answer.{answer_of, reply_of};
+    ghost use Rattle.mr_proxy.specs.Whole.{IsWhole};
 
     /// The answer to a request as it stands.
     pub(crate) fn of(pending: Pending, given_up: bool) -> Answer
+        requires { IsWhole (answer_of pending given_up) }
         ensures { result ≡ answer_of pending given_up }
     {
         Answer { pending, given_up }
@@ -57,9 +65,11 @@ impl Answer {
         self.pending.reading()
     }
 
-    /// The legs in order of place, each with its reply. A leg without one counts as lost.
+    /// The legs in order of place, each with its reply. A leg without one counts as lost. An answer has a leg, its
+    /// legs are those of its request, each reply is of its leg's kind, and it was given up where a leg is silent.
     pub fn slots(&self) -> &[Slot]
-        ensures { result.now ≡ self.now.slots }
+        ensures slots { result.now ≡ self.now.slots }
+        ensures whole { IsWhole self.now }
     {
         self.pending.slots()
     }
@@ -71,10 +81,12 @@ impl Answer {
         self.given_up
     }
 
-    /// Writes what the client is told, in its canonical text. It takes memory only as the writer does.
+    /// Writes what the client is told, in its canonical text. It takes memory only as the writer does. At a fault a
+    /// beginning of the text is written, and the call that failed is the last. A text of up to 4,096 bytes goes out
+    /// in one call.
     pub fn write<W: Sink>(&self, writer: &mut W) -> Result<(), WriteFault>
-        ensures written { OnOk result (W.written writer.new ≡ W.written writer.old ++ canonical_reply (reply_of self.now)) }
-        ensures failures { MatchResult result (λ _. W.failures writer.new ≡ W.failures writer.old) (λ _. W.failures writer.old < W.failures writer.new) }
+        ensures text { Writes (canonical_reply (reply_of self.now)) (W.told writer.old) result (W.told writer.new) }
+        ensures calls { TakesFewCalls (canonical_reply (reply_of self.now)) (parts_of_reply (reply_of self.now)) (W.told writer.old) (W.told writer.new) }
     {
         write_joined(self.pending.request(), self.pending.slots(), writer)
     }

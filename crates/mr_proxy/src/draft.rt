@@ -1,10 +1,11 @@
 //! The legs of a request, made before the proxy changes.
-ghost use Rattle.std.specs.Prelude.{◌≡◌, ◌+◌, ◌<◌, ◌^◌, [], ◌∷◌, ◌++◌, length, map, IfOk, OnOk};
+ghost use Rattle.std.specs.Prelude.{◌≡◌, ◌≢◌, ◌+◌, ◌<◌, ◌^◌, [], ◌∷◌, ◌++◌, length, map, IfOk, OnOk};
 ghost use Rattle.mr_phases.specs.declared.side.Side.{Side};
 ghost use Rattle.mr_phases.specs.Sides.{sides_in};
 ghost use Rattle.mr_pools.specs.Routing.{pool_of, place_of};
 ghost use Rattle.mr_node.specs.declared.command.NodeCommand.TheVariants.{Get, Delete};
 ghost use Rattle.mr_proxy.specs.Slots.{open_slot};
+ghost use Rattle.mr_proxy.specs.Sound.{HasLegs};
 ghost use Rattle.mr_proxy.specs.Issue.{key_of, pool_number, sheet_at, sheets_from, sheets_by, targets_of};
 
 use crate::leg::Leg;
@@ -147,7 +148,8 @@ impl Draft {
         reading: u64,
         request: &Request,
     ) -> Result<Draft, AllocError>
-        ensures { IfOk result (λ draft. draft ≡ sheets_by routing.now schedule op reading request.now) }
+        ensures sheets { IfOk result (λ draft. draft ≡ sheets_by routing.now schedule op reading request.now) }
+        ensures legs { OnOk result (request.now ≢ Request.Quit → HasLegs request.now) }
     {
         let judged = judge(schedule, reading);
         match request {

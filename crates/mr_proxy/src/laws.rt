@@ -7,9 +7,9 @@ ghost use Rattle.mr_text.specs.declared.reply.Reply.TheVariants.{Items};
 ghost use Rattle.mr_history.specs.declared.op_id.OpId.{OpId};
 ghost use Rattle.mr_join.specs.declared.leg_reply.LegReply.{LegReply};
 ghost use Rattle.mr_join.specs.Join.{Acknowledges};
-ghost use Rattle.mr_phases.specs.Schedule.{Hop};
+ghost use Rattle.mr_phases.specs.Schedule.{Hop, IsSchedule};
 ghost use Rattle.mr_phases.specs.Pools.{delete_pools};
-ghost use Rattle.mr_pools.specs.Routing.{RoutingView};
+ghost use Rattle.mr_pools.specs.Routing.{RoutingView, IsRouting};
 ghost use Rattle.mr_proxy.specs.declared.sheet.LegId.{LegId};
 ghost use Rattle.mr_proxy.specs.declared.sheet.LegSheet.{LegSheet};
 ghost use Rattle.mr_proxy.specs.declared.slot.Slot.{Slot};
@@ -20,6 +20,7 @@ ghost use Rattle.mr_proxy.specs.ProxyView.{ProxyView, fresh_proxy};
 ghost use Rattle.mr_proxy.specs.Issue.{next_op, sheets_by, sheets_of, after_issue};
 ghost use Rattle.mr_proxy.specs.Steps.{open_legs_of, noted_by, taken_of, after_take, given_up_of, after_give_up};
 ghost use Rattle.mr_proxy.specs.Sheets.{pool_at, IsSheetOf, GoesBy, DeletesIn, AsksFor};
+ghost use Rattle.mr_proxy.specs.Whole.{IsWhole};
 ghost use Rattle.mr_proxy.specs.Sound.{ProxyStep, IsSound, IsSoundAnswer, WasGivenOut, HasFound, WasDeleted};
 
 use mr_join::laws::{acknowledged_by_all, items_are_hits};
@@ -51,7 +52,7 @@ pub fn gets_ask_in_order()
 
 /// A fresh proxy is sound.
 pub fn fresh_is_sound()
-    ensures { (number incarnation : ℕ) (routing : RoutingView) (hops : List Hop) (room : ℕ)
+    ensures { (number incarnation : ℕ) (routing : RoutingView) (hops : List Hop) (room : ℕ) → IsRouting routing → IsSchedule hops
         → IsSound (fresh_proxy number incarnation routing hops room) }
 {}
 
@@ -73,7 +74,7 @@ pub fn given_up_early()
 
 /// Each item of a get's answer is a hit that was noted for a leg of that get and of that key.
 pub fn items_were_found()
-    ensures { (p : ProxyView) (answer : AnswerView) (items : List Item) → IsSoundAnswer p answer
+    ensures { (answer : AnswerView) (items : List Item) → IsWhole answer
         → reply_of answer ≡ Items items → All (HasFound answer.slots) items }
 {
     items_are_hits();
@@ -81,7 +82,7 @@ pub fn items_were_found()
 
 /// The answer to a delete is Deleted or NotFound only where each leg's reply is.
 pub fn acknowledged_by_legs()
-    ensures { (p : ProxyView) (answer : AnswerView) (key : List ℕ) (noreply : Bool) → IsSoundAnswer p answer
+    ensures { (answer : AnswerView) (key : List ℕ) (noreply : Bool) → IsWhole answer
         → answer.request ≡ Delete key noreply → Acknowledges (reply_of answer) → All WasDeleted answer.slots }
 {
     acknowledged_by_all();

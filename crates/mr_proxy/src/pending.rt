@@ -1,5 +1,5 @@
 //! A request under way.
-ghost use Rattle.std.specs.Prelude.{◌≡◌, Some, IfOk, is_some, true, vec_capacity, count_by};
+ghost use Rattle.std.specs.Prelude.{◌≡◌, Some, true, IfOk, is_some, unwrap_or, length, vec_capacity, count_by};
 ghost use Rattle.mr_proxy.specs.Slots.{is_open};
 
 use crate::room::room_for;
@@ -10,18 +10,32 @@ use mr_text::{Item, Request};
 use std::alloc::AllocError;
 use std::marker::Model;
 
-/// A request with its legs, and with the room that its answer needs.
+/// A request with its legs, and with the room that its answer needs. How many of its legs may answer yet is
+/// counted, so that no reply walks over them.
 #[derive(Debug, Drop)]
 pub(crate) struct Pending {
     op: OpId,
     request: Request,
     reading: u64,
     slots: Vec<Slot>,
+    awaited: usize,
     items: Vec<Item>,
 }
 
+/// What became of a reply that was handed to a request.
+#[derive(Debug, Drop)]
+pub(crate) enum Noted {
+    /// No leg awaits it: here it is back, and nothing changed.
+    Stranger(LegReply),
+    /// It was noted, and other legs may answer yet.
+    Waiting,
+    /// It was noted, and no leg is left that may answer.
+    Last,
+}
+
 impl Model for Pending {
-    ghost use Rattle.std.specs.Prelude.{vec_capacity};
+    ghost use Rattle.std.specs.Prelude.{◌≡◌, count_by, vec_capacity};
+    ghost use Rattle.mr_proxy.specs.Slots.{is_open};
     ghost use Rattle.mr_proxy.specs.Pending.{PendingView};
     ghost use Rattle.mr_proxy.specs.Room.{HasRoomFor};
 
@@ -29,15 +43,15 @@ impl Model for Pending {
 
     ghost view = { λ p. record { op = p.op; request = p.request; reading = p.reading; slots = p.slots.items } };
 
-    ghost invariant = { λ p. HasRoomFor p.request p.items.items (vec_capacity p.items) };
+    ghost invariant = { λ p. HasRoomFor p.request p.items.items (vec_capacity p.items) × (p.awaited ≡ count_by is_open p.slots.items) };
 }
 
 impl Pending {
-    ghost use Rattle.mr_proxy.specs.Pending.{is_complete, with_reply};
+    ghost use Rattle.mr_proxy.specs.Pending.{is_same_op, with_reply};
     ghost use Rattle.mr_proxy.specs.Room.{HasRoomFor};
-    ghost use Rattle.mr_proxy.specs.Pending.{is_same_op};
+    ghost use Rattle.mr_proxy.specs.Noted.{noted_as};
 
-    /// A request with its legs. The room is made by the caller.
+    /// A request whose legs were just sent. The room is made by the caller.
     pub(crate) fn new(
         op: OpId,
         request: Request,
@@ -45,14 +59,17 @@ impl Pending {
         slots: Vec<Slot>,
         items: Vec<Item>,
     ) -> Pending
-        requires { HasRoomFor request items.items (vec_capacity items) }
+        requires sent { count_by is_open slots.items ≡ length slots.items }
+        requires room { HasRoomFor request items.items (vec_capacity items) }
         ensures { result ≡ record { op = op; request = request; reading = reading; slots = slots.items } }
     {
+        let awaited = slots.len();
         Pending {
             op,
             request,
             reading,
             slots,
+            awaited,
             items,
         }
     }
@@ -94,27 +111,15 @@ impl Pending {
         self.slots.as_slice()
     }
 
-    /// Whether no leg is left that may answer yet.
-    pub(crate) fn is_complete(&self) -> bool
-        ensures { result ≡ is_complete self.now }
-    {
-        for slot in &self.slots {
-            if slot.is_open() {
-                return false;
-            }
-        }
-        true
-    }
-
     /// How many legs may answer yet.
     pub(crate) fn open_legs(&self) -> usize
         ensures { result ≡ count_by is_open self.now.slots }
     {
-        self.slots.iter().filter(|slot| slot.is_open()).count()
+        self.awaited
     }
 
     /// Whether the leg of that place awaits the reply.
-    pub(crate) fn awaits(&self, place: u32, reply: &LegReply) -> bool
+    fn awaits(&self, place: u32, reply: &LegReply) -> bool
         ensures { result ≡ is_some (with_reply self.now place reply.now) }
     {
         let place = place as usize;
@@ -122,12 +127,30 @@ impl Pending {
     }
 
     /// Notes a reply that the leg of that place awaits.
-    pub(crate) fn note(&mut self, place: u32, reply: LegReply)
+    fn note(&mut self, place: u32, reply: LegReply)
         requires { is_some (with_reply self.old place reply) ≡ true }
         ensures { with_reply self.old place reply ≡ Some self.new }
     {
         let slot = &mut self.slots[place as usize];
         slot.reply = Some(reply);
+        self.awaited -= 1;
+    }
+
+    #[tactic(auto, using(crate::proofs::OpenLemmas::noted_last))]
+    /// Notes a reply that the leg of that place awaits, and hands any other back.
+    pub(crate) fn take(&mut self, place: u32, reply: LegReply) -> Noted
+        ensures noted { result ≡ noted_as reply (with_reply self.old place reply) }
+        ensures state { self.new ≡ unwrap_or (with_reply self.old place reply) self.old }
+    {
+        if !self.awaits(place, &reply) {
+            return Noted::Stranger(reply);
+        }
+        self.note(place, reply);
+        if self.awaited == 0 {
+            Noted::Last
+        } else {
+            Noted::Waiting
+        }
     }
 
     /// The request, the legs, and the room for the items of the answer.
@@ -155,6 +178,7 @@ impl Pending {
             request,
             reading: self.reading,
             slots,
+            awaited: self.awaited,
             items,
         })
     }

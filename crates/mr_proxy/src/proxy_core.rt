@@ -1,14 +1,16 @@
 //! One proxy: the requests under way, and what each step does to them.
-ghost use Rattle.std.specs.Prelude.{◌≡◌, ◌≢◌, ◌-◌, ◌^◌, ◌≤◌, ◌<◌, ◌↔◌, length, Some, None, IsTrue, IsOk, OnOk, OnErr, IfOk, IfErr, MatchOption};
+ghost use Rattle.std.specs.Prelude.{◌≡◌, ◌≢◌, ◌-◌, ◌^◌, ◌≤◌, ◌<◌, ◌↔◌, length, All, Some, None, IsTrue, IsOk, OnOk, OnErr, IfOk, IfErr, MatchOption};
 ghost use Rattle.std.specs.Option.{option_copied};
 ghost use Rattle.mr_text.specs.declared.request.Request.{Request};
+ghost use Rattle.mr_phases.specs.Schedule.{IsSchedule};
+ghost use Rattle.mr_pools.specs.Routing.{IsRouting};
 ghost use Rattle.mr_proxy.specs.Steps.{place_of_op};
 
 use crate::answer::Answer;
 use crate::draft::Draft;
 use crate::error::ProxyError;
 use crate::issued::Issued;
-use crate::pending::Pending;
+use crate::pending::{Noted, Pending};
 use crate::room::room_for;
 use crate::sheet::{LegId, LegSheet};
 use crate::taken::Taken;
@@ -48,6 +50,19 @@ impl Model for ProxyCore {
       schedule = p.schedule;
       room = p.room;
     } };
+
+    ghost use Rattle.mr_proxy.specs.Sound.{IsSound};
+
+    ghost invariant = { λ p. IsSound (record {
+      number = p.number;
+      incarnation = p.incarnation;
+      next = p.next;
+      last = p.last;
+      outstanding = p.outstanding.items;
+      routing = p.routing;
+      schedule = p.schedule;
+      room = p.room;
+    }) };
 }
 
 #[tactic(auto, using(std::proofs::lemmas::List::Sums::position_or_len_is))]
@@ -65,10 +80,21 @@ fn position_of(outstanding: &[Pending], op: OpId) -> Option<usize>
     None
 }
 
+/// No node stands in two pools of a routing, and the phases of a schedule follow one another.
+fn are_sound(routing: &Routing, schedule: &Schedule)
+    ensures routing { IsRouting routing.now }
+    ensures schedule { IsSchedule schedule.now }
+{
+    let _hash = routing.hash();
+    let _start = schedule.start();
+}
+
 impl ProxyCore {
     ghost use Rattle.mr_proxy.specs.ProxyView.{fresh_proxy, opening_of, IsFresh, AreAlike};
     ghost use Rattle.mr_proxy.specs.Issue.{next_op, used_reading, sheets_of, refusal_of, IsRefusal, after_issue};
     ghost use Rattle.mr_proxy.specs.Steps.{open_sheet, open_legs_of, taken_of, after_take, given_up_of, after_give_up, after_restart};
+    ghost use Rattle.mr_proxy.specs.Answer.{AnswerView};
+    ghost use Rattle.mr_proxy.specs.Sound.{IsSound, IsSoundAnswer, IsPlaced};
 
     /// A proxy that accepted no request yet. It takes no memory before the first one.
     pub fn new(
@@ -81,6 +107,7 @@ impl ProxyCore {
     ) -> ProxyCore
         ensures { result ≡ fresh_proxy number incarnation routing schedule room }
     {
+        are_sound(&routing, &schedule);
         ProxyCore {
             number,
             incarnation,
@@ -136,6 +163,8 @@ impl ProxyCore {
         ensures state { OnOk result (self.new ≡ after_issue self.old reading request) }
         ensures op { IfOk result (λ issued. issued.op ≡ next_op self.old) }
         ensures legs { IfOk result (λ issued. issued.legs.items ≡ sheets_of self.old reading request) }
+        ensures has_leg { IfOk result (λ issued. 1 ≤ length issued.legs.items) }
+        ensures nodes { IfOk result (λ issued. All (IsPlaced self.old.routing) issued.legs.items) }
         ensures refused { IfErr result (λ back. IsRefusal (refusal_of self.old) back.0) }
         ensures unchanged { IfErr result (λ back. (self.new ≡ self.old) × (back.1 ≡ request)) }
     {
@@ -162,28 +191,27 @@ impl ProxyCore {
         Ok(Issued { op, legs })
     }
 
-    /// Takes the reply of a leg. A reply that no leg awaits is a stranger, and changes nothing.
+    /// Takes the reply of a leg. A reply that no leg awaits is a stranger, and changes nothing. The legs of an answer
+    /// are those of the reading by which its request was judged.
     pub fn take_reply(&mut self, id: LegId, reply: LegReply) -> Taken
         ensures taken { result ≡ taken_of self.old id reply }
         ensures state { self.new ≡ after_take self.old id reply }
+        ensures sound { (answer : AnswerView) → result ≡ Taken.Answered answer → IsSoundAnswer self.old answer }
     {
         let Some(place) = position_of(&self.outstanding, id.op) else {
             return Taken::Stranger(reply);
         };
-        if !self.outstanding[place].awaits(id.place, &reply) {
-            return Taken::Stranger(reply);
+        match self.outstanding[place].take(id.place, reply) {
+            Noted::Stranger(reply) => Taken::Stranger(reply),
+            Noted::Waiting => Taken::Waiting,
+            Noted::Last => Taken::Answered(Answer::of(self.outstanding.remove(place), false)),
         }
-        let pending = &mut self.outstanding[place];
-        pending.note(id.place, reply);
-        if !pending.is_complete() {
-            return Taken::Waiting;
-        }
-        Taken::Answered(Answer::of(self.outstanding.remove(place), false))
     }
 
     /// Gives a request up: each leg that didn't answer counts as lost. NoSuchOp where it isn't under way.
     pub fn give_up(&mut self, op: OpId) -> Result<Answer, ProxyError>
         ensures answer { IfOk result (λ answer. given_up_of self.old op ≡ Some answer) }
+        ensures sound { IfOk result (λ answer. IsSoundAnswer self.old answer) }
         ensures unknown { IfErr result (λ e. (given_up_of self.old op ≡ None) × (e ≡ ProxyError.NoSuchOp)) }
         ensures state { self.new ≡ after_give_up self.old op }
         ensures unchanged { OnErr result (self.new ≡ self.old) }
@@ -259,9 +287,10 @@ impl ProxyCore {
         self.room
     }
 
-    /// How many requests are under way.
+    /// How many requests are under way. Whoever holds a proxy knows that it is sound.
     pub fn outstanding(&self) -> usize
-        ensures { result ≡ length self.now.outstanding }
+        ensures count { result ≡ length self.now.outstanding }
+        ensures sound { IsSound self.now }
     {
         self.outstanding.len()
     }

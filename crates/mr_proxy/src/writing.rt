@@ -1,6 +1,8 @@
 //! The canonical text of an answer, written from its legs: no reply is built, and no memory taken.
-ghost use Rattle.std.specs.Prelude.{◌≡◌, ◌<◌, ◌++◌, [], ◌∷◌, map, flat_map, OnOk, MatchResult};
-ghost use Rattle.mr_text.specs.Canonical.{canonical_reply, item_text};
+ghost use Rattle.std.specs.Prelude.{◌≡◌, ◌≤◌, ◌+◌, ◌*◌, [], ◌∷◌, length, map};
+ghost use Rattle.mr_text.specs.Canonical.{canonical_reply, items_text};
+ghost use Rattle.mr_text.specs.Gathering.{Gathers, Costs, TakesFewCalls, parts_of_reply, owes};
+ghost use Rattle.mr_text.specs.Sink.{Writes};
 ghost use Rattle.mr_text.specs.declared.request.Request.TheVariants.{Get};
 ghost use Rattle.mr_text.specs.declared.reply.Reply.TheVariants.{Items};
 ghost use Rattle.mr_join.specs.Join.{reply_by, reply_by_worst, worse_of, worst_of, hits_of, joined_reply};
@@ -9,7 +11,8 @@ ghost use Rattle.mr_proxy.specs.Slots.{outcome_of};
 use crate::slot::Slot;
 use mr_join::LegReply;
 use mr_text::{
-    Cause, Key, Reply, Request, Sink, WriteFault, write_item, write_reply, write_server_error,
+    Cause, FixedBuffer, Key, Reply, Request, Sink, WriteFault, put_end, put_item, write_reply,
+    write_server_error,
 };
 
 /// Writes the joined reply of the legs of a request.
@@ -18,9 +21,9 @@ pub(crate) fn write_joined<W: Sink>(
     slots: &[Slot],
     writer: &mut W,
 ) -> Result<(), WriteFault>
-    ensures written { OnOk result (W.written writer.new ≡ W.written writer.old
-        ++ canonical_reply (joined_reply request.now (map outcome_of slots.now))) }
-    ensures failures { MatchResult result (λ _. W.failures writer.new ≡ W.failures writer.old) (λ _. W.failures writer.old < W.failures writer.new) }
+    ensures text { Writes (canonical_reply (joined_reply request.now (map outcome_of slots.now))) (W.told writer.old) result (W.told writer.new) }
+    ensures calls { TakesFewCalls (canonical_reply (joined_reply request.now (map outcome_of slots.now)))
+        (parts_of_reply (joined_reply request.now (map outcome_of slots.now))) (W.told writer.old) (W.told writer.new) }
 {
     match request {
         Request::Get { keys } => write_get(keys.as_slice(), slots, writer),
@@ -31,9 +34,9 @@ pub(crate) fn write_joined<W: Sink>(
 #[tactic(auto, using(crate::proofs::WritingLemmas::failed_first, crate::proofs::WritingLemmas::found_all))]
 /// A get's items, or why its first failed leg did.
 fn write_get<W: Sink>(keys: &[Key], slots: &[Slot], writer: &mut W) -> Result<(), WriteFault>
-    ensures written { OnOk result (W.written writer.new ≡ W.written writer.old
-        ++ canonical_reply (joined_reply (Get keys.now) (map outcome_of slots.now))) }
-    ensures failures { MatchResult result (λ _. W.failures writer.new ≡ W.failures writer.old) (λ _. W.failures writer.old < W.failures writer.new) }
+    ensures text { Writes (canonical_reply (joined_reply (Get keys.now) (map outcome_of slots.now))) (W.told writer.old) result (W.told writer.new) }
+    ensures calls { TakesFewCalls (canonical_reply (joined_reply (Get keys.now) (map outcome_of slots.now)))
+        (parts_of_reply (joined_reply (Get keys.now) (map outcome_of slots.now))) (W.told writer.old) (W.told writer.new) }
 {
     for slot in slots {
         if slot.has_failed() {
@@ -45,48 +48,71 @@ fn write_get<W: Sink>(keys: &[Key], slots: &[Slot], writer: &mut W) -> Result<()
 
 /// The items that the legs of these keys found.
 fn write_found<W: Sink>(keys: &[Key], slots: &[Slot], writer: &mut W) -> Result<(), WriteFault>
-    ensures written { OnOk result (W.written writer.new ≡ W.written writer.old
-        ++ canonical_reply (Items (hits_of keys.now (map outcome_of slots.now)))) }
-    ensures failures { MatchResult result (λ _. W.failures writer.new ≡ W.failures writer.old) (λ _. W.failures writer.old < W.failures writer.new) }
+    ensures text { Writes (canonical_reply (Items (hits_of keys.now (map outcome_of slots.now)))) (W.told writer.old) result (W.told writer.new) }
+    ensures calls { TakesFewCalls (canonical_reply (Items (hits_of keys.now (map outcome_of slots.now))))
+        (length (hits_of keys.now (map outcome_of slots.now))) (W.told writer.old) (W.told writer.new) }
 {
-    write_hits(keys, slots, writer)?;
-    writer.write_all(b"END\r\n")
+    let mut buffer = FixedBuffer::new();
+    put_found(keys, slots, &mut buffer, writer)?;
+    buffer.send(writer)
+}
+
+/// Puts the items, and what stands behind them.
+fn put_found<W: Sink>(
+    keys: &[Key],
+    slots: &[Slot],
+    buffer: &mut FixedBuffer,
+    writer: &mut W,
+) -> Result<(), WriteFault>
+    ensures text { Gathers (canonical_reply (Items (hits_of keys.now (map outcome_of slots.now)))) buffer.old (W.told writer.old) result buffer.new (W.told writer.new) }
+    ensures calls { (W.told writer.new).calls ≤ (W.told writer.old).calls + owes buffer.old + 2 * length (hits_of keys.now (map outcome_of slots.now)) }
+{
+    put_hits(keys, slots, buffer, writer)?;
+    put_end(buffer, writer)
 }
 
 #[tactic(auto, using(crate::proofs::WritingLemmas::hits_keys, crate::proofs::WritingLemmas::hits_slots))]
-/// What the legs of these keys found.
-fn write_hits<W: Sink>(keys: &[Key], slots: &[Slot], writer: &mut W) -> Result<(), WriteFault>
-    ensures written { OnOk result (W.written writer.new ≡ W.written writer.old
-        ++ flat_map item_text (hits_of keys.now (map outcome_of slots.now))) }
-    ensures failures { MatchResult result (λ _. W.failures writer.new ≡ W.failures writer.old) (λ _. W.failures writer.old < W.failures writer.new) }
+/// Puts what the legs of these keys found.
+fn put_hits<W: Sink>(
+    keys: &[Key],
+    slots: &[Slot],
+    buffer: &mut FixedBuffer,
+    writer: &mut W,
+) -> Result<(), WriteFault>
+    ensures text { Gathers (items_text (hits_of keys.now (map outcome_of slots.now))) buffer.old (W.told writer.old) result buffer.new (W.told writer.new) }
+    ensures calls { Costs (2 * length (hits_of keys.now (map outcome_of slots.now))) buffer.old (W.told writer.old) result buffer.new (W.told writer.new) }
 {
     for (place, key) in keys.iter().enumerate() {
         if place >= slots.len() {
             break;
         }
-        write_hit(key, &slots[place], writer)?;
+        put_hit(key, &slots[place], buffer, writer)?;
     }
     Ok(())
 }
 
-/// What the leg of this key found, if it did.
-fn write_hit<W: Sink>(key: &Key, slot: &Slot, writer: &mut W) -> Result<(), WriteFault>
-    ensures written { OnOk result (W.written writer.new ≡ W.written writer.old
-        ++ flat_map item_text (hits_of (key.now ∷ []) (outcome_of slot.now ∷ []))) }
-    ensures failures { MatchResult result (λ _. W.failures writer.new ≡ W.failures writer.old) (λ _. W.failures writer.old < W.failures writer.new) }
+/// Puts what the leg of this key found, if it did.
+fn put_hit<W: Sink>(
+    key: &Key,
+    slot: &Slot,
+    buffer: &mut FixedBuffer,
+    writer: &mut W,
+) -> Result<(), WriteFault>
+    ensures text { Gathers (items_text (hits_of (key.now ∷ []) (outcome_of slot.now ∷ []))) buffer.old (W.told writer.old) result buffer.new (W.told writer.new) }
+    ensures calls { Costs (2 * length (hits_of (key.now ∷ []) (outcome_of slot.now ∷ []))) buffer.old (W.told writer.old) result buffer.new (W.told writer.new) }
 {
     match &slot.reply {
-        Some(LegReply::Hit { flags, block }) => write_item(key, *flags, block, writer),
+        Some(LegReply::Hit { flags, block }) => put_item(key, *flags, block, buffer, writer),
         _ => Ok(()),
     }
 }
 
-#[tactic(auto, using(crate::proofs::WritingLemmas::worst_of_split))]
+#[tactic(auto, using(crate::proofs::WritingLemmas::worst_of_split, crate::proofs::WritingLemmas::parts_by))]
 /// The reply to a set or a delete, by the worst of its legs.
 fn write_worst<W: Sink>(slots: &[Slot], writer: &mut W) -> Result<(), WriteFault>
-    ensures written { OnOk result (W.written writer.new ≡ W.written writer.old
-        ++ canonical_reply (reply_by_worst (worst_of (map outcome_of slots.now)))) }
-    ensures failures { MatchResult result (λ _. W.failures writer.new ≡ W.failures writer.old) (λ _. W.failures writer.old < W.failures writer.new) }
+    ensures text { Writes (canonical_reply (reply_by_worst (worst_of (map outcome_of slots.now)))) (W.told writer.old) result (W.told writer.new) }
+    ensures calls { TakesFewCalls (canonical_reply (reply_by_worst (worst_of (map outcome_of slots.now))))
+        (parts_of_reply (reply_by_worst (worst_of (map outcome_of slots.now)))) (W.told writer.old) (W.told writer.new) }
 {
     if slots.is_empty() {
         return write_server_error(&Cause::LegLost, writer);
@@ -107,8 +133,8 @@ fn worse_slot<'a>(a: &'a Slot, b: &'a Slot) -> &'a Slot
 
 /// The reply to a set or a delete whose worst leg this is, or to a get whose first failed leg it is.
 fn write_outcome<W: Sink>(slot: &Slot, writer: &mut W) -> Result<(), WriteFault>
-    ensures written { OnOk result (W.written writer.new ≡ W.written writer.old ++ canonical_reply (reply_by (outcome_of slot.now))) }
-    ensures failures { MatchResult result (λ _. W.failures writer.new ≡ W.failures writer.old) (λ _. W.failures writer.old < W.failures writer.new) }
+    ensures text { Writes (canonical_reply (reply_by (outcome_of slot.now))) (W.told writer.old) result (W.told writer.new) }
+    ensures calls { TakesFewCalls (canonical_reply (reply_by (outcome_of slot.now))) (parts_of_reply (reply_by (outcome_of slot.now))) (W.told writer.old) (W.told writer.new) }
 {
     match &slot.reply {
         Some(LegReply::Stored) => write_reply(&Reply::Stored, writer),
