@@ -1,3 +1,4 @@
+//! Why a name, a pool or a routing is refused.
 ghost use Rattle.std.specs.Prelude.{◌≡◌};
 
 use std::alloc::{AllocError, AllocFailed};

@@ -1,3 +1,4 @@
+//! The hashes that place keys, and their names.
 ghost use Rattle.std.specs.Prelude.{◌≡◌, ◌≢◌, ℕ, List, true, IfSome, IfNone};
 
 use mr_text::Key;

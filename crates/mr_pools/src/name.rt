@@ -1,3 +1,4 @@
+//! The names of nodes.
 ghost use Rattle.std.specs.Prelude.{◌≡◌, ◌↔◌, IsTrue, IfOk};
 ghost use Rattle.mr_pools.specs.NodeName.{IsNodeName, IsNameByte};
 ghost use Rattle.mr_pools.specs.declared.error.PoolError.TheVariants.{BadName};

@@ -1,3 +1,4 @@
+//! A pool: the nodes among which keys are divided.
 ghost use Rattle.std.specs.Prelude.{◌≡◌, ◌<◌, ◌%◌, ◌↔◌, ℕ, List, length, slice_get, IsTrue, IfOk, Some, Contains};
 ghost use Rattle.mr_pools.specs.Pool.{IsPool, AreDistinct, AreApart};
 

@@ -1,3 +1,4 @@
+//! The routing of a migration: its pools by number, and the hash.
 ghost use Rattle.std.specs.Prelude.{◌≡◌, ◌<◌, ◌↔◌, length, slice_get, Some, IsTrue, IfOk};
 
 use crate::error::PoolError;
