@@ -1,7 +1,7 @@
 -- The keys of a line that was read fit a line.
-use Rattle.std.proofs.Common.{◌≡◌, ℕ, ◌+◌, ◌<◌, ◌≤◌, ◌==◌, Bool, true, false, not, List, [], ◌∷◌, length, Result, Ok, Err, refl, ◌∙◌, ap, subst, arith, if◌then◌else◌, cond, filter, sum_by, codes, IfOk}
+use Rattle.std.proofs.Common.{◌≡◌, ℕ, suc, ◌+◌, ◌*◌, All, ◌<◌, ◌≤◌, ◌==◌, Bool, true, false, not, List, [], ◌∷◌, length, Result, Ok, Err, refl, ◌∙◌, ap, subst, arith, if◌then◌else◌, cond, filter, sum_by, codes, IfOk}
 use Rattle.std.proofs.lemmas.List.Sums.{sum_by-cons}
-use Rattle.mr_text.specs.Key.{FitLine}
+use Rattle.mr_text.specs.Key.{IsKey, FitLine, AreFew}
 use Rattle.mr_text.specs.Text.{words_of, pieces_of, begun_with, is_empty}
 use Rattle.mr_text.specs.CommandView.{said_by, IsCounted, IsCommand, IsGoodLine}
 use Rattle.mr_text.specs.Reading.{command_line}
@@ -64,3 +64,16 @@ pub good_result : (line : List ℕ) (r : Result Command TextError) → IsCommand
     → IfOk r IsGoodLine
 good_result line (Ok command) is short = good_command line command is.0 is.1 short
 good_result line (Err refusal) is short = tt
+
+-- keys that fit a line are as few as the items of a reply
+bytes_of_keys : (keys : List (List ℕ)) → All IsKey keys → 2 * length keys ≤ spaced keys
+bytes_of_keys [] good = omega arith
+bytes_of_keys (key ∷ keys) good =
+    let one : IsKey key = good 0 key (omega arith) in
+    let some = one.not_empty in
+    let rest = bytes_of_keys keys (λ k d within. good (suc k) d (omega arith)) in
+    let all = spaced-cons key keys in
+    omega arith
+
+pub few_keys : (keys : List (List ℕ)) → All IsKey keys → FitLine keys → AreFew keys
+few_keys keys good fit = let bytes = bytes_of_keys keys good in omega arith

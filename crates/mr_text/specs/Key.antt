@@ -1,7 +1,7 @@
 -- What a key is: the bytes that name an item.
 use Rattle.std.specs.Prelude.{◌≡◌, ◌≢◌, ℕ, ◌+◌, ◌<◌, ◌≤◌, ◌⊎◌, ◌==◌, ◌&&◌, Bool, not, nat_lt, nat_le, List, [], length, All, sum_by, Result, Ok, Err}
 use Rattle.std.specs.List.{list_all}
-use Rattle.mr_text.specs.Limits.{MAX_KEY, MAX_LINE}
+use Rattle.mr_text.specs.Limits.{MAX_KEY, MAX_LINE, MAX_ITEMS}
 use Rattle.mr_text.specs.declared.error.TextError.{TextError}
 use Rattle.mr_text.specs.declared.error.TextError.TheVariants.{WrongWords, LineTooLong}
 
@@ -32,6 +32,10 @@ get_line_length keys = 3 + sum_by (λ key. length key + 1) keys
 -- that line is no longer than a line may be
 abbrev pub FitLine : List (List ℕ) → Type 0
 FitLine keys = get_line_length keys ≤ MAX_LINE
+
+-- so few that a reply has an item for each
+abbrev pub AreFew : List (List ℕ) → Type 0
+AreFew keys = length keys ≤ MAX_ITEMS
 
 -- the list of the keys, or WrongWords where there is none, or LineTooLong where they don't fit a line
 abbrev pub IsKeyListOf : List (List ℕ) → Result (List (List ℕ)) TextError → Type 0

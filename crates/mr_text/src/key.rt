@@ -81,6 +81,7 @@ impl Key {
     /// How many bytes the key has.
     pub fn len(&self) -> usize
         ensures length { result ≡ length self.now }
+        ensures some { 1 ≤ result }
         ensures short { result ≤ MAX_KEY }
     {
         self.bytes.len()

@@ -1,5 +1,5 @@
 ghost use Rattle.std.specs.Prelude.{◌≡◌, ◌↔◌, ℕ, List, IsTrue, IfOk};
-ghost use Rattle.mr_text.specs.Key.{HasKey, FitLine};
+ghost use Rattle.mr_text.specs.Key.{HasKey, FitLine, AreFew};
 
 use crate::error::TextError;
 use crate::key::Key;
@@ -7,7 +7,8 @@ use crate::limits::MAX_LINE;
 use std::alloc::AllocError;
 use std::marker::Model;
 
-/// The keys of one `get`, in order, repeats kept: at least one, and so few that they fit a line.
+/// The keys of one `get`, in order, repeats kept: at least one, and so few that they fit a line. So there are at most
+/// 4,094, as many as a reply may have items.
 #[derive(Debug, Drop)]
 pub struct KeyList {
     keys: Vec<Key>,
@@ -15,13 +16,13 @@ pub struct KeyList {
 
 impl Model for KeyList {
     ghost use Rattle.std.specs.Prelude.{ℕ, List};
-    ghost use Rattle.mr_text.specs.Key.{HasKey, FitLine};
+    ghost use Rattle.mr_text.specs.Key.{HasKey, FitLine, AreFew};
 
     ghost Value = { List (List ℕ) };
 
     ghost view = { λ k. k.keys.items };
 
-    ghost invariant = { λ k. HasKey k.keys.items × FitLine k.keys.items };
+    ghost invariant = { λ k. HasKey k.keys.items × FitLine k.keys.items × AreFew k.keys.items };
 }
 
 /// The bytes of a `get` line before its first space.
@@ -29,7 +30,8 @@ const COMMAND_LENGTH: usize = 3;
 
 /// Whether the keys, each with a space before it, fit a `get` line.
 fn fit_line(keys: &[Key]) -> bool
-    ensures { IsTrue result ↔ FitLine keys.now }
+    ensures fits { IsTrue result ↔ FitLine keys.now }
+    ensures few { IsTrue result → AreFew keys.now }
 {
     let mut room = MAX_LINE - COMMAND_LENGTH;
     for key in keys {
@@ -62,6 +64,7 @@ impl KeyList {
     pub(crate) fn of(keys: Vec<Key>) -> KeyList
         requires has_key { HasKey keys.items }
         requires fit_line { FitLine keys.items }
+        requires few { AreFew keys.items }
         ensures { result ≡ keys.items }
     {
         KeyList { keys }
@@ -72,6 +75,7 @@ impl KeyList {
         ensures keys { result.now ≡ self.now }
         ensures has_key { HasKey result.now }
         ensures fit_line { FitLine result.now }
+        ensures few { AreFew result.now }
     {
         self.keys.as_slice()
     }
@@ -81,6 +85,7 @@ impl KeyList {
         ensures keys { result.items ≡ self }
         ensures has_key { HasKey result.items }
         ensures fit_line { FitLine result.items }
+        ensures few { AreFew result.items }
     {
         self.keys
     }
