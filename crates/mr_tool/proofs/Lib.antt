@@ -4,4 +4,5 @@ pub mod PlainWords
 pub mod ReadLemmas
 pub mod RequestLemmas
 pub mod RunLemmas
+pub mod WaitLemmas
 pub mod WordLemmas

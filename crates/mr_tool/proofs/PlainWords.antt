@@ -22,8 +22,9 @@ use Rattle.mr_pools.specs.Hash.{name_of_hash}
 use Rattle.mr_pools.specs.declared.hash.NamedHash.{NamedHash}
 use Rattle.mr_pools.specs.declared.hash.NamedHash.TheVariants.{Sum, Fnv}
 use Rattle.mr_tool.specs.Command.{NamesAt, AreHashes, program_app, plan_app}
-use Rattle.mr_tool.specs.Words.{IsNoOption, IsNumberWord, SaysPlan, SaysPlainly}
-use Rattle.mr_tool.specs.declared.words.Wanted.{Wanted}
+use Rattle.mr_tool.specs.Words.{IsNoOption, IsNumberWord, Say, SaysPlainly}
+use Rattle.mr_tool.specs.declared.words.PlanValues.{PlanValues}
+use Rattle.mr_tool.specs.declared.words.Wanted.TheVariants.{Plan}
 
 -- what `clap` asks of a word before it takes it for the next value
 record IsPlainWord (word : Text) : Type 0 where
@@ -192,7 +193,7 @@ plain_hash Sum = record { long = refl; short = refl; dashes = refl }
 plain_hash Fnv = record { long = refl; short = refl; dashes = refl }
 
 -- words that plainly say a plan say it to `clap`
-pub plainly_said : (hashes : NamesAt) (said : List Text) (plan : Wanted) → AreHashes hashes → SaysPlainly said plan → SaysPlan hashes said plan
+pub plainly_said : (hashes : NamesAt) (said : List Text) (plan : PlanValues) → AreHashes hashes → SaysPlainly said plan → Say hashes said (Plan plan)
 plainly_said hashes said plan are says =
     let old = plan.old.now in
     let new = plan.new.now in

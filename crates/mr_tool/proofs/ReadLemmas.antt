@@ -1,5 +1,5 @@
 -- What a parse by `clap` says of the words as a whole.
-use Rattle.std.proofs.Common.{◌≡◌, ◌∙◌, refl, sym, List, [], ◌∷◌, true, inl, inr, Option, Result, Ok, Err, IsErrAnd, codes}
+use Rattle.std.proofs.Common.{◌≡◌, ◌∙◌, refl, subst, sym, List, [], ◌∷◌, true, inl, inr, Option, Result, Ok, Err, IsErrAnd, codes}
 use Rattle.clap.proofs.OnLiterals.{clap_on_literals}
 use Rattle.clap.specs.Faults.{is_simple_and_free}
 use Rattle.clap.specs.Kinds.{Kinds, HasKind}
@@ -10,8 +10,10 @@ use Rattle.clap.specs.declared.error.kind.ErrorKind.TheVariants.{OutOfMemory}
 use Rattle.mr_tool.proofs.PlainWords.{plainly_said}
 use Rattle.mr_tool.proofs.WordLemmas.{one_plan_said}
 use Rattle.mr_tool.specs.Command.{NamesAt, program_app}
-use Rattle.mr_tool.specs.Words.{FindsPlan, Reads, ReadsAs, ReadsWith, SaysPlainly, SaysPlan}
+use Rattle.mr_tool.specs.Words.{Finds, Reads, ReadsAs, ReadsWith, Say, SaysPlainly}
+use Rattle.mr_tool.specs.declared.words.PlanValues.{PlanValues}
 use Rattle.mr_tool.specs.declared.words.Wanted.{Wanted}
+use Rattle.mr_tool.specs.declared.words.Wanted.TheVariants.{Plan}
 use Rattle.mr_tool.specs.declared.words.WordsFault.{WordsFault}
 use Rattle.mr_tool.specs.declared.words.WordsFault.TheVariants.{Wrong, Memory}
 
@@ -54,16 +56,16 @@ words_refused hashes words error (Err (Wrong text)) found h =
     λ plan says. wrong_is_no_memory text (h (no_kind (fault_of (program_app hashes) words) error says.fits found))
 
 -- words in which it finds none
-pub words_read : (hashes : NamesAt) (words : List Text) (found : Option (Text × List Row)) (plan : Wanted) → fault_of (program_app hashes) words ≡ []
-    → found ≡ subcommand_of (program_app hashes) words → FindsPlan found plan → SaysPlan hashes words plan
-words_read hashes words found plan fits is finds = record { fits = fits; finds = (finds.0, sym is ∙ finds.1, finds.2) }
+pub words_read : (hashes : NamesAt) (words : List Text) (found : Option (Text × List Row)) (wanted : Wanted) → fault_of (program_app hashes) words ≡ []
+    → found ≡ subcommand_of (program_app hashes) words → Finds found wanted → Say hashes words wanted
+words_read hashes words found wanted fits is finds = record { fits = fits; finds = subst (λ (o : Option (Text × List Row)). Finds o wanted) is finds }
 
 pub none_read : (hashes : NamesAt) (words : List Text) (found : Option (Text × List Row)) → found ≡ subcommand_of (program_app hashes) words
-    → ((plan : Wanted) → ¬ FindsPlan found plan) → (plan : Wanted) → ¬ SaysPlan hashes words plan
-none_read hashes words found is none plan says = none plan (says.finds.0, is ∙ says.finds.1, says.finds.2)
+    → ((wanted : Wanted) → ¬ Finds found wanted) → (wanted : Wanted) → ¬ Say hashes words wanted
+none_read hashes words found is none wanted says = none wanted (subst (λ (o : Option (Text × List Row)). Finds o wanted) (sym is) says.finds)
 
 -- what is read of words that plainly say a plan
-pub reads_as : (words : List Text) (result : Result Wanted WordsFault) → Reads words result → (plan : Wanted) → SaysPlainly words plan → ReadsAs plan result
-reads_as words (Ok read) h plan plainly = one_plan_said h.0 words read plan h.2 (plainly_said h.0 words plan h.1 plainly)
-reads_as words (Err (Wrong text)) h plan plainly = h.2 plan (plainly_said h.0 words plan h.1 plainly)
+pub reads_as : (words : List Text) (result : Result Wanted WordsFault) → Reads words result → (plan : PlanValues) → SaysPlainly words plan → ReadsAs plan result
+reads_as words (Ok (Plan read)) h plan plainly = one_plan_said h.0 words read plan h.2 (plainly_said h.0 words plan h.1 plainly)
+reads_as words (Err (Wrong text)) h plan plainly = h.2 (Plan plan) (plainly_said h.0 words plan h.1 plainly)
 reads_as words (Err Memory) h plan plainly = tt

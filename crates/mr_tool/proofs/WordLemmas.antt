@@ -13,8 +13,10 @@ use Rattle.mr_pools.specs.Hash.{name_of_hash}
 use Rattle.mr_pools.specs.declared.hash.NamedHash.{NamedHash}
 use Rattle.mr_pools.specs.declared.hash.NamedHash.TheVariants.{Sum, Fnv}
 use Rattle.mr_tool.specs.Command.{NamesAt}
-use Rattle.mr_tool.specs.Words.{AgreesWith, FindsPlan, HasValues, IsNumberWord, SaysPlan}
+use Rattle.mr_tool.specs.Words.{AgreesWith, Finds, FindsPlan, HasValues, IsNumberWord, Say}
+use Rattle.mr_tool.specs.declared.words.PlanValues.{PlanValues}
 use Rattle.mr_tool.specs.declared.words.Wanted.{Wanted}
+use Rattle.mr_tool.specs.declared.words.Wanted.TheVariants.{Plan}
 
 row_of_subcommand : {Z : Type 0} (o : Option (Box SubCommand Z)) (name : List ℕ) (rows : List Row)
     → option_map (λ (b : Box SubCommand Z). (out-SubCommand (box_value b)).name.now) o ≡ Some name
@@ -66,7 +68,7 @@ same_hash Sum Fnv e = cc
 same_hash Fnv Sum e = cc
 
 -- rows hold the values of one plan
-pub one_plan : (rows : List Row) (read plan : Wanted) → HasValues rows read → HasValues rows plan → AgreesWith plan read
+pub one_plan : (rows : List Row) (read plan : PlanValues) → HasValues rows read → HasValues rows plan → AgreesWith plan read
 one_plan rows read plan r p = record {
   old = same_inside _ _ _ r.old_is p.old_is;
   new = same_inside _ _ _ r.new_is p.new_is;
@@ -80,18 +82,22 @@ same_rows : (found : Option (Text × List Row)) (name : Text) (a b : List Row) �
 same_rows found name a b e f = ap (λ (p : Text × List Row). p.1) (same_inside (name, a) (name, b) found e f)
 
 -- words say one plan
-pub one_plan_said : (hashes : NamesAt) (words : List Text) (read plan : Wanted) → SaysPlan hashes words read → SaysPlan hashes words plan → AgreesWith plan read
+pub one_plan_said : (hashes : NamesAt) (words : List Text) (read plan : PlanValues) → Say hashes words (Plan read) → Say hashes words (Plan plan) → AgreesWith plan read
 one_plan_said hashes words read plan r p =
     let rows_are : p.finds.0 ≡ r.finds.0 = same_rows _ _ _ _ p.finds.1 r.finds.1 in
     one_plan r.finds.0 read plan r.finds.2 (subst (λ (rows : List Row). HasValues rows plan) rows_are p.finds.2)
 
 -- the rows of the command that was found are those of its matches
-pub found_rows : (found : Option (Text × List Row)) (of_matches : List Row) (plan : Wanted) → option_map (λ (p : Text × List Row). p.1) found ≡ Some of_matches
-    → ((p : Wanted) → ¬ HasValues of_matches p) → ¬ FindsPlan found plan
+pub found_rows : (found : Option (Text × List Row)) (of_matches : List Row) (plan : PlanValues) → option_map (λ (p : Text × List Row). p.1) found ≡ Some of_matches
+    → ((p : PlanValues) → ¬ HasValues of_matches p) → ¬ FindsPlan found plan
 found_rows found of_matches plan matched none finds =
     let same : finds.0 ≡ of_matches =
     same_inside finds.0 of_matches (option_map (λ (p : Text × List Row). p.1) found) (ap (option_map (λ (p : Text × List Row). p.1)) finds.1) matched in
     none plan (subst (λ (r : List Row). HasValues r plan) same finds.2)
+
+-- where no plan is found, no command is
+pub none_found : (found : Option (Text × List Row)) → ((plan : PlanValues) → ¬ FindsPlan found plan) → (wanted : Wanted) → ¬ Finds found wanted
+none_found found none (Plan plan) finds = none plan finds
 
 -- what is said of no value, said more weakly
 pub if_none_weaker : {T : Type 0} (o : Option T) (P Q : Type 0) → (P → Q) → IfNone o P → IfNone o Q

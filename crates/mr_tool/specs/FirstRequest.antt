@@ -1,7 +1,8 @@
 -- The first request of an input.
 use Rattle.std.specs.Io.KnownBytes.{IsAtEnd}
-use Rattle.std.specs.Prelude.{◌+◌, ◌≡◌, ◌≢◌, ℕ, ◌<◌, ◌⊎◌, false, List, ◌++◌, Option, Some, None, Result, Ok, Err}
+use Rattle.std.specs.Prelude.{◌+◌, ◌≡◌, ◌≤◌, ℕ, false, List, [], ◌++◌, length, Option, Some, None, Result, Ok, Err}
 use Rattle.mr_text.specs.Requests.{SpellsRequest, RefusesRequest}
+use Rattle.mr_text.specs.Source.{SourceView}
 use Rattle.mr_text.specs.Stream.{ReaderView, Becomes, BeginsWith, IsUnfinished}
 use Rattle.mr_text.specs.declared.request.Request.{Request}
 use Rattle.mr_text.specs.declared.error.TextError.TheVariants.{Truncated, OutOfMemory}
@@ -16,46 +17,52 @@ HoldsNoRequest bytes = IsUnfinished SpellsRequest RefusesRequest bytes
 abbrev pub BeginsWithRequest : List ℕ → Request → Type 0
 BeginsWithRequest bytes request = (after : List ℕ) × BeginsWith SpellsRequest bytes request after
 
--- the refusal that the bytes get; want of memory is no matter of theirs
-abbrev pub GetsRefusal : List ℕ → Fault → Type 0
-GetsRefusal bytes (Text Truncated) = HoldsNoRequest bytes
-GetsRefusal bytes (Text OutOfMemory) = Unit {0}
-GetsRefusal bytes (Text refusal) = RefusesRequest refusal bytes
-GetsRefusal bytes fault = ⊥
+-- the bytes hold the request, or get the refusal; want of memory is no matter of theirs
+abbrev pub Hold : List ℕ → Result Request Fault → Type 0
+Hold bytes (Ok request) = BeginsWithRequest bytes request
+Hold bytes (Err (Text OutOfMemory)) = Unit {0}
+Hold bytes (Err (Text refusal)) = RefusesRequest refusal bytes
+Hold bytes (Err fault) = ⊥
 
--- what the bytes of an input that ended hold
-abbrev pub IsLastOf : List ℕ → Result Request Fault → Type 0
-IsLastOf bytes (Ok request) = BeginsWithRequest bytes request
-IsLastOf bytes (Err fault) = GetsRefusal bytes fault
-
--- what they hold while more may come
+-- what a reader answers for them while more may come
 abbrev pub IsNextOf : ReaderView → List ℕ → Result (Option Request) Fault → Type 0
-IsNextOf reader bytes (Ok (Some request)) = BeginsWithRequest bytes request
+IsNextOf reader bytes (Ok (Some request)) = Hold bytes (Ok request)
 IsNextOf reader bytes (Ok None) = Becomes reader bytes false false × HoldsNoRequest bytes
-IsNextOf reader bytes (Err fault) = GetsRefusal bytes fault × (fault ≢ Text Truncated)
-
--- what contracts see of an input: the bytes it gave, those still to come where they are known, how many reads were made,
--- and how many failed
-pub record Intake : Type 0 where
-  pub bytes : List ℕ
-  pub left : Option (List ℕ)
-  pub reads : ℕ
-  pub failures : ℕ
-
-abbrev pub intake : List ℕ → Option (List ℕ) → ℕ → ℕ → Intake
-intake bytes left reads failures = record { bytes = bytes; left = left; reads = reads; failures = failures }
+IsNextOf reader bytes (Err fault) = Hold bytes (Err fault)
 
 -- the most reads of one request
 abbrev pub most_reads : ℕ
 most_reads = 16389
 
--- an input is cut short only at its end, or after all the reads that are allowed
-abbrev pub IsCutShort : Intake → Intake → Type 0
-IsCutShort before after = IsAtEnd after.left ⊎ (after.reads ≡ before.reads + most_reads)
+-- These bytes were read, and then this piece. Each read but the last brought a byte, and no request or refusal.
+pub record HasRead (early piece : List ℕ) (before after : SourceView) : Type 0 where
+  pub taken : after.taken ≡ before.taken ++ (early ++ piece)
+  pub waits : HoldsNoRequest early
+  pub reads : after.reads ≤ before.reads + length early + 1
 
--- What was read of an input for its first request. Where the device failed the fault is Input, and nowhere else.
-abbrev pub Reads : Intake → Intake → Result Request Fault → Type 0
-Reads before after (Err Input) = before.failures < after.failures
-Reads before after result =
-    (bytes : List ℕ) × (after.bytes ≡ before.bytes ++ bytes) × IsLastOf bytes result × (after.failures ≡ before.failures)
-    × (result ≡ Err (Text Truncated) → IsCutShort before after)
+-- the last piece that was read completes the request, or its refusal
+pub record Completes (before after : SourceView) (result : Result Request Fault) : Type 0 where
+  pub early : List ℕ
+  pub piece : List ℕ
+  pub read : HasRead early piece before after
+  pub steady : after.failures ≡ before.failures
+  pub holds : Hold (early ++ piece) result
+
+-- the input ended before a request was whole
+pub record EndsEarly (before after : SourceView) : Type 0 where
+  pub early : List ℕ
+  pub read : HasRead early [] before after
+  pub steady : after.failures ≡ before.failures
+  pub ended : IsAtEnd after.left
+
+-- a read failed before a request was whole
+pub record FailsEarly (before after : SourceView) : Type 0 where
+  pub early : List ℕ
+  pub read : HasRead early [] before after
+  pub failed : after.failures ≡ before.failures + 1
+
+-- what was read of an input for its first request
+abbrev pub Reads : SourceView → SourceView → Result Request Fault → Type 0
+Reads before after (Err Input) = FailsEarly before after
+Reads before after (Err (Text Truncated)) = EndsEarly before after
+Reads before after result = Completes before after result

@@ -1,7 +1,10 @@
 pub mod Command
+pub mod Devices
 pub mod Fault
 pub mod FirstRequest
+pub mod PlanCommand
 pub mod PlanText
 pub mod PoolWords
+pub mod Program
 pub mod Run
 pub mod Words

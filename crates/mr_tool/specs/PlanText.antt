@@ -1,15 +1,19 @@
 -- What a plan prints.
-use Rattle.std.specs.Prelude.{ℕ, ◌<◌, List, [], ◌∷◌, ◌++◌, length, codes, decimal, slice_index_or}
+use Rattle.std.specs.Prelude.{◌≡◌, ℕ, ◌<◌, List, [], ◌∷◌, ◌++◌, length, codes, decimal, slice_index_or, Result, Ok, Err}
 use Rattle.mr_pools.specs.Routing.{RoutingView, pool_of}
 use Rattle.mr_phases.specs.declared.phase_name.PhaseName.{PhaseName}
 use Rattle.mr_phases.specs.PhaseText.{phase_text}
 use Rattle.mr_phases.specs.SideText.{side_text}
 use Rattle.mr_phases.specs.declared.side.Side.{Side}
 use Rattle.mr_phases.specs.Schedule.{Hop, phase_of}
+use Rattle.mr_text.specs.Sink.{SinkView, IsOneWrite}
+use Rattle.mr_text.specs.declared.error.WriteFault.{WriteFault}
 use Rattle.mr_text.specs.declared.request.Request.{Request}
 use Rattle.mr_proxy.specs.declared.sheet.LegSheet.{LegSheet}
 use Rattle.mr_proxy.specs.ProxyView.{ProxyView, fresh_proxy}
 use Rattle.mr_proxy.specs.Issue.{pool_number, sheets_of}
+use Rattle.mr_tool.specs.declared.plan.PlanError.{PlanError}
+use Rattle.mr_tool.specs.declared.plan.PlanError.TheVariants.{Memory, Write}
 
 -- the line of the phase, at a reading
 abbrev pub phase_line : PhaseName → ℕ → List ℕ
@@ -45,3 +49,9 @@ planner routing hops = fresh_proxy 0 0 routing hops 1
 abbrev pub plan_text : RoutingView → List Hop → ℕ → Request → List ℕ
 plan_text routing hops at request =
     phase_line (phase_of hops at) at ++ leg_lines routing (sheets_of (planner routing hops) at request)
+
+-- the text goes out in one call, or fails in that one call, or memory is refused before it
+abbrev pub WritesAtOnce : List ℕ → SinkView → Result (Unit {0}) PlanError → SinkView → Type 0
+WritesAtOnce text old (Ok _) new = IsOneWrite text old (Ok tt) new
+WritesAtOnce text old (Err Write) new = (fault : WriteFault) × IsOneWrite text old (Err fault) new
+WritesAtOnce text old (Err Memory) new = new ≡ old

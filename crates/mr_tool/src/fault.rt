@@ -3,11 +3,11 @@ ghost use Rattle.std.specs.Prelude.{◌≡◌};
 
 use mr_phases::ScheduleError;
 use mr_pools::PoolError;
-use mr_text::TextError;
+use mr_text::{Sink, TextError};
 use thiserror::Error;
 
 /// Why a command stopped. Its text is the line that is printed, without its line end.
-#[derive(Clone, Copy, Debug, PartialEq, Eq, Error)]
+#[derive(Clone, Debug, Drop, PartialEq, Eq, Error)]
 pub enum Fault {
     /// Memory was refused to the program itself.
     #[error("migctl: memory")]
@@ -30,20 +30,28 @@ pub enum Fault {
 }
 
 impl Fault {
+    ghost use Rattle.mr_tool.specs.Devices.{IsTold};
     ghost use Rattle.mr_tool.specs.Fault.{fault_line};
 
     /// The line that is printed: the layer that found the fault, and the number and the name of the refusal.
-    pub fn line(self) -> &'static str
-        ensures { result.now ≡ fault_line self }
+    pub fn line(&self) -> &'static str
+        ensures { result.now ≡ fault_line self.now }
     {
         match self {
             Fault::Memory => "migctl: memory\n",
             Fault::Input => "migctl: input\n",
             Fault::Output => "migctl: output\n",
-            Fault::Text(refusal) => text_line(refusal),
-            Fault::Pools(refusal) => pools_line(refusal),
-            Fault::Phases(refusal) => phases_line(refusal),
+            Fault::Text(refusal) => text_line(*refusal),
+            Fault::Pools(refusal) => pools_line(*refusal),
+            Fault::Phases(refusal) => phases_line(*refusal),
         }
+    }
+
+    /// Tells the line in one call. That its place fails too can't be told anywhere.
+    pub fn tell<F: Sink>(&self, faults: &mut F)
+        ensures { IsTold (fault_line self.now) (F.told faults.old) (F.told faults.new) }
+    {
+        let _ = faults.write_all(self.line().as_bytes());
     }
 }
 

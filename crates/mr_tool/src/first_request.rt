@@ -1,7 +1,7 @@
 //! The first request of an input.
-ghost use Rattle.std.specs.Prelude.{◌≡◌, ◌+◌, ◌≤◌, List, ℕ, true, false, [], ◌++◌};
+ghost use Rattle.std.specs.Prelude.{◌≡◌, ◌+◌, ◌≤◌, List, ℕ, false, ◌++◌};
 ghost use Rattle.mr_text.specs.Stream.{Becomes};
-ghost use Rattle.mr_tool.specs.FirstRequest.{IsNextOf, IsLastOf, Reads, intake, most_reads};
+ghost use Rattle.mr_tool.specs.FirstRequest.{IsNextOf, Reads, most_reads};
 
 use crate::fault::Fault;
 use mr_text::{Request, RequestReader, Source, TextError};
@@ -27,24 +27,11 @@ fn next_with(reader: &mut RequestReader, piece: &[u8]) -> Result<Option<Request>
     }
 }
 
-/// The request that the input holds, now that it has ended.
-fn next_at_end(reader: &mut RequestReader) -> Result<Request, Fault>
-    ensures { (fed : List ℕ) → Becomes reader.old fed false false → IsLastOf fed result }
-{
-    reader.end();
-    match reader.next() {
-        Ok(Some(request)) => Ok(request),
-        Ok(None) => Err(Fault::Text(TextError::Truncated)),
-        Err(refusal) => Err(Fault::Text(refusal)),
-    }
-}
-
 /// The first request of an input, read no further than the piece that completes it. The first line that is refused is
 /// the fault, an unknown command too; Truncated where the input ends before a request is whole.
 pub fn first_request<I: Source>(alloc: Global, input: &mut I) -> Result<Request, Fault>
-    ensures request { Reads (intake (I.taken input.old) (I.left input.old) (I.reads input.old) (I.failures input.old))
-        (intake (I.taken input.new) (I.left input.new) (I.reads input.new) (I.failures input.new)) result }
-    ensures reads { I.reads input.new ≤ I.reads input.old + most_reads }
+    ensures request { Reads (I.told input.old) (I.told input.new) result }
+    ensures reads { (I.told input.new).reads ≤ (I.told input.old).reads + most_reads }
 {
     let mut reader = RequestReader::new(alloc);
     let mut buffer = [0; BUFFER_LENGTH];
@@ -53,7 +40,7 @@ pub fn first_request<I: Source>(alloc: Global, input: &mut I) -> Result<Request,
             return Err(Fault::Input);
         };
         if count == 0 {
-            return next_at_end(&mut reader);
+            return Err(Fault::Text(TextError::Truncated));
         }
         match next_with(&mut reader, &buffer[..count]) {
             Ok(Some(request)) => return Ok(request),
@@ -61,5 +48,5 @@ pub fn first_request<I: Source>(alloc: Global, input: &mut I) -> Result<Request,
             Err(fault) => return Err(fault),
         }
     }
-    Err(Fault::Text(TextError::Truncated))
+    unreachable!() // so many bytes hold a request or a refusal
 }

@@ -1,8 +1,7 @@
 //! The plan of one request.
-ghost use Rattle.std.specs.Prelude.{◌≡◌, ◌<◌, ◌++◌, ◌↔◌, IfOk, OnOk, IsErrOf};
-ghost use Rattle.std.specs.Io.KnownBytes.{Appends};
+ghost use Rattle.std.specs.Prelude.{◌≡◌, ◌++◌, IfOk, OnOk, IsErrOf};
 ghost use Rattle.std.specs.List.{All};
-ghost use Rattle.mr_tool.specs.PlanText.{IsSheetWithin, leg_lines, plan_text};
+ghost use Rattle.mr_tool.specs.PlanText.{IsSheetWithin, leg_lines, plan_text, WritesAtOnce};
 
 use crate::line::{push_leg_line, push_phase_line};
 use mr_phases::{Schedule, judge};
@@ -73,7 +72,8 @@ fn text_of_plan(
 }
 
 /// Writes where a request goes at a reading of a clock, in seconds since the epoch: the phase, and below it each leg
-/// with its place, its side and the name of its node. A quit has no legs. Nothing is written before the text is whole.
+/// with its place, its side and the name of its node. A quit has no legs. The text is whole before the one call that
+/// writes it.
 pub fn write_plan<W: Sink>(
     alloc: Global,
     routing: Routing,
@@ -82,17 +82,14 @@ pub fn write_plan<W: Sink>(
     request: Request,
     writer: &mut W,
 ) -> Result<(), PlanError>
-    ensures written { OnOk result (W.written writer.new ≡ W.written writer.old ++ plan_text routing schedule at request) }
-    ensures contents { OnOk result (Appends (W.contents writer.old) (W.contents writer.new) (plan_text routing schedule at request)) }
-    ensures steady { OnOk result (W.failures writer.new ≡ W.failures writer.old) }
+    ensures plan { WritesAtOnce (plan_text routing schedule at request) (W.told writer.old) result (W.told writer.new) }
 
-    // Want of memory comes before anything is written, and a write fault only where the writer failed.
+    // The writer is not even touched where memory is refused.
     ensures memory { IsErrOf result PlanError.Memory → writer.new ≡ writer.old }
-    ensures write { IsErrOf result PlanError.Write ↔ (W.failures writer.old < W.failures writer.new) }
 {
     let text = text_of_plan(alloc, routing, schedule, at, request)?;
-    if writer.write_all(text.as_slice()).is_err() {
-        return Err(PlanError::Write);
+    match writer.write_all(text.as_slice()) {
+        Ok(()) => Ok(()),
+        Err(_) => Err(PlanError::Write),
     }
-    Ok(())
 }

@@ -1,19 +1,15 @@
-//! The commands, from their words to the status of the program.
-ghost use Rattle.std.specs.Prelude.{◌≡◌, ◌+◌, ◌≤◌, ◌⊎◌, map, IfOk, IfErr};
-ghost use Rattle.mr_phases.specs.Schedule.{one_hop};
-ghost use Rattle.mr_phases.specs.declared.error.ScheduleError.{ScheduleError};
+//! A run, from its words to the status of the program.
+ghost use Rattle.std.specs.Prelude.{◌≡◌, ◌+◌, ◌≤◌, ◌⊎◌, ℕ, List, map};
+ghost use Rattle.mr_text.specs.Sink.{SinkView};
+ghost use Rattle.mr_text.specs.Source.{SourceView};
+ghost use Rattle.mr_tool.specs.Devices.{devices, IsTold, NoneFailed};
 ghost use Rattle.mr_tool.specs.Fault.{fault_line, not_text_line};
-ghost use Rattle.mr_tool.specs.FirstRequest.{intake, most_reads};
-ghost use Rattle.mr_tool.specs.Run.{device, HasRouting, routing_of, RefusesRouting, HasSchedule, RefusesSchedule};
-ghost use Rattle.mr_tool.specs.Run.{Prints, PlanGives, Runs};
+ghost use Rattle.mr_tool.specs.FirstRequest.{most_reads};
+ghost use Rattle.mr_tool.specs.Run.{EndsWith, Runs};
 
 use crate::fault::Fault;
-use crate::first_request::first_request;
-use crate::plan::{PlanError, write_plan};
-use crate::pool_words::pool_named;
+use crate::planning::plan;
 use crate::words::{Wanted, WordsFault, read_words};
-use mr_phases::Schedule;
-use mr_pools::Routing;
 use mr_text::{Sink, Source};
 use std::alloc::Global;
 
@@ -26,84 +22,44 @@ pub const FAULT: u8 = 1;
 /// The status for wrong words or a call for help.
 pub const WRONG_WORDS: u8 = 2;
 
-/// Prints the line of a fault. That its place fails too can't be told anywhere.
-pub fn print_fault<F: Sink>(fault: Fault, faults: &mut F) -> u8
+/// Tells a fault, which is all that is done of it.
+pub fn tell_fault<F: Sink>(fault: &Fault, faults: &mut F) -> u8
     ensures status { result ≡ FAULT }
-    ensures prints { Prints (device (F.written faults.old) (F.failures faults.old))
-        (device (F.written faults.new) (F.failures faults.new)) (fault_line fault) }
+    ensures told { IsTold (fault_line fault.now) (F.told faults.old) (F.told faults.new) }
 {
-    let _ = faults.write_all(fault.line().as_bytes());
+    fault.tell(faults);
     FAULT
 }
 
-/// Prints that a word isn't text, which no command can have.
-pub fn print_not_text<F: Sink>(faults: &mut F) -> u8
+/// Tells that a word isn't text, which no command can have.
+pub fn tell_not_text<F: Sink>(faults: &mut F) -> u8
     ensures status { result ≡ WRONG_WORDS }
-    ensures prints { Prints (device (F.written faults.old) (F.failures faults.old))
-        (device (F.written faults.new) (F.failures faults.new)) not_text_line }
+    ensures told { IsTold not_text_line (F.told faults.old) (F.told faults.new) }
 {
     let _ = faults.write_all("migctl: words are not UTF-8\n".as_bytes());
     WRONG_WORDS
 }
 
-/// Prints why the words are wrong, or the help that they call for.
-fn print_words_fault<F: Sink>(alloc: Global, error: &clap::Error, faults: &mut F) -> u8
-    ensures { (result ≡ WRONG_WORDS) ⊎ ((result ≡ FAULT)
-        × Prints (device (F.written faults.old) (F.failures faults.old))
-        (device (F.written faults.new) (F.failures faults.new)) (fault_line Fault.Memory)) }
+/// Tells why the words are wrong, or the help that they call for.
+fn tell_wrong_words<F: Sink>(alloc: Global, error: &clap::Error, faults: &mut F) -> u8
+    ensures { ((result ≡ WRONG_WORDS) × ((text : List ℕ) × IsTold text (F.told faults.old) (F.told faults.new)))
+        ⊎ ((result ≡ FAULT) × IsTold (fault_line Fault.Memory) (F.told faults.old) (F.told faults.new)) }
 {
     let Ok(text) = format!(in alloc; "{error}") else {
-        return print_fault(Fault::Memory, faults);
+        return tell_fault(&Fault::Memory, faults);
     };
     let _ = faults.write_all(text.as_bytes());
     WRONG_WORDS
 }
 
-/// The routing that the words name: the old pool is looked at first, then the new one, then both.
-fn routing_named(alloc: Global, words: &Wanted) -> Result<Routing, Fault>
-    ensures routing { IfOk result (λ routing. HasRouting words.now × (routing ≡ routing_of words.now)) }
-    ensures fault { IfErr result (RefusesRouting words.now) }
+/// The status of a command that ended so. Its fault is told.
+fn finish<F: Sink>(gave: Result<(), Fault>, faults: &mut F) -> u8
+    ensures { (input : SourceView) (output : SinkView)
+        → EndsWith gave result (devices input output (F.told faults.old)) (devices input output (F.told faults.new)) }
 {
-    let old = pool_named(alloc, words.old)?;
-    let new = pool_named(alloc, words.new)?;
-    match Routing::new(old, new, words.hash) {
-        Ok(routing) => Ok(routing),
-        Err(refusal) => Err(Fault::Pools(refusal)),
-    }
-}
-
-/// The schedule that the words name.
-fn schedule_named(words: &Wanted) -> Result<Schedule, Fault>
-    ensures schedule { IfOk result (λ schedule. HasSchedule words.now × (schedule ≡ one_hop words.now.start words.now.interval)) }
-    ensures fault { IfErr result (λ fault. (refusal : ScheduleError) × (fault ≡ Fault.Phases refusal) × RefusesSchedule words.now refusal) }
-{
-    match Schedule::new(words.start, words.interval) {
-        Ok(schedule) => Ok(schedule),
-        Err(refusal) => Err(Fault::Phases(refusal)),
-    }
-}
-
-/// Prints the plan of the first request of the input.
-fn plan<I: Source, O: Sink>(
-    alloc: Global,
-    words: &Wanted,
-    input: &mut I,
-    output: &mut O,
-) -> Result<(), Fault>
-    ensures plan { PlanGives words.now
-        (intake (I.taken input.old) (I.left input.old) (I.reads input.old) (I.failures input.old))
-        (intake (I.taken input.new) (I.left input.new) (I.reads input.new) (I.failures input.new))
-        (device (O.written output.old) (O.failures output.old))
-        (device (O.written output.new) (O.failures output.new)) result }
-    ensures reads { I.reads input.new ≤ I.reads input.old + most_reads }
-{
-    let routing = routing_named(alloc, words)?;
-    let schedule = schedule_named(words)?;
-    let request = first_request(alloc, input)?;
-    match write_plan(alloc, routing, schedule, words.at, request, output) {
-        Ok(()) => Ok(()),
-        Err(PlanError::Memory) => Err(Fault::Memory),
-        Err(PlanError::Write) => Err(Fault::Output),
+    match gave {
+        Ok(()) => DONE,
+        Err(fault) => tell_fault(&fault, faults),
     }
 }
 
@@ -117,21 +73,19 @@ pub fn run_words<I: Source, O: Sink, F: Sink>(
     output: &mut O,
     faults: &mut F,
 ) -> u8
-    ensures runs { let read = intake (I.taken input.old) (I.left input.old) (I.reads input.old) (I.failures input.old) in
-        let read' = intake (I.taken input.new) (I.left input.new) (I.reads input.new) (I.failures input.new) in
-        let wrote = device (O.written output.old) (O.failures output.old) in
-        let wrote' = device (O.written output.new) (O.failures output.new) in
-        let told = device (F.written faults.old) (F.failures faults.old) in
-        let told' = device (F.written faults.new) (F.failures faults.new) in
-        Runs (map (λ word. word.now) words.now) read read' wrote wrote' told told' result }
-    ensures reads { I.reads input.new ≤ I.reads input.old + most_reads }
+    ensures runs { Runs (map (λ word. word.now) words.now)
+        (devices (I.told input.old) (O.told output.old) (F.told faults.old))
+        (devices (I.told input.new) (O.told output.new) (F.told faults.new)) result }
+    ensures reads { (I.told input.new).reads ≤ (I.told input.old).reads + most_reads }
+
+    // What was wanted was done only where no device failed.
+    ensures done { result ≡ DONE → NoneFailed
+        (devices (I.told input.old) (O.told output.old) (F.told faults.old))
+        (devices (I.told input.new) (O.told output.new) (F.told faults.new)) }
 {
     match read_words(alloc, words) {
-        Ok(words) => match plan(alloc, &words, input, output) {
-            Ok(()) => DONE,
-            Err(fault) => print_fault(fault, faults),
-        },
-        Err(WordsFault::Wrong(error)) => print_words_fault(alloc, &error, faults),
-        Err(WordsFault::Memory) => print_fault(Fault::Memory, faults),
+        Ok(Wanted::Plan(values)) => finish(plan(alloc, &values, input, output), faults),
+        Err(WordsFault::Wrong(error)) => tell_wrong_words(alloc, &error, faults),
+        Err(WordsFault::Memory) => tell_fault(&Fault::Memory, faults),
     }
 }

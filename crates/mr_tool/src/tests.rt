@@ -1,9 +1,14 @@
 //! Whole runs, over inputs and outputs in memory.
-use crate::run::{print_not_text, run_words};
-use mr_text::{FailsAt, OverReader, OverWriter, ReadFault, Sink, Source};
+use crate::run::run_words;
+use mr_text::{OverReader, OverWriter, Source};
 use std::alloc::{AllocError, Global};
+use std::io;
+use std::io::Read;
 use std::process::Abort;
 use std::test::Fail;
+
+mod arguments;
+mod devices;
 
 /// What a run left.
 #[derive(Drop)]
@@ -125,30 +130,21 @@ fn plans(rt: HostRuntime) {
     }
 }
 
-/// A source that gives one byte a read.
+/// A reader that gives one byte a read.
+#[derive(Drop)]
 struct ByteByByte<'a> {
-    bytes: OverReader<&'a [u8]>,
+    bytes: &'a [u8],
 }
 
-impl Drop for ByteByByte<'_> {
-    fn drop(self) {
-        let Self { bytes: _ } = self;
-    }
-}
-
-impl<'a> Source for ByteByByte<'a> {
-    ghost taken = { λ s. ⟦<OverReader<&'a [u8]> as Source>⟧.taken s.bytes };
-
-    ghost left = { λ s. ⟦<OverReader<&'a [u8]> as Source>⟧.left s.bytes };
-
-    ghost reads = { λ s. ⟦<OverReader<&'a [u8]> as Source>⟧.reads s.bytes };
-
-    ghost failures = { λ s. ⟦<OverReader<&'a [u8]> as Source>⟧.failures s.bytes };
-
-    fn read(&mut self, buffer: &mut [u8]) -> Result<usize, ReadFault> {
+impl Read for ByteByByte<'_> {
+    fn read(&mut self, buffer: &mut [u8]) -> io::Result<usize> {
         let end = buffer.len().min(1);
         self.bytes.read(&mut buffer[..end])
     }
+}
+
+fn byte_by_byte<'a>(bytes: &'a [u8]) -> OverReader<ByteByByte<'a>> {
+    OverReader::new(ByteByByte { bytes })
 }
 
 #[test]
@@ -321,10 +317,7 @@ fn requests_are_refused(rt: HostRuntime) -> Result<(), Fail> {
         let words = plan_at("sum", "999");
         let ran = run(rt.alloc(), &words, input);
         expect_run(&rt, &ran, 1, b"", line);
-        let mut slow = ByteByByte {
-            bytes: OverReader::new(input),
-        };
-        let ran = run_over(alloc, &words, &mut slow);
+        let ran = run_over(alloc, &words, &mut byte_by_byte(input));
         expect_run(&rt, &ran, 1, b"", line);
     }
     Ok(())
@@ -343,9 +336,7 @@ fn longest_request_is_read_byte_by_byte(rt: HostRuntime) -> Result<(), Fail> {
     assert_eq!(rt; input.len(), 16_388);
     let mut cut = input.clone()?;
     let _ = cut.pop();
-    let mut slow = ByteByByte {
-        bytes: OverReader::new(input.as_slice()),
-    };
+    let mut slow = byte_by_byte(input.as_slice());
     let ran = run_over(alloc, &plan_at("sum", "999"), &mut slow);
     expect_run(
         &rt,
@@ -354,53 +345,8 @@ fn longest_request_is_read_byte_by_byte(rt: HostRuntime) -> Result<(), Fail> {
         b"phase old-only at 999\nleg 0 old 7002\n",
         b"",
     );
-    let mut slow = ByteByByte {
-        bytes: OverReader::new(cut.as_slice()),
-    };
+    let mut slow = byte_by_byte(cut.as_slice());
     let ran = run_over(alloc, &plan_at("sum", "999"), &mut slow);
     expect_run(&rt, &ran, 1, b"", b"migctl: text 8 Truncated\n");
     Ok(())
-}
-
-#[test]
-fn devices_fail(rt: HostRuntime) {
-    let alloc = rt.alloc();
-    let words = plan_at("sum", "999");
-    for call in [1, 2] {
-        let bytes = ByteByByte {
-            bytes: OverReader::new(&b"get k\r\n"[..]),
-        };
-        let ran = run_over(alloc, &words, &mut FailsAt::new(bytes, call));
-        expect_run(&rt, &ran, 1, b"", b"migctl: input\n");
-    }
-    let mut output = FailsAt::new(OverWriter::new(Vec::new(alloc)), 1);
-    let mut faults = OverWriter::new(Vec::new(alloc));
-    let mut input = OverReader::new(&b"get k\r\n"[..]);
-    let status = run_words(alloc, &words, &mut input, &mut output, &mut faults);
-    assert_eq!(rt; status, 1);
-    assert!(rt; output.into_inner().into_inner().is_empty());
-    assert_eq!(rt;
-        faults.into_inner().as_slice(),
-        b"migctl: output\n".as_slice()
-    );
-    let mut silent = FailsAt::new(OverWriter::new(Vec::new(alloc)), 1);
-    let mut output = OverWriter::new(Vec::new(alloc));
-    let mut input = OverReader::new(&b"get\r\n"[..]);
-    let status = run_words(alloc, &words, &mut input, &mut output, &mut silent);
-    assert_eq!(rt; status, 1);
-    assert!(rt; silent.into_inner().into_inner().is_empty());
-}
-
-#[test]
-fn words_that_are_no_text_get_a_line(rt: HostRuntime) {
-    let alloc = rt.alloc();
-    let mut faults = OverWriter::new(Vec::new(alloc));
-    assert_eq!(rt; print_not_text(&mut faults), 2);
-    assert_eq!(rt;
-        faults.into_inner().as_slice(),
-        b"migctl: words are not UTF-8\n".as_slice()
-    );
-    let mut silent = FailsAt::new(OverWriter::new(Vec::new(alloc)), 1);
-    assert_eq!(rt; print_not_text(&mut silent), 2);
-    assert!(rt; silent.into_inner().into_inner().is_empty());
 }

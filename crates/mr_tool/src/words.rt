@@ -2,7 +2,7 @@
 ghost use Rattle.std.specs.Prelude.{◌≡◌, None, false, map, IfOk, IfSome, IfNone};
 ghost use Rattle.clap.specs.Words.{app_of, found_of, rows_of, rule_of, subcommand_rows_of};
 ghost use Rattle.mr_tool.specs.Command.{AreHashes, value_rule, number_rule, hash_rule, plan_app, program_app};
-ghost use Rattle.mr_tool.specs.Words.{HasValues, FindsPlan, Reads, SaysPlainly, ReadsAs};
+ghost use Rattle.mr_tool.specs.Words.{HasValues, FindsPlan, Finds, Reads, SaysPlainly, ReadsAs};
 
 use clap::error::ErrorKind;
 use clap::{Arg, ArgAction, ArgMatches, Command, Error, value_parser};
@@ -12,9 +12,9 @@ use std::alloc::{AllocError, Global};
 /// The names of the hashes.
 static HASHES: [&str; 2] = ["sum", "fnv1a32"];
 
-/// What the words ask for: the command `plan` with its values.
+/// The values of the command `plan`.
 #[derive(Clone, Copy, Debug)]
-pub struct Wanted<'a> {
+pub struct PlanValues<'a> {
     /// The names of the old pool's nodes, with commas between them.
     pub old: &'a str,
     /// The names of the new pool's nodes, with commas between them.
@@ -27,6 +27,13 @@ pub struct Wanted<'a> {
     pub hash: NamedHash,
     /// The moment of the plan, in seconds since the epoch.
     pub at: u64,
+}
+
+/// What the words ask for: a command with its values.
+#[derive(Clone, Copy, Debug)]
+pub enum Wanted<'a> {
+    /// Where a request goes.
+    Plan(PlanValues<'a>),
 }
 
 /// Why the words give no command.
@@ -125,11 +132,11 @@ fn program<'a>(alloc: Global) -> Result<Command<'a>, AllocError>
 }
 
 /// The values of the command `plan`, where each of them was found.
-fn values_of<'a>(matches: &ArgMatches<'a>) -> Option<Wanted<'a>>
+fn values_of<'a>(matches: &ArgMatches<'a>) -> Option<PlanValues<'a>>
     ensures found { IfSome result (HasValues (rows_of (found_of matches.now))) }
-    ensures missing { IfNone result ((plan : Wanted) → ¬ HasValues (rows_of (found_of matches.now)) plan) }
+    ensures missing { IfNone result ((values : PlanValues) → ¬ HasValues (rows_of (found_of matches.now)) values) }
 {
-    Some(Wanted {
+    Some(PlanValues {
         old: matches.get_str("old")?,
         new: matches.get_str("new")?,
         start: matches.get_one("start")?,
@@ -140,23 +147,34 @@ fn values_of<'a>(matches: &ArgMatches<'a>) -> Option<Wanted<'a>>
 }
 
 /// The command `plan`, where it was found with its values.
-fn plan_of<'a>(matches: &ArgMatches<'a>) -> Option<Wanted<'a>>
+fn plan_of<'a>(matches: &ArgMatches<'a>) -> Option<PlanValues<'a>>
     ensures found { IfSome result (FindsPlan (subcommand_rows_of matches.now)) }
-    ensures missing { IfNone result ((plan : Wanted) → ¬ FindsPlan (subcommand_rows_of matches.now) plan) }
+    ensures missing { IfNone result ((values : PlanValues) → ¬ FindsPlan (subcommand_rows_of matches.now) values) }
 {
     values_of(matches.subcommand_matches("plan")?)
+}
+
+/// The command that was found, where it has its values.
+fn wanted_of<'a>(matches: &ArgMatches<'a>) -> Option<Wanted<'a>>
+    ensures found { IfSome result (Finds (subcommand_rows_of matches.now)) }
+    ensures missing { IfNone result ((wanted : Wanted) → ¬ Finds (subcommand_rows_of matches.now) wanted) }
+{
+    match plan_of(matches) {
+        Some(values) => Some(Wanted::Plan(values)),
+        None => None,
+    }
 }
 
 /// Reads the words after the program's name, of which the first names the command. Wrong words are those that the
 /// command line has no place for, and memory is the other fault.
 pub fn read_words<'a>(alloc: Global, words: &'a [&'a str]) -> Result<Wanted<'a>, WordsFault>
     ensures exactly { Reads (map (λ word. word.now) words.entry.now) result }
-    ensures plainly { (plan : Wanted) → SaysPlainly (map (λ word. word.now) words.entry.now) plan → ReadsAs plan result }
+    ensures plainly { (values : PlanValues) → SaysPlainly (map (λ word. word.now) words.entry.now) values → ReadsAs values result }
 {
     let mut program = program(alloc)?;
     let matches = program.try_get_matches_from_mut(words)?;
-    match plan_of(&matches) {
-        Some(words) => Ok(words),
+    match wanted_of(&matches) {
+        Some(wanted) => Ok(wanted),
         None => {
             let error = program.error(ErrorKind::MissingSubcommand, "no command was given")?;
             Err(WordsFault::Wrong(error))

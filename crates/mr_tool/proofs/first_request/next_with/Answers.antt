@@ -1,4 +1,4 @@
-use Rattle.mr_tool.proofs.RequestLemmas.{next_refusal, next_found, next_uncut}
+use Rattle.mr_tool.proofs.RequestLemmas.{feed_refusal, next_refusal, next_found}
 use Rattle.mr_tool.proofs.first_request.next_with.Goals as goal
 
 pub returns-in-Ok : goal.returns-in-Ok
@@ -8,7 +8,5 @@ returns-in-Ok c = λ fed is.
 
 pub returns-in-Err-next : goal.returns-in-Err-next
 returns-in-Err-next c = λ fed is.
-    let has = (c.in_default.ensures fed is.stands).2 in (
-      next_refusal c.feed.new.self c.next.new.self _ c.in-Err-next.refusal has.is_closed (c.in-Err-next.ensures _ has.stands),
-      next_uncut c.feed.new.self c.next.new.self _ c.in-Err-next.refusal has.is_ended (c.in-Err-next.ensures _ has.stands),
-    )
+    let has = (c.in_default.ensures fed is.stands).2 in
+    next_refusal c.feed.new.self c.next.new.self _ c.in-Err-next.refusal has.is_closed has.is_ended (c.in-Err-next.ensures _ has.stands)

@@ -30,9 +30,9 @@ returns-in-Some c =
     let words : List Text = map (λ (word : Bor Text). word.now) c.args.words.now in
     let kinds = subst (λ (a : App). is_simple_and_free a ≡ true → fault_of a words ≡ []) is c.in_ok-matches.ensures.kinds in
     let found = (c.in_ok-matches.ensures.ok.2 (ap is_simple is ∙ simple hashes)).1 ∙ ap (λ (a : App). subcommand_of a words) is in
-    let read : Reads words (Ok c.in-Some.words) =
+    let read : Reads words (Ok c.in-Some.wanted) =
     (hashes, c.in_ok-program.ensures.1, words_read hashes words _ _ (kinds (simple_and_free hashes)) found c.in-Some.ensures.found) in
-    record { exactly = read; plainly = reads_as words (Ok c.in-Some.words) read }
+    record { exactly = read; plainly = reads_as words (Ok c.in-Some.wanted) read }
 
 pub returns-in_err-error-in-None : goal.returns-in_err-error-in-None
 returns-in_err-error-in-None c =

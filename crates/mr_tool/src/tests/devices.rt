@@ -1,0 +1,119 @@
+//! What is left where a device fails.
+use super::{byte_by_byte, expect_run, plan_at, run_over};
+use crate::run::run_words;
+use mr_text::{FailsAt, OverReader, OverWriter};
+use std::alloc::Global;
+use std::io;
+use std::io::Write;
+use std::process::Abort;
+
+/// A writer of std that takes half of one piece and fails then. It keeps what it took.
+#[derive(Drop)]
+struct TakesHalf {
+    kept: Vec<u8>,
+    calls: usize,
+    fails_at: usize,
+}
+
+impl TakesHalf {
+    fn new(alloc: Global, fails_at: usize) -> TakesHalf {
+        TakesHalf {
+            kept: Vec::new(alloc),
+            calls: 0,
+            fails_at,
+        }
+    }
+}
+
+impl Write for TakesHalf {
+    fn write(&mut self, bytes: &[u8]) -> io::Result<usize> {
+        self.calls = self.calls.saturating_add(1);
+        if self.calls > self.fails_at {
+            return Err(io::ErrorKind::BrokenPipe.into());
+        }
+        let taken = if self.calls == self.fails_at {
+            bytes.len() / 2
+        } else {
+            bytes.len()
+        };
+        match self.kept.extend_from_slice(&bytes[..taken]) {
+            Ok(()) => Ok(taken),
+            Err(_) => Err(io::ErrorKind::OutOfMemory.into()),
+        }
+    }
+
+    fn flush(&mut self) -> io::Result<()> {
+        Ok(())
+    }
+}
+
+/// Asserts what a device kept, and how often it was called.
+fn expect_device(rt: &impl Abort, device: &TakesHalf, kept: &[u8], calls: usize) {
+    assert_eq!(rt; device.kept.as_slice(), kept);
+    assert_eq!(rt; device.calls, calls);
+}
+
+/// Asserts what each output is left with, where one of their calls fails.
+fn runs_with(
+    rt: &impl Abort,
+    alloc: Global,
+    input: &[u8],
+    fails_at: (usize, usize),
+    status: u8,
+    output: (&[u8], usize),
+    faults: (&[u8], usize),
+) {
+    let mut written = OverWriter::new(TakesHalf::new(alloc, fails_at.0));
+    let mut told = OverWriter::new(TakesHalf::new(alloc, fails_at.1));
+    let words = plan_at("sum", "999");
+    let ran = run_words(
+        alloc,
+        &words,
+        &mut OverReader::new(input),
+        &mut written,
+        &mut told,
+    );
+    assert_eq!(rt; ran, status);
+    expect_device(rt, &written.into_inner(), output.0, output.1);
+    expect_device(rt, &told.into_inner(), faults.0, faults.1);
+}
+
+#[test]
+fn each_write_fails(rt: HostRuntime) {
+    let alloc = rt.alloc();
+    let get: &[u8] = b"get k\r\n";
+    let plan: &[u8] = b"phase old-only at 999\nleg 0 old 7002\n";
+    runs_with(&rt, alloc, get, (2, 2), 0, (plan, 1), (b"", 0));
+    let half = &plan[..plan.len() / 2];
+    let line: &[u8] = b"migctl: output\n";
+    runs_with(&rt, alloc, get, (1, 2), 1, (half, 2), (line, 1));
+    runs_with(&rt, alloc, get, (1, 1), 1, (half, 2), (b"migctl:", 2));
+    let wrong: &[u8] = b"get\r\n";
+    let line: &[u8] = b"migctl: text 4 WrongWords\n";
+    runs_with(&rt, alloc, wrong, (1, 2), 1, (b"", 0), (line, 1));
+    let half = &line[..line.len() / 2];
+    runs_with(&rt, alloc, wrong, (1, 1), 1, (b"", 0), (half, 2));
+}
+
+#[test]
+fn each_read_fails(rt: HostRuntime) {
+    let alloc = rt.alloc();
+    let words = plan_at("sum", "999");
+    let input: &[u8] = b"get k\r\nget";
+    for call in 1..8 {
+        let mut source = FailsAt::new(byte_by_byte(input), call);
+        let ran = run_over(alloc, &words, &mut source);
+        expect_run(&rt, &ran, 1, b"", b"migctl: input\n");
+    }
+    let mut source = FailsAt::new(byte_by_byte(input), 8);
+    let ran = run_over(alloc, &words, &mut source);
+    expect_run(
+        &rt,
+        &ran,
+        0,
+        b"phase old-only at 999\nleg 0 old 7002\n",
+        b"",
+    );
+    let ran = run_over(alloc, &words, &mut source);
+    expect_run(&rt, &ran, 1, b"", b"migctl: input\n");
+}
