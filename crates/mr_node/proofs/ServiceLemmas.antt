@@ -14,7 +14,9 @@ use Rattle.mr_node.specs.declared.ended.Ended.TheVariants as how
 use Rattle.mr_node.specs.declared.error.NodeError.{NodeError}
 use Rattle.mr_node.specs.declared.service.step.Step.{Step}
 use Rattle.mr_node.specs.declared.service.step.Step.TheVariants.{Served, Waits, Ends}
+use Rattle.mr_text.specs.Sink.{SinkView}
 use Rattle.mr_node.specs.Output.{IsServed}
+use Rattle.mr_node.specs.Session.{Station, station}
 use Rattle.mr_node.specs.Output.Exchange.{Asked, Unknown}
 use Rattle.mr_node.specs.Step.{RequestIs, RefusalIs, StepIs, EndIs}
 
@@ -29,20 +31,25 @@ spelling_not_empty bytes (Delete key false) is = line_not_empty bytes is.is_line
 spelling_not_empty bytes (Delete key true) is = line_not_empty bytes is.is_line.line is.is_line.is_line
 spelling_not_empty bytes Quit is = line_not_empty bytes is.is_line.line is.is_line.is_line
 
+pub served_unless_quit : (request : Request) → request ≢ Quit → IsServed request
+served_unless_quit (Get keys) other = tt
+served_unless_quit (Set key flags exptime block noreply) other = tt
+served_unless_quit (Delete key noreply) other = tt
+served_unless_quit Quit other = absurd (other refl)
+
 pub served_is_not_quit : (request : Request) → IsServed request → is_quit request ≡ false
 served_is_not_quit (Get keys) is = refl
 served_is_not_quit (Set key flags exptime block noreply) is = refl
 served_is_not_quit (Delete key noreply) is = refl
 served_is_not_quit Quit is = absurd is
 
-module _ {C P : Type 0} (Does : C → P → Request → Reply → C → P → Type 0) (written written' : List ℕ) (failures failures' : ℕ)
-    (clock : C) (node : P) (rest : List ℕ) (old new : ReaderView) where
+module _ {C P : Type 0} (Does : C → P → Request → Reply → C → P → Type 0) (rest : List ℕ) (old new : ReaderView) where
   -- a request that was read is served
-  pub step_of_request : (clock' : C) (node' : P) (request : Request) (result : Result Step NodeError)
+  pub step_of_request : (before after : Station C P) (request : Request) (result : Result Step NodeError)
       → NextIs SpellsRequest RefusesRequest SkipsLine is_quit old new rest (Ok (Some request))
-      → RequestIs Does written written' failures failures' clock node clock' node' request result
-      → StepIs Does written written' failures failures' clock node clock' node' old.ended rest new result
-  step_of_request clock' node' request (Ok Served) next is = (
+      → RequestIs Does before after request result
+      → StepIs Does before after old.ended rest new result
+  step_of_request before after request (Ok Served) next is = (
     Asked request is.1,
     next.2.spelling,
     next.1,
@@ -51,72 +58,71 @@ module _ {C P : Type 0} (Does : C → P → Request → Reply → C → P → Ty
     (next.2.spells, is.0),
     is.2,
     is.3,
-    is.4,
     subst (Becomes new next.1 old.ended) (served_is_not_quit request is.0) next.3,
   )
-  step_of_request clock' node' request (Ok Waits) next is = absurd is
-  step_of_request clock' node' request (Ok (Ends stop)) next is =
-      subst (λ (e : Ended). EndIs Does written written' failures failures' clock node clock' node' old.ended rest new e) (sym is.1)
+  step_of_request before after request (Ok Waits) next is = absurd is
+  step_of_request before after request (Ok (Ends stop)) next is =
+      subst (λ (e : Ended). EndIs Does before after old.ended rest new e) (sym is.1)
       (is.2, (next.1, subst (λ (q : Request). BeginsWith SpellsRequest rest q next.1) is.0 next.2))
-  step_of_request clock' node' request (Err e) next is = inr (
+  step_of_request before after request (Err e) next is = inr (
     is.0,
-    inl (Asked request is.2.0, next.2.spelling, next.1, next.2.splits, (next.2.spells, is.1), is.2.1),
+    inl (Asked request is.2, next.2.spelling, next.1, next.2.splits, (next.2.spells, is.1), is.3, is.4),
   )
 
-  -- a refusal that closes the reader ends the service
-  ends_refused : (refusal : TextError) (result : Result Step NodeError) → FaultAt SpellsRequest RefusesRequest refusal rest
-      → skips_line refusal ≡ false → (refusal ≡ Truncated → old.ended ≡ true) → refusal ≢ OutOfMemory
-      → RefusalIs written written' failures failures' refusal result
-      → StepIs Does written written' failures failures' clock node clock node old.ended rest new result
-  ends_refused refusal (Ok step) fault closes cut other is =
-      let ends : step ≡ Ends (how.Refused (number_of_refusal refusal)) =
-      is.1 ∙ ap (λ (b : Bool). cond b Served (Ends (how.Refused (number_of_refusal refusal)))) closes in
-      subst (λ (s : Step). StepIs Does written written' failures failures' clock node clock node old.ended rest new (Ok s)) (sym ends)
-      (refl, refl, refusal, fault, closes, cut, refl, is.2, is.3)
-  ends_refused refusal (Err e) fault closes cut other (inl is) = absurd (other is.0)
-  ends_refused refusal (Err e) fault closes cut other (inr is) = inr (is.0, inr (refusal, fault, closes, is.1, refl, refl))
+  module _ (clock : C) (node : P) (written written' : SinkView) where
+    -- a refusal that closes the reader ends the service
+    ends_refused : (refusal : TextError) (result : Result Step NodeError) → FaultAt SpellsRequest RefusesRequest refusal rest
+        → skips_line refusal ≡ false → (refusal ≡ Truncated → old.ended ≡ true) → refusal ≢ OutOfMemory
+        → RefusalIs refusal written result written'
+        → StepIs Does (station clock node written) (station clock node written') old.ended rest new result
+    ends_refused refusal (Ok step) fault closes cut other is =
+        let ends : step ≡ Ends (how.Refused (number_of_refusal refusal)) =
+        is.1 ∙ ap (λ (b : Bool). cond b Served (Ends (how.Refused (number_of_refusal refusal)))) closes in
+        subst (λ (s : Step). StepIs Does (station clock node written) (station clock node written') old.ended rest new (Ok s)) (sym ends)
+        (refl, refl, refusal, fault, closes, cut, refl, is.2)
+    ends_refused refusal (Err e) fault closes cut other (inl is) = absurd (other is.0)
+    ends_refused refusal (Err e) fault closes cut other (inr is) = inr (is.0, inr (refusal, fault, closes, refl, refl, is.1))
 
-  skips_unknown : (result : Result Step NodeError) (after : List ℕ) → SkipsLine rest after → Becomes new after old.ended false
-      → RefusalIs written written' failures failures' (UnknownCommand false) result
-      → StepIs Does written written' failures failures' clock node clock node old.ended rest new result
-  skips_unknown (Ok step) after skips becomes is =
-      subst (λ (s : Step). StepIs Does written written' failures failures' clock node clock node old.ended rest new (Ok s)) (sym is.1) (
-        Unknown,
-        skips.line,
-        after,
-        line_not_empty skips.line skips.is_line.line skips.is_line.is_line,
-        skips.splits,
-        (skips.words, skips.is_line, skips.unknown),
-        (refl, refl),
-        is.2,
-        is.3,
-        becomes,
-      )
-  skips_unknown (Err e) after skips becomes (inl is) = cc
-  skips_unknown (Err e) after skips becomes (inr is) = inr (
-    is.0,
-    inl (Unknown, skips.line, after, skips.splits, (skips.words, skips.is_line, skips.unknown), (refl, refl)),
-  )
+    skips_unknown : (result : Result Step NodeError) (after : List ℕ) → SkipsLine rest after → Becomes new after old.ended false
+        → RefusalIs (UnknownCommand false) written result written'
+        → StepIs Does (station clock node written) (station clock node written') old.ended rest new result
+    skips_unknown (Ok step) after skips becomes is =
+        subst (λ (s : Step). StepIs Does (station clock node written) (station clock node written') old.ended rest new (Ok s)) (sym is.1) (
+          Unknown,
+          skips.line,
+          after,
+          line_not_empty skips.line skips.is_line.line skips.is_line.is_line,
+          skips.splits,
+          (skips.words, skips.is_line, skips.unknown),
+          (refl, refl),
+          is.2,
+          becomes,
+        )
+    skips_unknown (Err e) after skips becomes (inl is) = cc
+    skips_unknown (Err e) after skips becomes (inr is) = inr (
+      is.0,
+      inl (Unknown, skips.line, after, skips.splits, (skips.words, skips.is_line, skips.unknown), (refl, refl), is.1),
+    )
 
-  lacks_memory : (result : Result Step NodeError) → RefusalIs written written' failures failures' OutOfMemory result
-      → StepIs Does written written' failures failures' clock node clock node old.ended rest new result
-  lacks_memory (Ok step) is = absurd (is.0 refl)
-  lacks_memory (Err e) (inl is) = inl (is.1, (refl, refl, is.2, is.3))
-  lacks_memory (Err e) (inr is) = (let answered = is.1 in cc)
+    lacks_memory : (result : Result Step NodeError) → RefusalIs OutOfMemory written result written'
+        → StepIs Does (station clock node written) (station clock node written') old.ended rest new result
+    lacks_memory (Ok step) is = absurd (is.0 refl)
+    lacks_memory (Err e) (inl is) = inl (is.1, ap (station clock node) is.2)
+    lacks_memory (Err e) (inr is) = absurd is.1
 
-  -- a refusal is answered
-  pub step_of_refusal : (refusal : TextError) (result : Result Step NodeError) → old.closed ≡ false
-      → NextIs SpellsRequest RefusesRequest SkipsLine is_quit old new rest (Err refusal)
-      → RefusalIs written written' failures failures' refusal result
-      → StepIs Does written written' failures failures' clock node clock node old.ended rest new result
-  step_of_refusal LineTooLong result going next is = ends_refused LineTooLong result next.1 refl (λ e. cc) (λ e. cc) is
-  step_of_refusal BadKey result going next is = ends_refused BadKey result next.1 refl (λ e. cc) (λ e. cc) is
-  step_of_refusal BadNumber result going next is = ends_refused BadNumber result next.1 refl (λ e. cc) (λ e. cc) is
-  step_of_refusal WrongWords result going next is = ends_refused WrongWords result next.1 refl (λ e. cc) (λ e. cc) is
-  step_of_refusal DataTooLong result going next is = ends_refused DataTooLong result next.1 refl (λ e. cc) (λ e. cc) is
-  step_of_refusal BadDataEnd result going next is = ends_refused BadDataEnd result next.1 refl (λ e. cc) (λ e. cc) is
-  step_of_refusal (UnknownCommand true) result going next is = ends_refused (UnknownCommand true) result next.1 refl (λ e. cc) (λ e. cc) is
-  step_of_refusal (UnknownCommand false) result going next is = skips_unknown result next.1 next.2 next.3 is
-  step_of_refusal Truncated result going next is = ends_refused Truncated result next.2 refl (λ e. next.1) (λ e. cc) is
-  step_of_refusal Closed result going next is = (let shut = next.0 in let both : true ≡ false = sym shut ∙ going in cc)
-  step_of_refusal OutOfMemory result going next is = lacks_memory result is
+    -- a refusal is answered
+    pub step_of_refusal : (refusal : TextError) (result : Result Step NodeError) → old.closed ≡ false
+        → NextIs SpellsRequest RefusesRequest SkipsLine is_quit old new rest (Err refusal)
+        → RefusalIs refusal written result written'
+        → StepIs Does (station clock node written) (station clock node written') old.ended rest new result
+    step_of_refusal LineTooLong result going next is = ends_refused LineTooLong result next.1 refl (λ e. cc) (λ e. cc) is
+    step_of_refusal BadKey result going next is = ends_refused BadKey result next.1 refl (λ e. cc) (λ e. cc) is
+    step_of_refusal BadNumber result going next is = ends_refused BadNumber result next.1 refl (λ e. cc) (λ e. cc) is
+    step_of_refusal WrongWords result going next is = ends_refused WrongWords result next.1 refl (λ e. cc) (λ e. cc) is
+    step_of_refusal DataTooLong result going next is = ends_refused DataTooLong result next.1 refl (λ e. cc) (λ e. cc) is
+    step_of_refusal BadDataEnd result going next is = ends_refused BadDataEnd result next.1 refl (λ e. cc) (λ e. cc) is
+    step_of_refusal (UnknownCommand true) result going next is = ends_refused (UnknownCommand true) result next.1 refl (λ e. cc) (λ e. cc) is
+    step_of_refusal (UnknownCommand false) result going next is = skips_unknown result next.1 next.2 next.3 is
+    step_of_refusal Truncated result going next is = ends_refused Truncated result next.2 refl (λ e. next.1) (λ e. cc) is
+    step_of_refusal Closed result going next is = (let shut = next.0 in let both : true ≡ false = sym shut ∙ going in cc)
+    step_of_refusal OutOfMemory result going next is = lacks_memory result is

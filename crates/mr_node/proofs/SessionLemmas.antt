@@ -1,215 +1,237 @@
 -- What a service has read, done and written so far.
-use Rattle.std.proofs.Common.{◌≡◌, ◌≢◌, ◌∙◌, ℕ, ◌+◌, ◌<◌, ◌≤◌, List, [], ◌∷◌, ◌++◌, length, Bool, true, false, Option, Result, Ok, Err, refl, sym, ap, subst, inl, inr, arith, append_assoc, length-append}
-use Rattle.std.specs.Io.KnownBytes.{IsAtEnd}
+use Rattle.std.proofs.Common.{◌≡◌, ◌≢◌, ◌∙◌, ℕ, ◌+◌, ◌*◌, ◌<◌, ◌≤◌, List, [], ◌∷◌, ◌++◌, length, Bool, true, false, Option, Some, None, Result, Ok, Err, refl, sym, ap, subst, inl, inr, arith, append_assoc, length-append}
+use Rattle.std.specs.Io.KnownBytes.{Consumes, Keeps, IsAtEnd}
+use Rattle.std.proofs.KnownBytes.{Consumes-nil, Consumes-trans, Consumes-kept}
 use Rattle.std.proofs.lemmas.List.{append-nil}
 use Rattle.std.proofs.lemmas.Grind.{flat_map-append}
+use Rattle.mr_text.specs.Sink.{SinkView, HasWritten, HasStopped}
+use Rattle.mr_text.specs.Source.{SourceView}
 use Rattle.mr_text.specs.Stream.{ReaderView, Becomes}
 use Rattle.mr_text.specs.declared.reply.Reply.{Reply}
 use Rattle.mr_text.specs.declared.request.Request.{Request}
+use Rattle.mr_text.proofs.Writes.{written_none, written_then}
 use Rattle.mr_node.specs.declared.ended.Ended.{Ended}
 use Rattle.mr_node.specs.declared.ended.Ended.TheVariants as how
 use Rattle.mr_node.specs.declared.error.NodeError.{NodeError}
-use Rattle.mr_node.specs.declared.error.NodeError.TheVariants.{OutOfMemory, ReadFault, WriteFault, TurnsSpent}
+use Rattle.mr_node.specs.declared.error.NodeError.TheVariants.{ZeroCapacity, OutOfMemory, ReadFault, WriteFault, TurnsSpent}
 use Rattle.mr_node.specs.declared.service.step.Step.{Step}
 use Rattle.mr_node.specs.declared.service.step.Step.TheVariants.{Served, Waits, Ends}
-use Rattle.mr_node.specs.Output.{Exchange, Reads, SpellsExchange, output_of, text_of_exchange}
-use Rattle.mr_node.specs.Session.{Performs, DoesExchange, Serves, ServiceIs}
+use Rattle.mr_node.specs.Output.{Exchange, Reads, SpellsExchange, answer_of, output_of, text_of_answer, text_of_exchange}
+use Rattle.mr_node.specs.Session.{Station, Answers, StopsAnswering, Performs, DoesExchange, Serves, IsUnanswered, ServiceIs}
 use Rattle.mr_node.specs.Step.{StepIs, PieceIs}
 
-module _ {C P : Type 0} (Does : C → P → Request → Reply → C → P → Type 0) (taken written : List ℕ) (clock : C) (node : P) where
-  serves_nothing : Serves Does taken taken written written clock node clock node []
+-- an answer is its text, all of it
+answered : (answer : Option Reply) (old new : SinkView) → Answers answer old new → HasWritten (text_of_answer answer) old new
+answered None old new is = subst (λ (w : SinkView). HasWritten [] old w) (sym is) (written_none old)
+answered (Some reply) old new is = is.0
+
+answered_well : (answer : Option Reply) (old new : SinkView) → Answers answer old new → new.failures ≡ old.failures
+answered_well answer old new is = (answered answer old new is).steady
+
+stopped : (answer : Option Reply) (old new : SinkView) → StopsAnswering answer old new → (new.failures ≡ old.failures + 1) × (new.last_failed ≡ true)
+stopped None old new is = absurd is
+stopped (Some reply) old new is = (is.0.failed, is.0.last)
+
+module _ {C P : Type 0} (Does : C → P → Request → Reply → C → P → Type 0) (reader : SourceView) (old : Station C P) where
+  serves_nothing : Serves Does reader reader old old []
   serves_nothing = record {
     exchanges = [];
     bytes = [];
-    takes = sym (append-nil taken);
+    takes = sym (append-nil reader.taken);
+    leaves = Consumes-nil reader.left;
     reads = Reads.begins;
     performs = Performs.begins;
-    writes = sym (append-nil written);
+    writes = written_none old.writer;
   }
 
   -- one more exchange
-  serves_more : (taken' written' written'' rest spelling after : List ℕ) (c d : C) (p q : P) (exchange : Exchange)
-      → Serves Does taken taken' written written' clock node c p rest → rest ≡ spelling ++ after → SpellsExchange spelling exchange
-      → DoesExchange Does c p exchange d q → written'' ≡ written' ++ text_of_exchange exchange
-      → Serves Does taken taken' written written'' clock node d q after
-  serves_more taken' written' written'' rest spelling after c d p q exchange so splits spells does writes = record {
-    exchanges = so.exchanges ++ exchange ∷ [];
-    bytes = so.bytes ++ spelling;
-    takes = so.takes ∙ ap (λ (r : List ℕ). taken ++ (so.bytes ++ r)) splits ∙ ap (λ (r : List ℕ). taken ++ r) (sym (append_assoc so.bytes spelling after));
-    reads = Reads.reads spelling exchange so.reads spells;
-    performs = Performs.performs exchange so.performs does;
-    writes =
-        (let more : output_of (so.exchanges ++ exchange ∷ []) ≡ output_of so.exchanges ++ text_of_exchange exchange =
-        flat_map-append text_of_exchange so.exchanges (exchange ∷ []) ∙ ap (λ (t : List ℕ). output_of so.exchanges ++ t) (append-nil (text_of_exchange exchange)) in
-        writes ∙ ap (λ (w : List ℕ). w ++ text_of_exchange exchange) so.writes
-        ∙ append_assoc written (output_of so.exchanges) (text_of_exchange exchange) ∙ ap (λ (t : List ℕ). written ++ t) (sym more));
-  }
+  serves_more : (reader' : SourceView) (between new : Station C P) (rest spelling after : List ℕ) (exchange : Exchange)
+      → Serves Does reader reader' old between rest → rest ≡ spelling ++ after → SpellsExchange spelling exchange
+      → DoesExchange Does between exchange new → Answers (answer_of exchange) between.writer new.writer
+      → Serves Does reader reader' old new after
+  serves_more reader' between new rest spelling after exchange so splits spells does answers =
+      let same : so.bytes ++ rest ≡ (so.bytes ++ spelling) ++ after = ap (λ (r : List ℕ). so.bytes ++ r) splits ∙ sym (append_assoc so.bytes spelling after) in
+      let more : output_of so.exchanges ++ text_of_exchange exchange ≡ output_of (so.exchanges ++ exchange ∷ []) =
+          sym (flat_map-append text_of_exchange so.exchanges (exchange ∷ []) ∙ ap (λ (t : List ℕ). output_of so.exchanges ++ t) (append-nil (text_of_exchange exchange))) in
+      record {
+        exchanges = so.exchanges ++ exchange ∷ [];
+        bytes = so.bytes ++ spelling;
+        takes = so.takes ∙ ap (λ (r : List ℕ). reader.taken ++ r) same;
+        leaves = subst (λ (r : List ℕ). Consumes reader.left reader'.left r) same so.leaves;
+        reads = Reads.reads spelling exchange so.reads spells;
+        performs = Performs.performs exchange so.performs does answers;
+        writes = subst (λ (t : List ℕ). HasWritten t old.writer new.writer) more
+            (written_then (output_of so.exchanges) (text_of_exchange exchange) old.writer between.writer new.writer so.writes
+            (answered (answer_of exchange) between.writer new.writer answers));
+      }
 
   -- more bytes come
-  serves_fed : (taken' taken'' written' rest piece : List ℕ) (c : C) (p : P) → Serves Does taken taken' written written' clock node c p rest
-      → taken'' ≡ taken' ++ piece → Serves Does taken taken'' written written' clock node c p (rest ++ piece)
-  serves_fed taken' taken'' written' rest piece c p so more = record {
+  serves_fed : (reader' reader'' : SourceView) (now : Station C P) (rest piece : List ℕ) → Serves Does reader reader' old now rest
+      → reader''.taken ≡ reader'.taken ++ piece → Consumes reader'.left reader''.left piece → Serves Does reader reader'' old now (rest ++ piece)
+  serves_fed reader' reader'' now rest piece so more gone = record {
     exchanges = so.exchanges;
     bytes = so.bytes;
-    takes = more ∙ ap (λ (t : List ℕ). t ++ piece) so.takes ∙ append_assoc taken (so.bytes ++ rest) piece
-        ∙ ap (λ (t : List ℕ). taken ++ t) (append_assoc so.bytes rest piece);
+    takes = more ∙ ap (λ (t : List ℕ). t ++ piece) so.takes ∙ append_assoc reader.taken (so.bytes ++ rest) piece
+        ∙ ap (λ (t : List ℕ). reader.taken ++ t) (append_assoc so.bytes rest piece);
+    leaves = subst (λ (r : List ℕ). Consumes reader.left reader''.left r) (append_assoc so.bytes rest piece)
+        (Consumes-trans reader.left reader'.left reader''.left (so.bytes ++ rest) piece so.leaves gone);
     reads = so.reads;
     performs = so.performs;
     writes = so.writes;
   }
 
-  -- nothing is done
-  serves_same : (taken' written' written'' rest : List ℕ) (c d : C) (p q : P) → Serves Does taken taken' written written' clock node c p rest
-      → d ≡ c → q ≡ p → written'' ≡ written' → Serves Does taken taken' written written'' clock node d q rest
-  serves_same taken' written' written'' rest c d p q so same_clock same_node same_text = record {
+  -- none come
+  serves_unfed : (reader' reader'' : SourceView) (now : Station C P) (rest : List ℕ) → Serves Does reader reader' old now rest
+      → reader''.taken ≡ reader'.taken → Keeps reader'.left reader''.left → Serves Does reader reader'' old now rest
+  serves_unfed reader' reader'' now rest so none kept = record {
     exchanges = so.exchanges;
     bytes = so.bytes;
-    takes = so.takes;
+    takes = none ∙ so.takes;
+    leaves = Consumes-kept reader.left reader'.left reader''.left (so.bytes ++ rest) so.leaves kept;
     reads = so.reads;
-    performs = subst (λ (x : C). Performs Does clock node so.exchanges x q) (sym same_clock)
-        (subst (λ (y : P). Performs Does clock node so.exchanges c y) (sym same_node) so.performs);
-    writes = same_text ∙ so.writes;
+    performs = so.performs;
+    writes = so.writes;
   }
 
-  -- a service under way: `left` is what is left to take, and the last two counts are of the reader's and the writer's failures
-  pub record UnderWay (taken' : List ℕ) (left : Option (List ℕ)) (written' : List ℕ) (c : C) (p : P) (requests : ReaderView) (ended : Bool) : Type 0 where
+  -- a service under way
+  pub record UnderWay (reader' : SourceView) (now : Station C P) (requests : ReaderView) (ended : Bool) : Type 0 where
     pub rest : List ℕ
     pub becomes : Becomes requests rest ended false
-    pub serves : Serves Does taken taken' written written' clock node c p rest
-    pub at_end : ended ≡ true → IsAtEnd left
+    pub serves : Serves Does reader reader' old now rest
+    pub at_end : ended ≡ true → IsAtEnd reader'.left
 
-  pub begins_so : (left : Option (List ℕ)) (requests : ReaderView) → Becomes requests [] false false → UnderWay taken left written clock node requests false
-  begins_so left requests becomes = record {
+  pub begins_so : (requests : ReaderView) → Becomes requests [] false false → UnderWay reader old requests false
+  begins_so requests becomes = record {
     rest = [];
     becomes = becomes;
     serves = serves_nothing;
     at_end = λ e. cc;
   }
 
-  module _ (taken' : List ℕ) (left : Option (List ℕ)) (written' written'' : List ℕ) (failures failures' : ℕ) (c d : C) (p q : P) (requests requests' : ReaderView) (ended : Bool)
-      (so : UnderWay taken' left written' c p requests ended) where
+  module _ (reader' : SourceView) (now new : Station C P) (requests requests' : ReaderView) (ended : Bool) (so : UnderWay reader' now requests ended) where
     -- what a step says, where its result is known
     pub stepped : (result result' : Result Step NodeError) → result ≡ result'
-        → StepIs Does written' written'' failures failures' c p d q requests.ended so.rest requests' result
-        → StepIs Does written' written'' failures failures' c p d q ended so.rest requests' result'
+        → StepIs Does now new requests.ended so.rest requests' result → StepIs Does now new ended so.rest requests' result'
     stepped result result' is step =
-        subst (λ (b : Bool). StepIs Does written' written'' failures failures' c p d q b so.rest requests' result') so.becomes.is_ended
-        (subst (λ (r : Result Step NodeError). StepIs Does written' written'' failures failures' c p d q requests.ended so.rest requests' r) is step)
+        subst (λ (b : Bool). StepIs Does now new b so.rest requests' result') so.becomes.is_ended
+        (subst (λ (r : Result Step NodeError). StepIs Does now new requests.ended so.rest requests' r) is step)
 
     -- a request was served
-    pub goes_on : StepIs Does written' written'' failures failures' c p d q ended so.rest requests' (Ok Served)
-        → UnderWay taken' left written'' d q requests' ended
+    pub goes_on : StepIs Does now new ended so.rest requests' (Ok Served) → UnderWay reader' new requests' ended
     goes_on step = record {
       rest = step.2;
-      becomes = step.9;
-      serves = serves_more taken' written' written'' so.rest step.1 step.2 c d p q step.0 so.serves step.4 step.5 step.6 step.7;
+      becomes = step.8;
+      serves = serves_more reader' now new so.rest step.1 step.2 step.0 so.serves step.4 step.5 step.6 step.7;
       at_end = so.at_end;
     }
 
-    pub served_without_fault : StepIs Does written' written'' failures failures' c p d q ended so.rest requests' (Ok Served) → failures' ≡ failures
-    served_without_fault step = step.8
-
-    pub waits_without_fault : StepIs Does written' written'' failures failures' c p d q ended so.rest requests' (Ok Waits) → failures' ≡ failures
-    waits_without_fault step = step.0.3
-
-    pub waits_for : StepIs Does written' written'' failures failures' c p d q ended so.rest requests' (Ok Waits) → Becomes requests' so.rest ended false
+    pub waits_for : StepIs Does now new ended so.rest requests' (Ok Waits) → Becomes requests' so.rest ended false
     waits_for step = step.3
 
-    pub writer_failed : (e : NodeError) → StepIs Does written' written'' failures failures' c p d q ended so.rest requests' (Err e)
-        → e ≡ WriteFault → failures < failures'
-    writer_failed e (inl step) fault = (let memory = step.0 in let both : OutOfMemory ≡ WriteFault = sym memory ∙ fault in cc)
-    writer_failed e (inr step) fault = step.0.1
-
-    -- the writer failed nowhere else
-    pub writer_well : (e : NodeError) → StepIs Does written' written'' failures failures' c p d q ended so.rest requests' (Err e)
-        → e ≢ WriteFault → failures' ≡ failures
-    writer_well e (inl step) other = step.1.3
-    writer_well e (inr step) other = absurd (other step.0.0)
-
-    pub ended_without_fault : (how : Ended) → StepIs Does written' written'' failures failures' c p d q ended so.rest requests' (Ok (Ends how))
-        → failures' ≡ failures
-    ended_without_fault how.Quit step = step.0.3
-    ended_without_fault how.Ended step = absurd step
-    ended_without_fault (how.Refused number) step = step.8
-
-    pub shrinks : StepIs Does written' written'' failures failures' c p d q ended so.rest requests' (Ok Served)
-        → length requests'.kept < length requests.kept
+    pub shrinks : StepIs Does now new ended so.rest requests' (Ok Served) → length requests'.kept < length requests.kept
     shrinks step =
         let kept : requests.kept ≡ step.1 ++ step.2 = so.becomes.stands ∙ step.4 in
-        let left : requests'.kept ≡ step.2 = step.9.stands in
+        let left : requests'.kept ≡ step.2 = step.8.stands in
         let some : 1 ≤ length step.1 = step.3 in
         omega (arith, ap (λ (l : List ℕ). length l) kept, ap (λ (l : List ℕ). length l) left, length-append step.1 step.2)
 
-    -- the service ends
-    pub ends : (how : Ended) → StepIs Does written' written'' failures failures' c p d q ended so.rest requests' (Ok (Ends how))
-        → ServiceIs Does taken taken' left written written'' clock node d q (Ok how)
-    ends how.Quit step =
-        (so.rest, written'', [], serves_same taken' written' written'' so.rest c d p q so.serves step.0.0 step.0.1 step.0.2, (step.1, refl), sym (append-nil written''))
-    ends how.Ended step = absurd step
-    ends (how.Refused number) step = (
-      so.rest,
-      written',
-      _,
-      serves_same taken' written' written' so.rest c d p q so.serves step.0 step.1 refl,
-      (step.2, step.3, step.4, (λ e. so.at_end (step.5 e)), step.6, refl),
-      step.7,
-    )
-
     -- nothing is whole
-    pub waits : StepIs Does written' written'' failures failures' c p d q ended so.rest requests' (Ok Waits)
-        → Serves Does taken taken' written written'' clock node d q so.rest
-    waits step = serves_same taken' written' written'' so.rest c d p q so.serves step.0.0 step.0.1 step.0.2
+    waits : StepIs Does now new ended so.rest requests' (Ok Waits) → Serves Does reader reader' old new so.rest
+    waits step = subst (λ (s : Station C P). Serves Does reader reader' old s so.rest) (sym step.0) so.serves
 
-    pub all_read : StepIs Does written' written'' failures failures' c p d q ended so.rest requests' (Ok Waits) → ended ≡ true
-        → ServiceIs Does taken taken' left written written'' clock node d q (Ok how.Ended)
+    -- the service ends
+    pub ends : (how : Ended) → StepIs Does now new ended so.rest requests' (Ok (Ends how)) → ServiceIs Does reader reader' old new (Ok how)
+    ends how.Quit step =
+        (so.rest, None, now, so.serves, (step.1, refl), ap (λ (s : Station C P). s.clock) step.0, ap (λ (s : Station C P). s.node) step.0,
+        ap (λ (s : Station C P). s.writer) step.0)
+    ends how.Ended step = absurd step
+    ends (how.Refused number) step =
+        (so.rest, _, now, so.serves, (step.2, step.3, step.4, (λ e. so.at_end (step.5 e)), step.6, refl), step.0, step.1, step.7)
+
+    pub all_read : StepIs Does now new ended so.rest requests' (Ok Waits) → ended ≡ true → ServiceIs Does reader reader' old new (Ok how.Ended)
     all_read step done =
-        (so.rest, written'', [], waits step, (step.2 done, so.at_end done, refl), sym (append-nil written''))
+        (so.rest, None, now, so.serves, (step.2 done, so.at_end done, refl), ap (λ (s : Station C P). s.clock) step.0, ap (λ (s : Station C P). s.node) step.0,
+        ap (λ (s : Station C P). s.writer) step.0)
 
-    pub spent : StepIs Does written' written'' failures failures' c p d q ended so.rest requests' (Ok Waits)
-        → ServiceIs Does taken taken' left written written'' clock node d q (Err TurnsSpent)
+    pub spent : StepIs Does now new ended so.rest requests' (Ok Waits) → ServiceIs Does reader reader' old new (Err TurnsSpent)
     spent step = (so.rest, waits step, step.1)
 
-    pub step_fails : (e : NodeError) → StepIs Does written' written'' failures failures' c p d q ended so.rest requests' (Err e)
-        → ServiceIs Does taken taken' left written written'' clock node d q (Err e)
-    step_fails e (inl step) = subst (λ (x : NodeError). ServiceIs Does taken taken' left written written'' clock node d q (Err x)) (sym step.0)
-        (so.rest, serves_same taken' written' written'' so.rest c d p q so.serves step.1.0 step.1.1 step.1.2)
-    step_fails e (inr step) = subst (λ (x : NodeError). ServiceIs Does taken taken' left written written'' clock node d q (Err x)) (sym step.0.0)
-        (so.rest, written', c, p, so.serves, step.1)
+    pub step_fails : (e : NodeError) → StepIs Does now new ended so.rest requests' (Err e) → ServiceIs Does reader reader' old new (Err e)
+    step_fails e (inl step) = subst (λ (x : NodeError). ServiceIs Does reader reader' old new (Err x)) (sym step.0)
+        (so.rest, subst (λ (s : Station C P). Serves Does reader reader' old s so.rest) (sym step.1) so.serves)
+    step_fails e (inr step) = subst (λ (x : NodeError). ServiceIs Does reader reader' old new (Err x)) (sym step.0)
+        (so.rest, now, so.serves, step.1)
+
+    -- a step that fails is no fault of the reader
+    pub step_reads_well : (e : NodeError) → StepIs Does now new ended so.rest requests' (Err e) → e ≢ ReadFault
+    step_reads_well e (inl step) fault = (let memory = step.0 in let both : OutOfMemory ≡ ReadFault = sym memory ∙ fault in cc)
+    step_reads_well e (inr step) fault = (let write = step.0 in let both : WriteFault ≡ ReadFault = sym write ∙ fault in cc)
+
+    pub step_not_spent : (e : NodeError) → StepIs Does now new ended so.rest requests' (Err e) → e ≢ TurnsSpent
+    step_not_spent e (inl step) fault = (let memory = step.0 in let both : OutOfMemory ≡ TurnsSpent = sym memory ∙ fault in cc)
+    step_not_spent e (inr step) fault = (let write = step.0 in let both : WriteFault ≡ TurnsSpent = sym write ∙ fault in cc)
 
     -- bytes came, or the end of the input
-    pub fed : (most : ℕ) (taken'' : List ℕ) (left' : Option (List ℕ)) (read_failures read_failures' : ℕ) (requests'' : ReaderView) (ended' : Bool)
-        → StepIs Does written' written'' failures failures' c p d q ended so.rest requests' (Ok Waits)
-        → PieceIs most so.rest requests'' taken' taken'' left' read_failures read_failures' (Ok ended')
-        → UnderWay taken'' left' written'' d q requests'' ended'
-    fed most taken'' left' read_failures read_failures' requests'' ended' step piece = record {
+    pub fed : (room : ℕ) (reader'' : SourceView) (requests'' : ReaderView) (ended' : Bool) → StepIs Does now new ended so.rest requests' (Ok Waits)
+        → PieceIs room so.rest requests'' reader' (Ok ended') reader'' → UnderWay reader'' new requests'' ended'
+    fed room reader'' requests'' ended' step piece = record {
       rest = so.rest ++ piece.0;
-      becomes = piece.3;
-      serves = serves_fed taken' taken'' written'' so.rest piece.0 d q (waits step) piece.1;
+      becomes = piece.6;
+      serves = serves_fed reader' reader'' new so.rest piece.0 (waits step) piece.1 piece.2;
       at_end = piece.5;
     }
 
-    pub read_fails : (most : ℕ) (taken'' : List ℕ) (left' : Option (List ℕ)) (read_failures read_failures' : ℕ) (requests'' : ReaderView) (e : NodeError)
-        → StepIs Does written' written'' failures failures' c p d q ended so.rest requests' (Ok Waits)
-        → PieceIs most so.rest requests'' taken' taken'' left' read_failures read_failures' (Err e)
-        → ServiceIs Does taken taken'' left' written written'' clock node d q (Err e)
-    read_fails most taken'' left' read_failures read_failures' requests'' e step (inl fault) =
-        subst (λ (x : NodeError). ServiceIs Does taken taken'' left' written written'' clock node d q (Err x)) (sym fault.0)
-        (so.rest, subst (λ (t : List ℕ). Serves Does taken t written written'' clock node d q so.rest) (sym fault.1) (waits step), step.1)
-    read_fails most taken'' left' read_failures read_failures' requests'' e step (inr lacks) =
-        subst (λ (x : NodeError). ServiceIs Does taken taken'' left' written written'' clock node d q (Err x)) (sym lacks.0)
-        (so.rest ++ lacks.1.0, serves_fed taken' taken'' written'' so.rest lacks.1.0 d q (waits step) lacks.1.1)
+    pub read_fails : (room : ℕ) (reader'' : SourceView) (requests'' : ReaderView) (e : NodeError) → StepIs Does now new ended so.rest requests' (Ok Waits)
+        → PieceIs room so.rest requests'' reader' (Err e) reader'' → ServiceIs Does reader reader'' old new (Err e)
+    read_fails room reader'' requests'' e step (inl fault) =
+        subst (λ (x : NodeError). ServiceIs Does reader reader'' old new (Err x)) (sym fault.0)
+        (so.rest, serves_unfed reader' reader'' new so.rest (waits step) fault.1 fault.2, step.1)
+    read_fails room reader'' requests'' e step (inr lacks) =
+        subst (λ (x : NodeError). ServiceIs Does reader reader'' old new (Err x)) (sym lacks.0)
+        (so.rest ++ lacks.1.0, serves_fed reader' reader'' new so.rest lacks.1.0 (waits step) lacks.1.1 lacks.1.2)
 
--- a read that ends otherwise is no fault of the reader
-pub reader_well : (most : ℕ) (rest : List ℕ) (requests : ReaderView) (taken taken' : List ℕ) (left : Option (List ℕ)) (failures failures' : ℕ) (e : NodeError)
-    → PieceIs most rest requests taken taken' left failures failures' (Err e) → e ≢ ReadFault → failures' ≡ failures
-reader_well most rest requests taken taken' left failures failures' e (inl fault) other = absurd (other fault.0)
-reader_well most rest requests taken taken' left failures failures' e (inr lacks) other = lacks.2
+  -- the writer failed once where a fault of it ends the service, and the call that failed was the last
+  pub write_fails : (reader' : SourceView) (new : Station C P) (result : Result Ended NodeError) → ServiceIs Does reader reader' old new result
+      → result ≡ Err WriteFault → (new.writer.failures ≡ old.writer.failures + 1) × (new.writer.last_failed ≡ true)
+  write_fails reader' new result is fault = failed (subst (ServiceIs Does reader reader' old new) fault is)
+    where failed : ServiceIs Does reader reader' old new (Err WriteFault) → (new.writer.failures ≡ old.writer.failures + 1) × (new.writer.last_failed ≡ true)
+          failed (rest, between, so, inl next) =
+              let stop = stopped (answer_of next.0) between.writer new.writer next.6 in
+              (stop.0 ∙ ap (λ n. n + 1) so.writes.steady, stop.1)
+          failed (rest, between, so, inr next) =
+              let stop = stopped _ between.writer new.writer next.5 in
+              (stop.0 ∙ ap (λ n. n + 1) so.writes.steady, stop.1)
+
+  -- the writer failed nowhere else
+  pub writes_well : (reader' : SourceView) (new : Station C P) (result : Result Ended NodeError) → ServiceIs Does reader reader' old new result
+      → result ≢ Err WriteFault → new.writer.failures ≡ old.writer.failures
+  writes_well reader' new (Ok ended) is other = answered_well is.1 is.2.writer new.writer is.7 ∙ is.3.writes.steady
+  writes_well reader' new (Err ZeroCapacity) is other = absurd is
+  writes_well reader' new (Err OutOfMemory) is other = is.1.writes.steady
+  writes_well reader' new (Err ReadFault) is other = is.1.writes.steady
+  writes_well reader' new (Err WriteFault) is other = absurd (other refl)
+  writes_well reader' new (Err TurnsSpent) is other = is.1.writes.steady
+
+-- a read that fails is a fault of the reader where it says so
+pub reader_fails : (room : ℕ) (rest : List ℕ) (requests : ReaderView) (old new : SourceView) (e : NodeError)
+    → PieceIs room rest requests old (Err e) new → e ≡ ReadFault → new.failures ≡ old.failures + 1
+reader_fails room rest requests old new e (inl fault) is = fault.3
+reader_fails room rest requests old new e (inr lacks) is = (let memory = lacks.0 in let both : OutOfMemory ≡ ReadFault = sym memory ∙ is in cc)
+
+pub reader_well : (room : ℕ) (rest : List ℕ) (requests : ReaderView) (old new : SourceView) (e : NodeError)
+    → PieceIs room rest requests old (Err e) new → e ≢ ReadFault → new.failures ≡ old.failures
+reader_well room rest requests old new e (inl fault) other = absurd (other fault.0)
+reader_well room rest requests old new e (inr lacks) other = lacks.2
+
+pub read_not_spent : (room : ℕ) (rest : List ℕ) (requests : ReaderView) (old new : SourceView) (e : NodeError)
+    → PieceIs room rest requests old (Err e) new → e ≢ TurnsSpent
+read_not_spent room rest requests old new e (inl fault) spent = (let is = fault.0 in let both : ReadFault ≡ TurnsSpent = sym is ∙ spent in cc)
+read_not_spent room rest requests old new e (inr lacks) spent = (let is = lacks.0 in let both : OutOfMemory ≡ TurnsSpent = sym is ∙ spent in cc)
 
 -- a read that fails brings no more than it may
-pub failed_read_within : (most : ℕ) (rest : List ℕ) (requests : ReaderView) (taken taken' : List ℕ) (left : Option (List ℕ)) (failures failures' : ℕ) (e : NodeError)
-    → PieceIs most rest requests taken taken' left failures failures' (Err e) → length taken' ≤ length taken + most
-failed_read_within most rest requests taken taken' left failures failures' e (inl fault) =
-    omega (arith, ap (λ (l : List ℕ). length l) fault.1)
-failed_read_within most rest requests taken taken' left failures failures' e (inr lacks) =
-    let few = lacks.1.2 in
-    omega (arith, ap (λ (l : List ℕ). length l) lacks.1.1, length-append taken lacks.1.0)
+pub failed_read_within : (room : ℕ) (rest : List ℕ) (requests : ReaderView) (old new : SourceView) (e : NodeError)
+    → PieceIs room rest requests old (Err e) new → length new.taken ≤ length old.taken + room
+failed_read_within room rest requests old new e (inl fault) = omega (arith, ap (λ (l : List ℕ). length l) fault.1)
+failed_read_within room rest requests old new e (inr lacks) =
+    let few = lacks.1.3 in
+    omega (arith, ap (λ (l : List ℕ). length l) lacks.1.1, length-append old.taken lacks.1.0)

@@ -45,14 +45,19 @@ reply_to_refusal Truncated = None
 reply_to_refusal Closed = None
 reply_to_refusal OutOfMemory = None
 
+-- the text of an answer, where there is one
 abbrev pub text_of_answer : Option Reply → List ℕ
 text_of_answer None = []
 text_of_answer (Some reply) = canonical_reply reply
 
+-- what an exchange is answered, where it is
+abbrev pub answer_of : Exchange → Option Reply
+answer_of (Asked request outcome) = if is_silent request then None else Some outcome
+answer_of Unknown = Some Error
+
 -- what is written for an exchange
 abbrev pub text_of_exchange : Exchange → List ℕ
-text_of_exchange (Asked request outcome) = if is_silent request then [] else canonical_reply outcome
-text_of_exchange Unknown = canonical_reply Error
+text_of_exchange exchange = text_of_answer (answer_of exchange)
 
 -- what is written for them all
 abbrev pub output_of : List Exchange → List ℕ

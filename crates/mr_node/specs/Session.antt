@@ -1,7 +1,11 @@
 -- What a service of requests has read, done and written, and how it ends.
-use Rattle.std.specs.Prelude.{◌≡◌, ℕ, ◌⊎◌, List, [], ◌∷◌, ◌++◌, false, Option, IsSome, Result, Ok, Err}
-use Rattle.std.specs.Io.KnownBytes.{IsAtEnd}
+use Rattle.std.specs.Prelude.{◌≡◌, ℕ, ◌⊎◌, List, [], ◌∷◌, ◌++◌, false, Option, Some, None, Result, Ok, Err}
+use Rattle.std.specs.Io.KnownBytes.{Consumes, IsAtEnd}
+use Rattle.mr_text.specs.Canonical.{canonical_reply}
+use Rattle.mr_text.specs.Gathering.{TakesFewCalls, parts_of_reply}
 use Rattle.mr_text.specs.Requests.{SpellsRequest, RefusesRequest}
+use Rattle.mr_text.specs.Sink.{SinkView, HasWritten, HasStopped}
+use Rattle.mr_text.specs.Source.{SourceView}
 use Rattle.mr_text.specs.Stream.{BeginsWith, IsUnfinished, FaultAt, skips_line}
 use Rattle.mr_text.specs.TextError.{number_of_refusal}
 use Rattle.mr_text.specs.declared.error.TextError.{TextError}
@@ -13,66 +17,83 @@ use Rattle.mr_node.specs.declared.ended.Ended.{Ended}
 use Rattle.mr_node.specs.declared.ended.Ended.TheVariants as how
 use Rattle.mr_node.specs.declared.error.NodeError.{NodeError}
 use Rattle.mr_node.specs.declared.error.NodeError.TheVariants.{ZeroCapacity, OutOfMemory, ReadFault, WriteFault, TurnsSpent}
-use Rattle.mr_node.specs.Output.{Exchange, Reads, SpellsExchange, output_of, reply_to_refusal, text_of_answer}
+use Rattle.mr_node.specs.Output.{Exchange, Reads, SpellsExchange, answer_of, output_of, reply_to_refusal}
 use Rattle.mr_node.specs.Output.Exchange.{Asked, Unknown}
 
--- the most bytes that one read may bring
-abbrev pub most_read : ℕ
-most_read = 4096
+-- how many bytes there is room for in each read
+abbrev pub read_length : ℕ
+read_length = 4096
 
--- what exchanges do, by what one request does
-abbrev pub DoesExchange : {C P : Type 0} → (C → P → Request → Reply → C → P → Type 0) → C → P → Exchange → C → P → Type 0
-DoesExchange Does clock node (Asked request outcome) clock' node' = Does clock node request outcome clock' node'
-DoesExchange Does clock node Unknown clock' node' = (clock' ≡ clock) × (node' ≡ node)
+-- what a service changes by serving: the clock that it reads, the node, and what its answers are written to
+pub record Station (C P : Type 0) : Type 0 where
+  pub clock : C
+  pub node : P
+  pub writer : SinkView
 
-pub data Performs {C P : Type 0} (Does : C → P → Request → Reply → C → P → Type 0) (clock : C) (node : P) : List Exchange → C → P → Type 0 where
-  begins : Performs Does clock node [] clock node
-  performs : {between after : C} {node_between node_after : P} {exchanges : List Exchange} (exchange : Exchange)
-      → Performs Does clock node exchanges between node_between → DoesExchange Does between node_between exchange after node_after
-      → Performs Does clock node (exchanges ++ exchange ∷ []) after node_after
+abbrev pub station : {C P : Type 0} → C → P → SinkView → Station C P
+station clock node writer = record { clock = clock; node = node; writer = writer }
+
+-- An answer goes out, in one call where it fits the writers' buffer. Where there is none the writer isn't touched.
+abbrev pub Answers : Option Reply → SinkView → SinkView → Type 0
+Answers None old new = new ≡ old
+Answers (Some reply) old new = HasWritten (canonical_reply reply) old new × TakesFewCalls (canonical_reply reply) (parts_of_reply reply) old new
+
+-- a beginning of an answer goes out, and the call that failed is the last
+abbrev pub StopsAnswering : Option Reply → SinkView → SinkView → Type 0
+StopsAnswering None old new = ⊥
+StopsAnswering (Some reply) old new = HasStopped (canonical_reply reply) old new × TakesFewCalls (canonical_reply reply) (parts_of_reply reply) old new
+
+-- what an exchange does, by what one request does
+abbrev pub DoesExchange : {C P : Type 0} → (C → P → Request → Reply → C → P → Type 0) → Station C P → Exchange → Station C P → Type 0
+DoesExchange Does old (Asked request outcome) new = Does old.clock old.node request outcome new.clock new.node
+DoesExchange Does old Unknown new = (new.clock ≡ old.clock) × (new.node ≡ old.node)
+
+-- exchanges, each done and answered before the next
+pub data Performs {C P : Type 0} (Does : C → P → Request → Reply → C → P → Type 0) (old : Station C P) : List Exchange → Station C P → Type 0 where
+  begins : Performs Does old [] old
+  performs : {between new : Station C P} {exchanges : List Exchange} (exchange : Exchange)
+      → Performs Does old exchanges between → DoesExchange Does between exchange new → Answers (answer_of exchange) between.writer new.writer
+      → Performs Does old (exchanges ++ exchange ∷ []) new
 
 -- what was taken is the text of exchanges, in order, and this rest; what was written is their output
-pub record Serves {C P : Type 0} (Does : C → P → Request → Reply → C → P → Type 0) (taken taken' written written' : List ℕ)
-    (clock : C) (node : P) (clock' : C) (node' : P) (rest : List ℕ) : Type 0 where
+pub record Serves {C P : Type 0} (Does : C → P → Request → Reply → C → P → Type 0) (reader reader' : SourceView) (old new : Station C P)
+    (rest : List ℕ) : Type 0 where
   pub exchanges : List Exchange
   pub bytes : List ℕ
-  pub takes : taken' ≡ taken ++ (bytes ++ rest)
+  pub takes : reader'.taken ≡ reader.taken ++ (bytes ++ rest)
+  pub leaves : Consumes reader.left reader'.left (bytes ++ rest)
   pub reads : Reads bytes exchanges
-  pub performs : Performs Does clock node exchanges clock' node'
-  pub writes : written' ≡ written ++ output_of exchanges
+  pub performs : Performs Does old exchanges new
+  pub writes : HasWritten (output_of exchanges) old.writer new.writer
 
--- how what is left ends a service: a quit, the end of the input, or a refusal; and what is written for it
-abbrev pub EndsSo : Option (List ℕ) → List ℕ → Ended → List ℕ → Type 0
-EndsSo left rest how.Quit text = ((after : List ℕ) × BeginsWith SpellsRequest rest Quit after) × (text ≡ [])
-EndsSo left rest how.Ended text = (rest ≡ []) × IsAtEnd left × (text ≡ [])
-EndsSo left rest (how.Refused number) text =
+-- how what is left ends a service: a quit, the end of the input, or a refusal; and what is answered to it
+abbrev pub EndsSo : Option (List ℕ) → List ℕ → Ended → Option Reply → Type 0
+EndsSo left rest how.Quit answer = ((after : List ℕ) × BeginsWith SpellsRequest rest Quit after) × (answer ≡ None)
+EndsSo left rest how.Ended answer = (rest ≡ []) × IsAtEnd left × (answer ≡ None)
+EndsSo left rest (how.Refused number) answer =
     (refusal : TextError) × FaultAt SpellsRequest RefusesRequest refusal rest × (skips_line refusal ≡ false) × (refusal ≡ Truncated → IsAtEnd left)
-    × (number ≡ number_of_refusal refusal) × (text ≡ text_of_answer (reply_to_refusal refusal))
+    × (number ≡ number_of_refusal refusal) × (answer ≡ reply_to_refusal refusal)
 
 -- What came next, when its answer could not be written: an exchange, and that was done; or a refusal that ends the
--- service, and nothing was done.
-abbrev pub IsUnanswered : {C P : Type 0} → (C → P → Request → Reply → C → P → Type 0) → List ℕ → C → P → C → P → Type 0
-IsUnanswered Does rest clock node clock' node' =
+-- service, and nothing was done. A beginning of that answer went out.
+abbrev pub IsUnanswered : {C P : Type 0} → (C → P → Request → Reply → C → P → Type 0) → List ℕ → Station C P → Station C P → Type 0
+IsUnanswered Does rest old new =
     ((exchange : Exchange) × (spelling : List ℕ) × (after : List ℕ) × (rest ≡ spelling ++ after) × SpellsExchange spelling exchange
-    × DoesExchange Does clock node exchange clock' node') ⊎
-    ((refusal : TextError) × FaultAt SpellsRequest RefusesRequest refusal rest × (skips_line refusal ≡ false) × IsSome (reply_to_refusal refusal)
-    × (clock' ≡ clock) × (node' ≡ node))
+    × DoesExchange Does old exchange new × StopsAnswering (answer_of exchange) old.writer new.writer) ⊎
+    ((refusal : TextError) × FaultAt SpellsRequest RefusesRequest refusal rest × (skips_line refusal ≡ false) × (new.clock ≡ old.clock)
+    × (new.node ≡ old.node) × StopsAnswering (reply_to_refusal refusal) old.writer new.writer)
 
 -- What a service has read, done and written when it ends. After a fault of the reader and after the last read that was
 -- allowed all that is whole was served, and after want of memory a beginning of it. After a fault of the writer a
--- beginning was served, and what came next was done once and isn't answered; how much of its answer went out isn't said.
-module _ {C P : Type 0} (Does : C → P → Request → Reply → C → P → Type 0) (taken taken' : List ℕ) (left : Option (List ℕ)) (written written' : List ℕ)
-    (clock : C) (node : P) (clock' : C) (node' : P) where
+-- beginning was served, what came next was done once, and a beginning of its answer was written.
+module _ {C P : Type 0} (Does : C → P → Request → Reply → C → P → Type 0) (reader reader' : SourceView) (old new : Station C P) where
   abbrev pub ServiceIs : Result Ended NodeError → Type 0
   ServiceIs (Ok ended) =
-      (rest : List ℕ) × (before : List ℕ) × (text : List ℕ) × Serves Does taken taken' written before clock node clock' node' rest
-      × EndsSo left rest ended text × (written' ≡ before ++ text)
-  ServiceIs (Err ReadFault) =
-      (rest : List ℕ) × Serves Does taken taken' written written' clock node clock' node' rest × IsUnfinished SpellsRequest RefusesRequest rest
-  ServiceIs (Err TurnsSpent) =
-      (rest : List ℕ) × Serves Does taken taken' written written' clock node clock' node' rest × IsUnfinished SpellsRequest RefusesRequest rest
-  ServiceIs (Err OutOfMemory) = (rest : List ℕ) × Serves Does taken taken' written written' clock node clock' node' rest
+      (rest : List ℕ) × (answer : Option Reply) × (between : Station C P) × Serves Does reader reader' old between rest
+      × EndsSo reader'.left rest ended answer × (new.clock ≡ between.clock) × (new.node ≡ between.node) × Answers answer between.writer new.writer
+  ServiceIs (Err ReadFault) = (rest : List ℕ) × Serves Does reader reader' old new rest × IsUnfinished SpellsRequest RefusesRequest rest
+  ServiceIs (Err TurnsSpent) = (rest : List ℕ) × Serves Does reader reader' old new rest × IsUnfinished SpellsRequest RefusesRequest rest
+  ServiceIs (Err OutOfMemory) = (rest : List ℕ) × Serves Does reader reader' old new rest
   ServiceIs (Err WriteFault) =
-      (rest : List ℕ) × (before : List ℕ) × (between : C) × (node_between : P) × Serves Does taken taken' written before clock node between node_between rest
-      × IsUnanswered Does rest between node_between clock' node'
+      (rest : List ℕ) × (between : Station C P) × Serves Does reader reader' old between rest × IsUnanswered Does rest between new
   ServiceIs (Err ZeroCapacity) = ⊥

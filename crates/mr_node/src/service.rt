@@ -1,7 +1,8 @@
 //! The service of requests that come as text.
-ghost use Rattle.std.specs.Prelude.{◌≡◌, ◌≢◌, ◌+◌, ◌*◌, ◌<◌, ◌≤◌, length};
+ghost use Rattle.std.specs.Prelude.{◌≡◌, ◌≢◌, ◌+◌, ◌*◌, ◌<◌, ◌≤◌, length, true};
 ghost use Rattle.mr_node.specs.Outcome.{Outcome};
-ghost use Rattle.mr_node.specs.Session.{ServiceIs, most_read};
+ghost use Rattle.mr_text.specs.Source.{AreOffered};
+ghost use Rattle.mr_node.specs.Session.{ServiceIs, station, read_length};
 
 use crate::ended::Ended;
 use crate::error::NodeError;
@@ -10,7 +11,7 @@ use crate::service::next::serve_next;
 use crate::service::piece::read_piece;
 use crate::service::step::Step;
 use mr_clock::Clock;
-use mr_text::{FixedBuffer, RequestReader, Sink, Source};
+use mr_text::{RequestReader, Sink, Source};
 use std::alloc::Global;
 
 mod answer;
@@ -37,29 +38,30 @@ pub fn serve<P: Perform, S: Source, W: Sink, C: Clock>(
     clock: &mut C,
     turns: u64,
 ) -> Result<Ended, NodeError>
-    ensures service { ServiceIs (Outcome C.reads C.failures P.did P.refused) (S.taken reader.old) (S.taken reader.new) (S.left reader.new)
-        (W.written writer.old) (W.written writer.new) clock.old node.old clock.new node.new result }
+    ensures service { ServiceIs (Outcome C.reads C.failures P.did P.refused) (S.told reader.old) (S.told reader.new)
+        (station clock.old node.old (W.told writer.old)) (station clock.new node.new (W.told writer.new)) result }
 
-    // At most `turns` reads are made. TurnsSpent comes after all of them, each of which brought a byte. No read brings more
-    // than the buffer holds.
-    ensures reads { S.reads reader.new ≤ S.reads reader.old + turns }
-    ensures spent { result ≡ Err NodeError.TurnsSpent → S.reads reader.new ≡ S.reads reader.old + turns }
-    ensures turns { result ≡ Err NodeError.TurnsSpent → length (S.taken reader.old) + turns ≤ length (S.taken reader.new) }
-    ensures bytes { length (S.taken reader.new) ≤ length (S.taken reader.old) + turns * most_read }
+    // At most `turns` reads are made. TurnsSpent comes after all of them, each of which brought a byte. Each read has room
+    // for as many bytes as the buffer holds, and none brings more.
+    ensures reads { (S.told reader.new).reads ≤ (S.told reader.old).reads + turns }
+    ensures spent { result ≡ Err NodeError.TurnsSpent → (S.told reader.new).reads ≡ (S.told reader.old).reads + turns }
+    ensures turns { result ≡ Err NodeError.TurnsSpent → length (S.told reader.old).taken + turns ≤ length (S.told reader.new).taken }
+    ensures bytes { length (S.told reader.new).taken ≤ length (S.told reader.old).taken + turns * read_length }
+    ensures room { AreOffered read_length (S.told reader.old).least_room → AreOffered read_length (S.told reader.new).least_room }
 
-    // A fault is answered only where that device failed, and none is passed over.
-    ensures read_fault { result ≡ Err NodeError.ReadFault → S.failures reader.old < S.failures reader.new }
-    ensures no_read_fault { result ≢ Err NodeError.ReadFault → S.failures reader.new ≡ S.failures reader.old }
-    ensures write_fault { result ≡ Err NodeError.WriteFault → W.failures writer.old < W.failures writer.new }
-    ensures no_write_fault { result ≢ Err NodeError.WriteFault → W.failures writer.new ≡ W.failures writer.old }
+    // A fault is answered only where that device failed, once, and none is passed over.
+    ensures read_fault { result ≡ Err NodeError.ReadFault → (S.told reader.new).failures ≡ (S.told reader.old).failures + 1 }
+    ensures no_read_fault { result ≢ Err NodeError.ReadFault → (S.told reader.new).failures ≡ (S.told reader.old).failures }
+    ensures write_fault { result ≡ Err NodeError.WriteFault → (W.told writer.new).failures ≡ (W.told writer.old).failures + 1 }
+    ensures no_write_fault { result ≢ Err NodeError.WriteFault → (W.told writer.new).failures ≡ (W.told writer.old).failures }
+    ensures last_failed { result ≡ Err NodeError.WriteFault → (W.told writer.new).last_failed ≡ true }
 {
     let mut requests = RequestReader::new(alloc);
     let mut buffer = [0; READ_LENGTH];
-    let mut answer = FixedBuffer::new();
     let mut ended = false;
     let mut turns_left = turns;
     'session: loop {
-        match serve_next(alloc, node, &mut requests, &mut answer, writer, clock)? {
+        match serve_next(alloc, node, &mut requests, writer, clock)? {
             Step::Served => {}
             Step::Ends(how) => return Ok(how),
             Step::Waits => {

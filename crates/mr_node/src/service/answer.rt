@@ -1,9 +1,9 @@
-ghost use Rattle.std.specs.Prelude.{◌≡◌};
+ghost use Rattle.std.specs.Prelude.{◌≡◌, Some, None, if◌then◌else◌};
 ghost use Rattle.mr_text.specs.Stream.{skips_line};
-ghost use Rattle.mr_text.specs.Canonical.{canonical_reply};
 ghost use Rattle.mr_node.specs.Outcome.{Outcome};
 ghost use Rattle.mr_node.specs.Output.{is_silent, reply_to_refusal};
-ghost use Rattle.mr_node.specs.Step.{Writes, RequestIs, RefusalIs};
+ghost use Rattle.mr_node.specs.Session.{station};
+ghost use Rattle.mr_node.specs.Step.{WritesAnswer, RequestIs, RefusalIs};
 
 use crate::ended::Ended;
 use crate::error::NodeError;
@@ -11,7 +11,7 @@ use crate::outcome::outcome;
 use crate::perform::Perform;
 use crate::service::step::Step;
 use mr_clock::Clock;
-use mr_text::{Cause, FixedBuffer, Reply, Request, Sink, TextError, write_reply_at_once};
+use mr_text::{Cause, Reply, Request, Sink, TextError, write_reply};
 use std::alloc::Global;
 
 /// Whether the client wants no answer.
@@ -25,26 +25,30 @@ fn is_silent(request: &Request) -> bool
     }
 }
 
+/// What a client is answered, where it wants an answer.
+fn answer_to(silent: bool, reply: Reply) -> Option<Reply>
+    ensures { result ≡ (if silent then None else Some reply) }
+{
+    if silent { None } else { Some(reply) }
+}
+
 /// Serves a request and writes its answer, unless the client wants none. A quit ends the service.
 pub(crate) fn serve_request<P: Perform, W: Sink, C: Clock>(
     alloc: Global,
     node: &mut P,
-    buffer: &mut FixedBuffer,
     writer: &mut W,
     clock: &mut C,
     request: Request,
 ) -> Result<Step, NodeError>
-    ensures { RequestIs (Outcome C.reads C.failures P.did P.refused) (W.written writer.old) (W.written writer.new)
-        (W.failures writer.old) (W.failures writer.new) clock.old node.old clock.new node.new request result }
+    ensures { RequestIs (Outcome C.reads C.failures P.did P.refused) (station clock.old node.old (W.told writer.old))
+        (station clock.new node.new (W.told writer.new)) request result }
 {
     if let Request::Quit = request {
         return Ok(Step::Ends(Ended::Quit));
     }
     let silent = is_silent(&request);
     let reply = outcome(alloc, node, clock, request);
-    if !silent {
-        write(buffer, writer, &reply)?;
-    }
+    write_answer(answer_to(silent, reply), writer)?;
     Ok(Step::Served)
 }
 
@@ -76,18 +80,15 @@ fn skips_line(refusal: TextError) -> bool
 
 /// Writes the answer to a refused request, if it gets one. Unless reading goes on behind it, it ends the service.
 pub(crate) fn serve_refusal<W: Sink>(
-    buffer: &mut FixedBuffer,
     writer: &mut W,
     refusal: TextError,
 ) -> Result<Step, NodeError>
-    ensures { RefusalIs (W.written writer.old) (W.written writer.new) (W.failures writer.old) (W.failures writer.new) refusal result }
+    ensures { RefusalIs refusal (W.told writer.old) result (W.told writer.new) }
 {
     if refusal == TextError::OutOfMemory {
         return Err(NodeError::OutOfMemory);
     }
-    if let Some(reply) = reply_to(refusal) {
-        write(buffer, writer, &reply)?;
-    }
+    write_answer(reply_to(refusal), writer)?;
     if skips_line(refusal) {
         Ok(Step::Served)
     } else {
@@ -95,10 +96,14 @@ pub(crate) fn serve_refusal<W: Sink>(
     }
 }
 
-fn write<W: Sink>(buffer: &mut FixedBuffer, writer: &mut W, reply: &Reply) -> Result<(), NodeError>
-    ensures { Writes (W.written writer.old) (W.written writer.new) (W.failures writer.old) (W.failures writer.new) (canonical_reply reply.now) result }
+/// Writes an answer. Where there is none the writer isn't touched.
+fn write_answer<W: Sink>(answer: Option<Reply>, writer: &mut W) -> Result<(), NodeError>
+    ensures { WritesAnswer answer (W.told writer.old) result (W.told writer.new) }
 {
-    match write_reply_at_once(reply, buffer, writer) {
+    let Some(reply) = answer else {
+        return Ok(());
+    };
+    match write_reply(&reply, writer) {
         Ok(()) => Ok(()),
         Err(_) => Err(NodeError::WriteFault),
     }

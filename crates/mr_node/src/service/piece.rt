@@ -1,4 +1,5 @@
 ghost use Rattle.std.specs.Prelude.{◌≡◌, ◌+◌, ◌<◌, ℕ, List, length, false};
+ghost use Rattle.mr_text.specs.Source.{least_with};
 ghost use Rattle.mr_text.specs.Stream.{StandsFor};
 ghost use Rattle.mr_node.specs.Step.{PieceIs};
 
@@ -14,9 +15,10 @@ pub(crate) fn read_piece<S: Source>(
     requires room { 0 < length buffer.old }
     requires not_ended { requests.old.ended ≡ false }
     requires not_closed { requests.old.closed ≡ false }
-    ensures once { S.reads reader.new ≡ S.reads reader.old + 1 }
+    ensures once { (S.told reader.new).reads ≡ (S.told reader.old).reads + 1 }
+    ensures offered { (S.told reader.new).least_room ≡ least_with (S.told reader.old).least_room (length buffer.old) }
     ensures piece { (rest : List ℕ) → StandsFor requests.old rest
-        → PieceIs (length buffer.old) rest requests.new (S.taken reader.old) (S.taken reader.new) (S.left reader.new) (S.failures reader.old) (S.failures reader.new) result }
+        → PieceIs (length buffer.old) rest requests.new (S.told reader.old) result (S.told reader.new) }
 {
     let Ok(count) = reader.read(buffer) else {
         return Err(NodeError::ReadFault);

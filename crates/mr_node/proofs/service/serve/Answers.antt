@@ -1,175 +1,104 @@
-use Rattle.std.proofs.Common.{◌≡◌, ◌≢◌, ◌∙◌, ◌<◌, ℕ, List, length, length-append, Ok, Err, refl, ap, arith}
+use Rattle.std.proofs.Common.{◌≡◌, ◌≢◌, ◌∙◌, ◌+◌, ◌<◌, ℕ, List, length, length-append, Ok, Err, refl, ap, arith}
 use Rattle.std.proofs.lemmas.Result.{err_from_is_err_and}
+use Rattle.mr_text.specs.Source.{AreOffered}
 use Rattle.mr_node.specs.declared.error.NodeError.{NodeError}
 use Rattle.mr_node.specs.declared.error.NodeError.TheVariants.{ReadFault, WriteFault}
 use Rattle.mr_node.specs.declared.service.step.Step.{Step}
 use Rattle.mr_node.specs.declared.service.step.Step.TheVariants.{Served, Waits, Ends}
-use Rattle.mr_node.proofs.SessionLemmas.{begins_so, stepped, goes_on, served_without_fault, waits_without_fault, waits_for, writer_failed, writer_well, ended_without_fault, reader_well, shrinks, ends, all_read, spent, step_fails, fed, read_fails, failed_read_within}
+use Rattle.mr_node.specs.Session.{station, read_length}
+use Rattle.mr_node.proofs.ReadLemmas.{still_offered}
+use Rattle.mr_node.proofs.SessionLemmas.{begins_so, stepped, goes_on, waits_for, shrinks, ends, all_read, spent, step_fails, fed, read_fails, reader_fails, reader_well, failed_read_within, write_fails, writes_well}
 use Rattle.mr_node.proofs.service.serve.Goals as goal
 
 pub session-init : goal.session-init
 session-init g c = record {
-  so = begins_so _ _ _ _ _ _ c.new-requests.result c.new-requests.ensures;
+  so = begins_so _ _ _ c.new-requests.result c.new-requests.ensures;
   counted = refl;
   brought = λ e. omega arith;
   within = omega arith;
-  reads = refl;
-  writes = refl;
+  offered = λ e. e;
+  well = refl;
 }
-
-pub serve_next-requires : goal.serve_next-requires
-serve_next-requires g c = c.session.invariant.so.becomes.is_closed
 
 pub returns-in_err-serve_next-clause-service : goal.returns-in_err-serve_next-clause-service
 returns-in_err-serve_next-clause-service g c =
     let p = err_from_is_err_and c.from_residual.result c.from_residual.ensures.1 in
-    rw (p.1, p.2) (step_fails _ _ _ _ _ _ _ _ (g.W.Sink.written c.serve_next.new.writer) (g.W.Sink.failures c.session.writer) (g.W.Sink.failures c.serve_next.new.writer) _ c.serve_next.new.clock _ c.serve_next.new.node _ c.serve_next.new.requests _ c.session.invariant.so c.in_err-serve_next.field-0.0
-    (stepped _ _ _ _ _ _ _ _ (g.W.Sink.written c.serve_next.new.writer) (g.W.Sink.failures c.session.writer) (g.W.Sink.failures c.serve_next.new.writer) _ c.serve_next.new.clock _ c.serve_next.new.node _ c.serve_next.new.requests _ c.session.invariant.so
-    (Err c.in_err-serve_next.field-0.0) (Err c.in_err-serve_next.field-0.0) (refl) (c.in_err-serve_next.ensures c.session.invariant.so.rest c.session.invariant.so.becomes.stands)))
-
-pub returns-in_err-serve_next-clause-write_fault : goal.returns-in_err-serve_next-clause-write_fault
-returns-in_err-serve_next-clause-write_fault g c =
-    let p = err_from_is_err_and c.from_residual.result c.from_residual.ensures.1 in
-    let failed : c.in_err-serve_next.field-0.0 ≡ WriteFault → g.W.Sink.failures c.session.writer < g.W.Sink.failures c.serve_next.new.writer =
-    writer_failed _ _ _ _ _ _ _ _ (g.W.Sink.written c.serve_next.new.writer) (g.W.Sink.failures c.session.writer) (g.W.Sink.failures c.serve_next.new.writer) _ c.serve_next.new.clock _ c.serve_next.new.node _ c.serve_next.new.requests _ c.session.invariant.so c.in_err-serve_next.field-0.0
-    (stepped _ _ _ _ _ _ _ _ (g.W.Sink.written c.serve_next.new.writer) (g.W.Sink.failures c.session.writer) (g.W.Sink.failures c.serve_next.new.writer) _ c.serve_next.new.clock _ c.serve_next.new.node _ c.serve_next.new.requests _ c.session.invariant.so
-    (Err c.in_err-serve_next.field-0.0) (Err c.in_err-serve_next.field-0.0) (refl) (c.in_err-serve_next.ensures c.session.invariant.so.rest c.session.invariant.so.becomes.stands)) in
-    let same = c.session.invariant.writes in
-    rw (p.1, p.2) (λ e. let is : c.in_err-serve_next.field-0.0 ≡ WriteFault = cc in let rose = failed is in omega arith)
+    rw (p.1, p.2) (step_fails _ _ _ _ _ (station c.serve_next.new.clock c.serve_next.new.node (g.W.Sink.told c.serve_next.new.writer)) _ c.serve_next.new.requests _ c.session.invariant.so c.in_err-serve_next.field-0.0
+    (stepped _ _ _ _ _ (station c.serve_next.new.clock c.serve_next.new.node (g.W.Sink.told c.serve_next.new.writer)) _ c.serve_next.new.requests _ c.session.invariant.so (Err c.in_err-serve_next.field-0.0) (Err c.in_err-serve_next.field-0.0) refl (c.in_err-serve_next.ensures c.session.invariant.so.rest c.session.invariant.so.becomes.stands)))
 
 pub session-smaller-in-Served : goal.session-smaller-in-Served
 session-smaller-in-Served g c =
-    omega (
-      arith,
-      shrinks _ _ _ _ _ _ _ _ (g.W.Sink.written c.serve_next.new.writer) (g.W.Sink.failures c.session.writer) (g.W.Sink.failures c.serve_next.new.writer) _ c.serve_next.new.clock _ c.serve_next.new.node _ c.serve_next.new.requests _ c.session.invariant.so
-          (stepped _ _ _ _ _ _ _ _ (g.W.Sink.written c.serve_next.new.writer) (g.W.Sink.failures c.session.writer) (g.W.Sink.failures c.serve_next.new.writer) _ c.serve_next.new.clock _ c.serve_next.new.node _ c.serve_next.new.requests _ c.session.invariant.so
-          (Ok c.in_ok-serve_next.field-0) (Ok Served) (ap (λ (s : Step). Ok s) c.in-Served.is) (c.in_ok-serve_next.ensures c.session.invariant.so.rest c.session.invariant.so.becomes.stands)),
-    )
+    omega (arith, shrinks _ _ _ _ _ (station c.serve_next.new.clock c.serve_next.new.node (g.W.Sink.told c.serve_next.new.writer)) _ c.serve_next.new.requests _ c.session.invariant.so
+    (stepped _ _ _ _ _ (station c.serve_next.new.clock c.serve_next.new.node (g.W.Sink.told c.serve_next.new.writer)) _ c.serve_next.new.requests _ c.session.invariant.so (Ok c.in_ok-serve_next.field-0) (Ok Served) (ap (λ (s : Step). Ok s) c.in-Served.is) (c.in_ok-serve_next.ensures c.session.invariant.so.rest c.session.invariant.so.becomes.stands)))
 
 pub session-preserved-in-Served : goal.session-preserved-in-Served
 session-preserved-in-Served g c =
-    let step = stepped _ _ _ _ _ _ _ _ (g.W.Sink.written c.serve_next.new.writer) (g.W.Sink.failures c.session.writer) (g.W.Sink.failures c.serve_next.new.writer) _ c.serve_next.new.clock _ c.serve_next.new.node _ c.serve_next.new.requests _ c.session.invariant.so
-    (Ok c.in_ok-serve_next.field-0) (Ok Served) (ap (λ (s : Step). Ok s) c.in-Served.is) (c.in_ok-serve_next.ensures c.session.invariant.so.rest c.session.invariant.so.becomes.stands) in
+    let step = stepped _ _ _ _ _ (station c.serve_next.new.clock c.serve_next.new.node (g.W.Sink.told c.serve_next.new.writer)) _ c.serve_next.new.requests _ c.session.invariant.so (Ok c.in_ok-serve_next.field-0) (Ok Served) (ap (λ (s : Step). Ok s) c.in-Served.is) (c.in_ok-serve_next.ensures c.session.invariant.so.rest c.session.invariant.so.becomes.stands) in
     record {
-      so = goes_on _ _ _ _ _ _ _ _ (g.W.Sink.written c.serve_next.new.writer) (g.W.Sink.failures c.session.writer) (g.W.Sink.failures c.serve_next.new.writer) _ c.serve_next.new.clock _ c.serve_next.new.node _ c.serve_next.new.requests _ c.session.invariant.so step;
+      so = goes_on _ _ _ _ _ (station c.serve_next.new.clock c.serve_next.new.node (g.W.Sink.told c.serve_next.new.writer)) _ c.serve_next.new.requests _ c.session.invariant.so step;
       counted = c.session.invariant.counted;
       brought = c.session.invariant.brought;
       within = c.session.invariant.within;
-      reads = c.session.invariant.reads;
-      writes = served_without_fault _ _ _ _ _ _ _ _ (g.W.Sink.written c.serve_next.new.writer) (g.W.Sink.failures c.session.writer) (g.W.Sink.failures c.serve_next.new.writer) _ c.serve_next.new.clock _ c.serve_next.new.node _ c.serve_next.new.requests _ c.session.invariant.so step ∙ c.session.invariant.writes;
+      offered = c.session.invariant.offered;
+      well = c.session.invariant.well;
     }
 
 pub returns-in-Ends-clause-service : goal.returns-in-Ends-clause-service
 returns-in-Ends-clause-service g c =
-    ends _ _ _ _ _ _ _ _ (g.W.Sink.written c.serve_next.new.writer) (g.W.Sink.failures c.session.writer) (g.W.Sink.failures c.serve_next.new.writer) _ c.serve_next.new.clock _ c.serve_next.new.node _ c.serve_next.new.requests _ c.session.invariant.so c.in-Ends.how
-    (stepped _ _ _ _ _ _ _ _ (g.W.Sink.written c.serve_next.new.writer) (g.W.Sink.failures c.session.writer) (g.W.Sink.failures c.serve_next.new.writer) _ c.serve_next.new.clock _ c.serve_next.new.node _ c.serve_next.new.requests _ c.session.invariant.so
-    (Ok c.in_ok-serve_next.field-0) (Ok (Ends c.in-Ends.how)) (ap (λ (s : Step). Ok s) c.in-Ends.is) (c.in_ok-serve_next.ensures c.session.invariant.so.rest c.session.invariant.so.becomes.stands))
+    ends _ _ _ _ _ (station c.serve_next.new.clock c.serve_next.new.node (g.W.Sink.told c.serve_next.new.writer)) _ c.serve_next.new.requests _ c.session.invariant.so c.in-Ends.how
+    (stepped _ _ _ _ _ (station c.serve_next.new.clock c.serve_next.new.node (g.W.Sink.told c.serve_next.new.writer)) _ c.serve_next.new.requests _ c.session.invariant.so (Ok c.in_ok-serve_next.field-0) (Ok (Ends c.in-Ends.how)) (ap (λ (s : Step). Ok s) c.in-Ends.is) (c.in_ok-serve_next.ensures c.session.invariant.so.rest c.session.invariant.so.becomes.stands))
 
 pub returns-then-ended-clause-service : goal.returns-then-ended-clause-service
 returns-then-ended-clause-service g c =
-    all_read _ _ _ _ _ _ _ _ (g.W.Sink.written c.serve_next.new.writer) (g.W.Sink.failures c.session.writer) (g.W.Sink.failures c.serve_next.new.writer) _ c.serve_next.new.clock _ c.serve_next.new.node _ c.serve_next.new.requests _ c.session.invariant.so
-    (stepped _ _ _ _ _ _ _ _ (g.W.Sink.written c.serve_next.new.writer) (g.W.Sink.failures c.session.writer) (g.W.Sink.failures c.serve_next.new.writer) _ c.serve_next.new.clock _ c.serve_next.new.node _ c.serve_next.new.requests _ c.session.invariant.so
-    (Ok c.in_ok-serve_next.field-0) (Ok Waits) (ap (λ (s : Step). Ok s) c.in-Waits.is) (c.in_ok-serve_next.ensures c.session.invariant.so.rest c.session.invariant.so.becomes.stands)) c.if-ended.true
+    all_read _ _ _ _ _ (station c.serve_next.new.clock c.serve_next.new.node (g.W.Sink.told c.serve_next.new.writer)) _ c.serve_next.new.requests _ c.session.invariant.so
+    (stepped _ _ _ _ _ (station c.serve_next.new.clock c.serve_next.new.node (g.W.Sink.told c.serve_next.new.writer)) _ c.serve_next.new.requests _ c.session.invariant.so (Ok c.in_ok-serve_next.field-0) (Ok Waits) (ap (λ (s : Step). Ok s) c.in-Waits.is) (c.in_ok-serve_next.ensures c.session.invariant.so.rest c.session.invariant.so.becomes.stands)) c.if-ended.true
 
 pub returns-then-turns_left-eq0-clause-service : goal.returns-then-turns_left-eq0-clause-service
 returns-then-turns_left-eq0-clause-service g c =
-    spent _ _ _ _ _ _ _ _ (g.W.Sink.written c.serve_next.new.writer) (g.W.Sink.failures c.session.writer) (g.W.Sink.failures c.serve_next.new.writer) _ c.serve_next.new.clock _ c.serve_next.new.node _ c.serve_next.new.requests _ c.session.invariant.so
-    (stepped _ _ _ _ _ _ _ _ (g.W.Sink.written c.serve_next.new.writer) (g.W.Sink.failures c.session.writer) (g.W.Sink.failures c.serve_next.new.writer) _ c.serve_next.new.clock _ c.serve_next.new.node _ c.serve_next.new.requests _ c.session.invariant.so
-    (Ok c.in_ok-serve_next.field-0) (Ok Waits) (ap (λ (s : Step). Ok s) c.in-Waits.is) (c.in_ok-serve_next.ensures c.session.invariant.so.rest c.session.invariant.so.becomes.stands))
+    spent _ _ _ _ _ (station c.serve_next.new.clock c.serve_next.new.node (g.W.Sink.told c.serve_next.new.writer)) _ c.serve_next.new.requests _ c.session.invariant.so
+    (stepped _ _ _ _ _ (station c.serve_next.new.clock c.serve_next.new.node (g.W.Sink.told c.serve_next.new.writer)) _ c.serve_next.new.requests _ c.session.invariant.so (Ok c.in_ok-serve_next.field-0) (Ok Waits) (ap (λ (s : Step). Ok s) c.in-Waits.is) (c.in_ok-serve_next.ensures c.session.invariant.so.rest c.session.invariant.so.becomes.stands))
 
 pub returns-in_err-ended-in-Waits-clause-service : goal.returns-in_err-ended-in-Waits-clause-service
 returns-in_err-ended-in-Waits-clause-service g c =
-    let step = stepped _ _ _ _ _ _ _ _ (g.W.Sink.written c.serve_next.new.writer) (g.W.Sink.failures c.session.writer) (g.W.Sink.failures c.serve_next.new.writer) _ c.serve_next.new.clock _ c.serve_next.new.node _ c.serve_next.new.requests _ c.session.invariant.so
-    (Ok c.in_ok-serve_next.field-0) (Ok Waits) (ap (λ (s : Step). Ok s) c.in-Waits.is) (c.in_ok-serve_next.ensures c.session.invariant.so.rest c.session.invariant.so.becomes.stands) in
+    let step = stepped _ _ _ _ _ (station c.serve_next.new.clock c.serve_next.new.node (g.W.Sink.told c.serve_next.new.writer)) _ c.serve_next.new.requests _ c.session.invariant.so (Ok c.in_ok-serve_next.field-0) (Ok Waits) (ap (λ (s : Step). Ok s) c.in-Waits.is) (c.in_ok-serve_next.ensures c.session.invariant.so.rest c.session.invariant.so.becomes.stands) in
     let p = err_from_is_err_and c.from_residual-in_err-ended-in-Waits.result c.from_residual-in_err-ended-in-Waits.ensures.1 in
-    rw (p.1, p.2) (read_fails _ _ _ _ _ _ _ _ (g.W.Sink.written c.serve_next.new.writer) (g.W.Sink.failures c.session.writer) (g.W.Sink.failures c.serve_next.new.writer) _ c.serve_next.new.clock _ c.serve_next.new.node _ c.serve_next.new.requests _ c.session.invariant.so (length c.session.buffer)
-    (g.S.Source.taken c.read_piece.new.reader) (g.S.Source.left c.read_piece.new.reader) (g.S.Source.failures c.session.reader) (g.S.Source.failures c.read_piece.new.reader)
-    c.read_piece.new.requests c.in_err-ended-in-Waits.field-0.0 step
-    (c.in_err-ended-in-Waits.ensures.piece c.session.invariant.so.rest (waits_for _ _ _ _ _ _ _ _ (g.W.Sink.written c.serve_next.new.writer) (g.W.Sink.failures c.session.writer) (g.W.Sink.failures c.serve_next.new.writer) _ c.serve_next.new.clock _ c.serve_next.new.node _ c.serve_next.new.requests _ c.session.invariant.so step).stands))
-
-pub session-preserved : goal.session-preserved
-session-preserved g c =
-    let step = stepped _ _ _ _ _ _ _ _ (g.W.Sink.written c.serve_next.new.writer) (g.W.Sink.failures c.session.writer) (g.W.Sink.failures c.serve_next.new.writer) _ c.serve_next.new.clock _ c.serve_next.new.node _ c.serve_next.new.requests _ c.session.invariant.so
-    (Ok c.in_ok-serve_next.field-0) (Ok Waits) (ap (λ (s : Step). Ok s) c.in-Waits.is) (c.in_ok-serve_next.ensures c.session.invariant.so.rest c.session.invariant.so.becomes.stands) in
-    let piece = c.in_ok-ended-in-Waits.ensures.piece c.session.invariant.so.rest (waits_for _ _ _ _ _ _ _ _ (g.W.Sink.written c.serve_next.new.writer) (g.W.Sink.failures c.session.writer) (g.W.Sink.failures c.serve_next.new.writer) _ c.serve_next.new.clock _ c.serve_next.new.node _ c.serve_next.new.requests _ c.session.invariant.so step).stands in
-    record {
-      so = fed _ _ _ _ _ _ _ _ (g.W.Sink.written c.serve_next.new.writer) (g.W.Sink.failures c.session.writer) (g.W.Sink.failures c.serve_next.new.writer) _ c.serve_next.new.clock _ c.serve_next.new.node _ c.serve_next.new.requests _ c.session.invariant.so (length c.session.buffer)
-          (g.S.Source.taken c.read_piece.new.reader) (g.S.Source.left c.read_piece.new.reader) (g.S.Source.failures c.session.reader) (g.S.Source.failures c.read_piece.new.reader)
-          c.read_piece.new.requests c.in_ok-ended-in-Waits.ended step piece;
-      counted = (let before = c.session.invariant.counted in let one = c.read_piece.ensures.once in omega arith);
-      brought = λ e.
-          let some = piece.4 e in
-          let before = c.session.invariant.brought c.if-ended.false in
-          let longer = ap (λ (l : List ℕ). length l) piece.1 in
-          omega (arith, length-append (g.S.Source.taken c.session.reader) piece.0);
-      within =
-          (let most = piece.2 in
-          let longer = ap (λ (l : List ℕ). length l) piece.1 in
-          omega (arith, length-append (g.S.Source.taken c.session.reader) piece.0));
-      reads = piece.6 ∙ c.session.invariant.reads;
-      writes = waits_without_fault _ _ _ _ _ _ _ _ (g.W.Sink.written c.serve_next.new.writer) (g.W.Sink.failures c.session.writer) (g.W.Sink.failures c.serve_next.new.writer) _ c.serve_next.new.clock _ c.serve_next.new.node _ c.serve_next.new.requests _ c.session.invariant.so step ∙ c.session.invariant.writes;
-    }
+    rw (p.1, p.2) (read_fails _ _ _ _ _ (station c.serve_next.new.clock c.serve_next.new.node (g.W.Sink.told c.serve_next.new.writer)) _ c.serve_next.new.requests _ c.session.invariant.so (length c.session.buffer) (g.S.Source.told c.read_piece.new.reader) c.read_piece.new.requests c.in_err-ended-in-Waits.field-0.0 step
+    (c.in_err-ended-in-Waits.ensures.piece c.session.invariant.so.rest (waits_for _ _ _ _ _ (station c.serve_next.new.clock c.serve_next.new.node (g.W.Sink.told c.serve_next.new.writer)) _ c.serve_next.new.requests _ c.session.invariant.so step).stands))
 
 pub returns-in_err-ended-in-Waits-clause-bytes : goal.returns-in_err-ended-in-Waits-clause-bytes
 returns-in_err-ended-in-Waits-clause-bytes g c =
-    let step = stepped _ _ _ _ _ _ _ _ (g.W.Sink.written c.serve_next.new.writer) (g.W.Sink.failures c.session.writer) (g.W.Sink.failures c.serve_next.new.writer) _ c.serve_next.new.clock _ c.serve_next.new.node _ c.serve_next.new.requests _ c.session.invariant.so
-    (Ok c.in_ok-serve_next.field-0) (Ok Waits) (ap (λ (s : Step). Ok s) c.in-Waits.is) (c.in_ok-serve_next.ensures c.session.invariant.so.rest c.session.invariant.so.becomes.stands) in
-    let few = failed_read_within (length c.session.buffer) c.session.invariant.so.rest c.read_piece.new.requests (g.S.Source.taken c.session.reader)
-    (g.S.Source.taken c.read_piece.new.reader) (g.S.Source.left c.read_piece.new.reader) (g.S.Source.failures c.session.reader) (g.S.Source.failures c.read_piece.new.reader)
-    c.in_err-ended-in-Waits.field-0.0 (c.in_err-ended-in-Waits.ensures.piece c.session.invariant.so.rest (waits_for _ _ _ _ _ _ _ _ (g.W.Sink.written c.serve_next.new.writer) (g.W.Sink.failures c.session.writer) (g.W.Sink.failures c.serve_next.new.writer) _ c.serve_next.new.clock _ c.serve_next.new.node _ c.serve_next.new.requests _ c.session.invariant.so step).stands) in
+    let step = stepped _ _ _ _ _ (station c.serve_next.new.clock c.serve_next.new.node (g.W.Sink.told c.serve_next.new.writer)) _ c.serve_next.new.requests _ c.session.invariant.so (Ok c.in_ok-serve_next.field-0) (Ok Waits) (ap (λ (s : Step). Ok s) c.in-Waits.is) (c.in_ok-serve_next.ensures c.session.invariant.so.rest c.session.invariant.so.becomes.stands) in
+    let few = failed_read_within (length c.session.buffer) c.session.invariant.so.rest c.read_piece.new.requests (g.S.Source.told c.session.reader) (g.S.Source.told c.read_piece.new.reader) c.in_err-ended-in-Waits.field-0.0
+    (c.in_err-ended-in-Waits.ensures.piece c.session.invariant.so.rest (waits_for _ _ _ _ _ (station c.serve_next.new.clock c.serve_next.new.node (g.W.Sink.told c.serve_next.new.writer)) _ c.serve_next.new.requests _ c.session.invariant.so step).stands) in
     let before = c.session.invariant.within in
     omega arith
 
 pub session-smaller : goal.session-smaller
 session-smaller g c =
-    let step = stepped _ _ _ _ _ _ _ _ (g.W.Sink.written c.serve_next.new.writer) (g.W.Sink.failures c.session.writer) (g.W.Sink.failures c.serve_next.new.writer) _ c.serve_next.new.clock _ c.serve_next.new.node _ c.serve_next.new.requests _ c.session.invariant.so
-    (Ok c.in_ok-serve_next.field-0) (Ok Waits) (ap (λ (s : Step). Ok s) c.in-Waits.is) (c.in_ok-serve_next.ensures c.session.invariant.so.rest c.session.invariant.so.becomes.stands) in
-    let piece = c.in_ok-ended-in-Waits.ensures.piece c.session.invariant.so.rest (waits_for _ _ _ _ _ _ _ _ (g.W.Sink.written c.serve_next.new.writer) (g.W.Sink.failures c.session.writer) (g.W.Sink.failures c.serve_next.new.writer) _ c.serve_next.new.clock _ c.serve_next.new.node _ c.serve_next.new.requests _ c.session.invariant.so step).stands in
-    let most = piece.2 in
+    let step = stepped _ _ _ _ _ (station c.serve_next.new.clock c.serve_next.new.node (g.W.Sink.told c.serve_next.new.writer)) _ c.serve_next.new.requests _ c.session.invariant.so (Ok c.in_ok-serve_next.field-0) (Ok Waits) (ap (λ (s : Step). Ok s) c.in-Waits.is) (c.in_ok-serve_next.ensures c.session.invariant.so.rest c.session.invariant.so.becomes.stands) in
+    let piece = c.in_ok-ended-in-Waits.ensures.piece c.session.invariant.so.rest (waits_for _ _ _ _ _ (station c.serve_next.new.clock c.serve_next.new.node (g.W.Sink.told c.serve_next.new.writer)) _ c.serve_next.new.requests _ c.session.invariant.so step).stands in
+    let most = piece.3 in
     let was = ap (λ (l : List ℕ). length l) c.session.invariant.so.becomes.stands in
-    let is = ap (λ (l : List ℕ). length l) piece.3.stands in
+    let is = ap (λ (l : List ℕ). length l) piece.6.stands in
     omega (arith, length-append c.session.invariant.so.rest piece.0)
 
-pub returns-in_err-serve_next-clause-no_write_fault : goal.returns-in_err-serve_next-clause-no_write_fault
-returns-in_err-serve_next-clause-no_write_fault g c =
-    let p = err_from_is_err_and c.from_residual.result c.from_residual.ensures.1 in
-    let well : c.in_err-serve_next.field-0.0 ≢ WriteFault → g.W.Sink.failures c.serve_next.new.writer ≡ g.W.Sink.failures c.session.writer =
-    writer_well _ _ _ _ _ _ _ _ (g.W.Sink.written c.serve_next.new.writer) (g.W.Sink.failures c.session.writer) (g.W.Sink.failures c.serve_next.new.writer) _ c.serve_next.new.clock _ c.serve_next.new.node _ c.serve_next.new.requests _ c.session.invariant.so c.in_err-serve_next.field-0.0
-    (stepped _ _ _ _ _ _ _ _ (g.W.Sink.written c.serve_next.new.writer) (g.W.Sink.failures c.session.writer) (g.W.Sink.failures c.serve_next.new.writer) _ c.serve_next.new.clock _ c.serve_next.new.node _ c.serve_next.new.requests _ c.session.invariant.so
-    (Err c.in_err-serve_next.field-0.0) (Err c.in_err-serve_next.field-0.0) (refl) (c.in_err-serve_next.ensures c.session.invariant.so.rest c.session.invariant.so.becomes.stands)) in
-    rw (p.1, p.2) (λ other. well (λ e. other (ap (λ (x : NodeError). Err x) e)) ∙ c.session.invariant.writes)
-
-pub returns-in-Ends-clause-no_write_fault : goal.returns-in-Ends-clause-no_write_fault
-returns-in-Ends-clause-no_write_fault g c other =
-    ended_without_fault _ _ _ _ _ _ _ _ (g.W.Sink.written c.serve_next.new.writer) (g.W.Sink.failures c.session.writer) (g.W.Sink.failures c.serve_next.new.writer) _ c.serve_next.new.clock _ c.serve_next.new.node _ c.serve_next.new.requests _ c.session.invariant.so c.in-Ends.how
-    (stepped _ _ _ _ _ _ _ _ (g.W.Sink.written c.serve_next.new.writer) (g.W.Sink.failures c.session.writer) (g.W.Sink.failures c.serve_next.new.writer) _ c.serve_next.new.clock _ c.serve_next.new.node _ c.serve_next.new.requests _ c.session.invariant.so
-    (Ok c.in_ok-serve_next.field-0) (Ok (Ends c.in-Ends.how)) (ap (λ (s : Step). Ok s) c.in-Ends.is) (c.in_ok-serve_next.ensures c.session.invariant.so.rest c.session.invariant.so.becomes.stands)) ∙ c.session.invariant.writes
-
-pub returns-then-ended-clause-no_write_fault : goal.returns-then-ended-clause-no_write_fault
-returns-then-ended-clause-no_write_fault g c other =
-    waits_without_fault _ _ _ _ _ _ _ _ (g.W.Sink.written c.serve_next.new.writer) (g.W.Sink.failures c.session.writer) (g.W.Sink.failures c.serve_next.new.writer) _ c.serve_next.new.clock _ c.serve_next.new.node _ c.serve_next.new.requests _ c.session.invariant.so
-    (stepped _ _ _ _ _ _ _ _ (g.W.Sink.written c.serve_next.new.writer) (g.W.Sink.failures c.session.writer) (g.W.Sink.failures c.serve_next.new.writer) _ c.serve_next.new.clock _ c.serve_next.new.node _ c.serve_next.new.requests _ c.session.invariant.so
-    (Ok c.in_ok-serve_next.field-0) (Ok Waits) (ap (λ (s : Step). Ok s) c.in-Waits.is) (c.in_ok-serve_next.ensures c.session.invariant.so.rest c.session.invariant.so.becomes.stands)) ∙ c.session.invariant.writes
-
-pub returns-then-turns_left-eq0-clause-no_write_fault : goal.returns-then-turns_left-eq0-clause-no_write_fault
-returns-then-turns_left-eq0-clause-no_write_fault g c other =
-    waits_without_fault _ _ _ _ _ _ _ _ (g.W.Sink.written c.serve_next.new.writer) (g.W.Sink.failures c.session.writer) (g.W.Sink.failures c.serve_next.new.writer) _ c.serve_next.new.clock _ c.serve_next.new.node _ c.serve_next.new.requests _ c.session.invariant.so
-    (stepped _ _ _ _ _ _ _ _ (g.W.Sink.written c.serve_next.new.writer) (g.W.Sink.failures c.session.writer) (g.W.Sink.failures c.serve_next.new.writer) _ c.serve_next.new.clock _ c.serve_next.new.node _ c.serve_next.new.requests _ c.session.invariant.so
-    (Ok c.in_ok-serve_next.field-0) (Ok Waits) (ap (λ (s : Step). Ok s) c.in-Waits.is) (c.in_ok-serve_next.ensures c.session.invariant.so.rest c.session.invariant.so.becomes.stands)) ∙ c.session.invariant.writes
-
-pub returns-in_err-ended-in-Waits-clause-no_write_fault : goal.returns-in_err-ended-in-Waits-clause-no_write_fault
-returns-in_err-ended-in-Waits-clause-no_write_fault g c other =
-    waits_without_fault _ _ _ _ _ _ _ _ (g.W.Sink.written c.serve_next.new.writer) (g.W.Sink.failures c.session.writer) (g.W.Sink.failures c.serve_next.new.writer) _ c.serve_next.new.clock _ c.serve_next.new.node _ c.serve_next.new.requests _ c.session.invariant.so
-    (stepped _ _ _ _ _ _ _ _ (g.W.Sink.written c.serve_next.new.writer) (g.W.Sink.failures c.session.writer) (g.W.Sink.failures c.serve_next.new.writer) _ c.serve_next.new.clock _ c.serve_next.new.node _ c.serve_next.new.requests _ c.session.invariant.so
-    (Ok c.in_ok-serve_next.field-0) (Ok Waits) (ap (λ (s : Step). Ok s) c.in-Waits.is) (c.in_ok-serve_next.ensures c.session.invariant.so.rest c.session.invariant.so.becomes.stands)) ∙ c.session.invariant.writes
-
-pub returns-in_err-ended-in-Waits-clause-no_read_fault : goal.returns-in_err-ended-in-Waits-clause-no_read_fault
-returns-in_err-ended-in-Waits-clause-no_read_fault g c =
-    let step = stepped _ _ _ _ _ _ _ _ (g.W.Sink.written c.serve_next.new.writer) (g.W.Sink.failures c.session.writer) (g.W.Sink.failures c.serve_next.new.writer) _ c.serve_next.new.clock _ c.serve_next.new.node _ c.serve_next.new.requests _ c.session.invariant.so
-    (Ok c.in_ok-serve_next.field-0) (Ok Waits) (ap (λ (s : Step). Ok s) c.in-Waits.is) (c.in_ok-serve_next.ensures c.session.invariant.so.rest c.session.invariant.so.becomes.stands) in
-    let p = err_from_is_err_and c.from_residual-in_err-ended-in-Waits.result c.from_residual-in_err-ended-in-Waits.ensures.1 in
-    let well : c.in_err-ended-in-Waits.field-0.0 ≢ ReadFault → g.S.Source.failures c.read_piece.new.reader ≡ g.S.Source.failures c.session.reader =
-    reader_well (length c.session.buffer) c.session.invariant.so.rest c.read_piece.new.requests (g.S.Source.taken c.session.reader)
-    (g.S.Source.taken c.read_piece.new.reader) (g.S.Source.left c.read_piece.new.reader) (g.S.Source.failures c.session.reader) (g.S.Source.failures c.read_piece.new.reader)
-    c.in_err-ended-in-Waits.field-0.0 (c.in_err-ended-in-Waits.ensures.piece c.session.invariant.so.rest (waits_for _ _ _ _ _ _ _ _ (g.W.Sink.written c.serve_next.new.writer) (g.W.Sink.failures c.session.writer) (g.W.Sink.failures c.serve_next.new.writer) _ c.serve_next.new.clock _ c.serve_next.new.node _ c.serve_next.new.requests _ c.session.invariant.so step).stands) in
-    rw (p.1, p.2) (λ other. well (λ e. other (ap (λ (x : NodeError). Err x) e)) ∙ c.session.invariant.reads)
+pub session-preserved : goal.session-preserved
+session-preserved g c =
+    let step = stepped _ _ _ _ _ (station c.serve_next.new.clock c.serve_next.new.node (g.W.Sink.told c.serve_next.new.writer)) _ c.serve_next.new.requests _ c.session.invariant.so (Ok c.in_ok-serve_next.field-0) (Ok Waits) (ap (λ (s : Step). Ok s) c.in-Waits.is) (c.in_ok-serve_next.ensures c.session.invariant.so.rest c.session.invariant.so.becomes.stands) in
+    let piece = c.in_ok-ended-in-Waits.ensures.piece c.session.invariant.so.rest (waits_for _ _ _ _ _ (station c.serve_next.new.clock c.serve_next.new.node (g.W.Sink.told c.serve_next.new.writer)) _ c.serve_next.new.requests _ c.session.invariant.so step).stands in
+    record {
+      so = fed _ _ _ _ _ (station c.serve_next.new.clock c.serve_next.new.node (g.W.Sink.told c.serve_next.new.writer)) _ c.serve_next.new.requests _ c.session.invariant.so (length c.session.buffer) (g.S.Source.told c.read_piece.new.reader) c.read_piece.new.requests c.in_ok-ended-in-Waits.ended step piece;
+      counted = (let before = c.session.invariant.counted in let one = c.read_piece.ensures.once in omega arith);
+      brought = λ e.
+          let some = piece.4 e in
+          let before = c.session.invariant.brought c.if-ended.false in
+          let longer = ap (λ (l : List ℕ). length l) piece.1 in
+          omega (arith, length-append (g.S.Source.told c.session.reader).taken piece.0);
+      within =
+          (let most = piece.3 in
+          let before = c.session.invariant.within in
+          let longer = ap (λ (l : List ℕ). length l) piece.1 in
+          omega (arith, length-append (g.S.Source.told c.session.reader).taken piece.0));
+      offered = λ e. still_offered read_length (length c.session.buffer) _ _ (omega arith) (c.session.invariant.offered e) c.read_piece.ensures.offered;
+      well = piece.7 ∙ c.session.invariant.well;
+    }

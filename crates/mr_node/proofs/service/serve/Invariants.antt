@@ -1,22 +1,23 @@
 use Rattle.std.proofs.Common.{◌≡◌, ◌+◌, ◌*◌, ◌≤◌, length, false}
+use Rattle.mr_text.specs.Source.{AreOffered}
 use Rattle.mr_node.specs.Outcome.{Outcome}
-use Rattle.mr_node.specs.Session.{most_read}
+use Rattle.mr_node.specs.Session.{station, read_length}
 use Rattle.mr_node.proofs.SessionLemmas.{UnderWay}
 use Rattle.mr_node.proofs.service.serve.Given as goal
 
--- what was read so far was served, and neither device failed
+-- what was read so far was served, and the reader didn't fail
 abbrev pub invariant-session : goal.invariant-session
 invariant-session g l = record {
   so : UnderWay (Outcome g.C.Clock.reads g.C.Clock.failures g.P.Perform.did g.P.Perform.refused)
-      (g.S.Source.taken l.initial.reader) (g.W.Sink.written l.initial.writer) l.initial.clock l.initial.node
-      (g.S.Source.taken l.reader) (g.S.Source.left l.reader) (g.W.Sink.written l.writer) l.clock l.node l.requests l.ended;
+      (g.S.Source.told l.initial.reader) (station l.initial.clock l.initial.node (g.W.Sink.told l.initial.writer))
+      (g.S.Source.told l.reader) (station l.clock l.node (g.W.Sink.told l.writer)) l.requests l.ended;
   -- each turn is one read
-  counted : g.S.Source.reads l.reader + l.turns_left ≡ g.S.Source.reads l.initial.reader + l.fn.turns;
+  counted : (g.S.Source.told l.reader).reads + l.turns_left ≡ (g.S.Source.told l.initial.reader).reads + l.fn.turns;
   -- each read but that of the end brought a byte, and none more than it may
-  brought : l.ended ≡ false → length (g.S.Source.taken l.initial.reader) + l.fn.turns ≤ length (g.S.Source.taken l.reader) + l.turns_left;
-  within : length (g.S.Source.taken l.reader) + l.turns_left * most_read ≤ length (g.S.Source.taken l.initial.reader) + l.fn.turns * most_read;
-  reads : g.S.Source.failures l.reader ≡ g.S.Source.failures l.initial.reader;
-  writes : g.W.Sink.failures l.writer ≡ g.W.Sink.failures l.initial.writer;
+  brought : l.ended ≡ false → length (g.S.Source.told l.initial.reader).taken + l.fn.turns ≤ length (g.S.Source.told l.reader).taken + l.turns_left;
+  within : length (g.S.Source.told l.reader).taken + l.turns_left * read_length ≤ length (g.S.Source.told l.initial.reader).taken + l.fn.turns * read_length;
+  offered : AreOffered read_length (g.S.Source.told l.initial.reader).least_room → AreOffered read_length (g.S.Source.told l.reader).least_room;
+  well : (g.S.Source.told l.reader).failures ≡ (g.S.Source.told l.initial.reader).failures;
 }
 
 -- a read takes a turn and brings less than a turn's weight; a request that is served takes bytes

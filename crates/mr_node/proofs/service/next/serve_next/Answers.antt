@@ -4,6 +4,7 @@ use Rattle.mr_text.specs.Stream.{NextIs}
 use Rattle.mr_text.specs.declared.error.TextError.{TextError}
 use Rattle.mr_text.specs.declared.request.Request.{Request}
 use Rattle.mr_node.specs.Outcome.{Outcome}
+use Rattle.mr_node.specs.Session.{station}
 use Rattle.mr_node.proofs.ServiceLemmas.{step_of_request, step_of_refusal}
 use Rattle.mr_node.proofs.service.next.serve_next.Goals as goal
 
@@ -12,21 +13,23 @@ returns-in-Ok-None g c rest stands =
     let next : NextIs SpellsRequest RefusesRequest SkipsLine is_quit c.args.requests.now c.next.new.self rest (Ok None) =
     subst (λ (r : Result (Option Request) TextError). NextIs SpellsRequest RefusesRequest SkipsLine is_quit c.args.requests.now c.next.new.self rest r)
     (c.in-Ok-None.is ∙ ap (λ (o : Option Request). Ok o) c.in-Ok-None.field-0-is) (c.next.ensures rest stands) in
-    ((refl, refl, refl, refl), next.1, next.2, next.3)
+    (refl, next.1, next.2, next.3)
 
 pub returns-in-Ok-Some : goal.returns-in-Ok-Some
 returns-in-Ok-Some g c rest stands =
     let next : NextIs SpellsRequest RefusesRequest SkipsLine is_quit c.args.requests.now c.next.new.self rest (Ok (Some c.in-Ok-Some.request)) =
     subst (λ (r : Result (Option Request) TextError). NextIs SpellsRequest RefusesRequest SkipsLine is_quit c.args.requests.now c.next.new.self rest r)
     (c.in-Ok-Some.is ∙ ap (λ (o : Option Request). Ok o) c.in-Ok-Some.field-0-is) (c.next.ensures rest stands) in
-    step_of_request (Outcome g.C.Clock.reads g.C.Clock.failures g.P.Perform.did g.P.Perform.refused) (g.W.Sink.written c.args.writer.now) (g.W.Sink.written c.serve_request.new.writer)
-    (g.W.Sink.failures c.args.writer.now) (g.W.Sink.failures c.serve_request.new.writer) c.args.clock.now c.args.node.now rest c.args.requests.now c.next.new.self
-    c.serve_request.new.clock c.serve_request.new.node c.in-Ok-Some.request c.serve_request.result next c.serve_request.ensures
+    step_of_request (Outcome g.C.Clock.reads g.C.Clock.failures g.P.Perform.did g.P.Perform.refused) rest c.args.requests.now c.next.new.self
+    (station c.args.clock.now c.args.node.now (g.W.Sink.told c.args.writer.now))
+    (station c.serve_request.new.clock c.serve_request.new.node (g.W.Sink.told c.serve_request.new.writer))
+    c.in-Ok-Some.request c.serve_request.result next c.serve_request.ensures
 
 pub returns-in-Err : goal.returns-in-Err
 returns-in-Err g c rest stands =
     let next : NextIs SpellsRequest RefusesRequest SkipsLine is_quit c.args.requests.now c.next.new.self rest (Err c.in-Err.refusal) =
     subst (λ (r : Result (Option Request) TextError). NextIs SpellsRequest RefusesRequest SkipsLine is_quit c.args.requests.now c.next.new.self rest r)
     c.in-Err.is (c.next.ensures rest stands) in
-    step_of_refusal (Outcome g.C.Clock.reads g.C.Clock.failures g.P.Perform.did g.P.Perform.refused) (g.W.Sink.written c.args.writer.now) (g.W.Sink.written c.serve_refusal.new.writer)
-    (g.W.Sink.failures c.args.writer.now) (g.W.Sink.failures c.serve_refusal.new.writer) c.args.clock.now c.args.node.now rest c.args.requests.now c.next.new.self c.in-Err.refusal c.serve_refusal.result c.requires next c.serve_refusal.ensures
+    step_of_refusal (Outcome g.C.Clock.reads g.C.Clock.failures g.P.Perform.did g.P.Perform.refused) rest c.args.requests.now c.next.new.self
+    c.args.clock.now c.args.node.now (g.W.Sink.told c.args.writer.now) (g.W.Sink.told c.serve_refusal.new.writer)
+    c.in-Err.refusal c.serve_refusal.result c.requires next c.serve_refusal.ensures
