@@ -13,9 +13,9 @@ abbrev pub no_replies : SideReplies
 no_replies = record { old = None; new = None }
 
 -- the replies with one more of this side
-abbrev pub with_reply : SideReplies → Side → LegReply → SideReplies
-with_reply replies Old reply = record { old = Some reply; new = replies.new }
-with_reply replies New reply = record { old = replies.old; new = Some reply }
+abbrev pub with_side_reply : SideReplies → Side → LegReply → SideReplies
+with_side_reply replies Old reply = record { old = Some reply; new = replies.new }
+with_side_reply replies New reply = record { old = replies.old; new = Some reply }
 
 -- in order of place: the old side's first, whichever came first
 abbrev pub in_order : SideReplies → List LegReply
@@ -33,4 +33,4 @@ pub record JoiningView : Type 0 where
 -- what this side answered, if it did
 abbrev pub came_from : Side → Option LegReply → SideReplies
 came_from side None = no_replies
-came_from side (Some reply) = with_reply no_replies side reply
+came_from side (Some reply) = with_side_reply no_replies side reply

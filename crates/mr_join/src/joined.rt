@@ -31,11 +31,11 @@ impl Model for Joined {
 }
 
 impl Joined {
-    ghost use Rattle.mr_join.specs.Sides.{no_replies, with_reply, in_order};
+    ghost use Rattle.mr_join.specs.Sides.{no_replies, with_side_reply, in_order};
 
     /// One side's reply, where it alone was awaited.
     pub(crate) fn of_one(side: Side, reply: LegReply) -> Joined
-        ensures { result ≡ with_reply no_replies side reply }
+        ensures { result ≡ with_side_reply no_replies side reply }
     {
         Joined {
             came: Came::OneSide(side, reply),

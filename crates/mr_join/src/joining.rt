@@ -51,7 +51,7 @@ impl<S> Model for Joining<S> {
 
 impl Joining<Two> {
     ghost use Rattle.mr_phases.specs.declared.side.Side.TheVariants.{Old, New};
-    ghost use Rattle.mr_join.specs.Sides.{no_replies, with_reply, other_side};
+    ghost use Rattle.mr_join.specs.Sides.{no_replies, with_side_reply, other_side};
 
     /// Awaits both sides.
     pub fn two() -> Joining<Two>
@@ -64,7 +64,7 @@ impl Joining<Two> {
     /// Takes the first reply, of either side; the other side is awaited from then on.
     pub fn take(self, side: Side, reply: LegReply) -> Joining<One>
         ensures awaits { result.awaits ≡ other_side side ∷ [] }
-        ensures came { result.came ≡ with_reply no_replies side reply }
+        ensures came { result.came ≡ with_side_reply no_replies side reply }
     {
         let awaited = match side {
             Side::Old => Side::New,
@@ -80,7 +80,7 @@ impl Joining<Two> {
 }
 
 impl Joining<One> {
-    ghost use Rattle.mr_join.specs.Sides.{no_replies, with_reply};
+    ghost use Rattle.mr_join.specs.Sides.{no_replies, with_side_reply};
 
     /// Awaits that side alone.
     pub fn one(side: Side) -> Joining<One>
@@ -97,7 +97,7 @@ impl Joining<One> {
 
     /// Takes the last reply. Where its side isn't the one awaited, both are handed back as they were.
     pub fn take(self, side: Side, reply: LegReply) -> Result<Joined, (Joining<One>, LegReply)>
-        ensures joined { IfOk result (λ joined. (self.awaits ≡ side ∷ []) × (joined ≡ with_reply self.came side reply)) }
+        ensures joined { IfOk result (λ joined. (self.awaits ≡ side ∷ []) × (joined ≡ with_side_reply self.came side reply)) }
         ensures refused { IfErr result (λ back. (¬ (self.awaits ≡ side ∷ [])) × (back.0 ≡ self) × (back.1 ≡ reply)) }
     {
         if side != self.state.awaited {

@@ -6,14 +6,14 @@ use Rattle.mr_phases.specs.declared.phase_name.PhaseName.{PhaseName}
 use Rattle.mr_phases.specs.declared.phase_name.PhaseName.TheVariants.{OldOnly, BothReadOld, BothReadNew, NewOnly}
 use Rattle.mr_phases.specs.Schedule.{Hop, phase_in, Standing, standing_from, standing_of, first_start, first_interval, least_from, least_interval, IsChainFrom, IsChain}
 use Rattle.mr_phases.specs.Sides.{read_side_of, delete_sides_of}
-use Rattle.mr_phases.specs.Pools.{pool_of, read_pool, delete_pools, SomeFrom}
+use Rattle.mr_phases.specs.Pools.{pool_number, read_pool, delete_pools, SomeFrom}
 use Rattle.mr_phases.proofs.Members.{contains_first, contains_second, contains_same, contained_in_one, contained_in_two}
 
 abbrev pool_read : Standing → ℕ
-pool_read s = pool_of s.hop (read_side_of s.phase)
+pool_read s = pool_number s.hop (read_side_of s.phase)
 
 abbrev pools_deleted : Standing → List ℕ
-pools_deleted s = map (pool_of s.hop) (delete_sides_of s.phase)
+pools_deleted s = map (pool_number s.hop) (delete_sides_of s.phase)
 
 -- 1 where the bound is reached, by the test whether the reading is below it
 reached_by : Bool → ℕ

@@ -3,6 +3,6 @@ use Rattle.std.specs.Prelude.{ℕ}
 use Rattle.mr_phases.specs.declared.error.ScheduleError.{ScheduleError}
 use Rattle.mr_phases.specs.declared.error.ScheduleError.TheVariants.{ZeroInterval, TooLate}
 
-abbrev pub error_number : ScheduleError → ℕ
-error_number ZeroInterval = 1
-error_number TooLate = 2
+abbrev pub number_of_refusal : ScheduleError → ℕ
+number_of_refusal ZeroInterval = 1
+number_of_refusal TooLate = 2

@@ -1,6 +1,6 @@
 //! Why a schedule is refused.
 ghost use Rattle.std.specs.Prelude.{◌≡◌};
-ghost use Rattle.mr_phases.specs.ScheduleError.{error_number};
+ghost use Rattle.mr_phases.specs.ScheduleError.{number_of_refusal};
 
 use thiserror::Error;
 
@@ -18,7 +18,7 @@ pub enum ScheduleError {
 impl ScheduleError {
     /// The refusal's number: 1 or 2.
     pub fn number(&self) -> u8
-        ensures { result ≡ error_number self.now }
+        ensures { result ≡ number_of_refusal self.now }
     {
         match self {
             ScheduleError::ZeroInterval => 1,

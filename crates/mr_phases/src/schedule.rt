@@ -81,7 +81,7 @@ impl Schedule {
     }
 
     /// Whether both have the same hops.
-    pub fn is_same(&self, other: &Schedule) -> bool
+    pub fn same_as(&self, other: &Schedule) -> bool
         ensures { IsTrue result ↔ (self.now ≡ other.now) }
     {
         self.start == other.start && self.interval == other.interval

@@ -14,7 +14,7 @@ pub enum Side {
 }
 
 impl Side {
-    ghost use Rattle.mr_phases.specs.Pools.{pool_of};
+    ghost use Rattle.mr_phases.specs.Pools.{pool_number};
 
     /// The printed name: `old` or `new`.
     pub fn as_str(self) -> &'static str
@@ -29,7 +29,7 @@ impl Side {
     /// The number of the side's pool at a hop, both counted from 0: a hop leaves the pool of its own number, and
     /// moves to the next.
     pub fn pool_number(self, hop: u32) -> usize
-        ensures { result ≡ pool_of hop self }
+        ensures { result ≡ pool_number hop self }
     {
         match self {
             Side::Old => hop as usize,

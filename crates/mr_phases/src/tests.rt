@@ -40,7 +40,7 @@ fn each_bound_belongs_to_the_later_phase(rt: HostRuntime) -> Result<(), Fail> {
         let judged = judge(schedule, now);
         assert_eq!(rt; judged.name(), name, "at {now}");
         assert_eq!(rt; judged.reading(), now);
-        assert!(rt; judged.schedule().is_same(&schedule));
+        assert!(rt; judged.schedule().same_as(&schedule));
         assert_eq!(rt; judged.read_side(), read, "at {now}");
         for kind in [RequestKind::Get, RequestKind::Set] {
             let sides = judged.sides(kind);
@@ -79,8 +79,8 @@ fn limits_of_a_schedule(rt: HostRuntime) -> Result<(), Fail> {
     assert_eq!(rt; last.start(), 18446744073709551415);
     assert_eq!(rt; last.interval(), 100);
     assert_eq!(rt; last.least_interval(), 100);
-    assert!(rt; last.copy().is_same(&last));
-    assert!(rt; !last.is_same(&Schedule::new(1000, 100)?));
+    assert!(rt; last.copy().same_as(&last));
+    assert!(rt; !last.same_as(&Schedule::new(1000, 100)?));
     assert_eq!(rt; judge(last, u64::MAX).name(), PhaseName::NewOnly);
     for (start, interval, error, number) in [
         (1000, 0, ScheduleError::ZeroInterval, 1),
