@@ -1,5 +1,5 @@
 //! The answer to a request.
-ghost use Rattle.std.specs.Prelude.{◌≡◌, IfOk};
+ghost use Rattle.std.specs.Prelude.{◌≡◌, ◌↔◌, IsTrue, IfOk};
 ghost use Rattle.mr_text.specs.Canonical.{canonical_reply};
 ghost use Rattle.mr_text.specs.Gathering.{TakesFewCalls, parts_of_reply};
 ghost use Rattle.mr_text.specs.Sink.{Writes};
@@ -97,6 +97,13 @@ impl Answer {
     {
         let (request, slots, items) = self.pending.into_parts();
         joined(request, slots, items)
+    }
+
+    /// Whether the other answer is equal. It takes no memory.
+    pub fn same_as(&self, other: &Answer) -> bool
+        ensures { IsTrue result ↔ (self.now ≡ other.now) }
+    {
+        self.given_up == other.given_up && self.pending.same_as(&other.pending)
     }
 
     /// An equal answer.

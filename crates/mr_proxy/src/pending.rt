@@ -1,9 +1,9 @@
 //! A request under way.
-ghost use Rattle.std.specs.Prelude.{◌≡◌, Some, true, IfOk, is_some, unwrap_or, length, vec_capacity, count_by};
+ghost use Rattle.std.specs.Prelude.{◌≡◌, ◌↔◌, Some, true, IsTrue, IfOk, is_some, unwrap_or, length, vec_capacity, count_by};
 ghost use Rattle.mr_proxy.specs.Slots.{is_open};
 
 use crate::room::room_for;
-use crate::slot::Slot;
+use crate::slot::{Slot, same_slots};
 use mr_history::OpId;
 use mr_join::LegReply;
 use mr_text::{Item, Request};
@@ -160,6 +160,16 @@ impl Pending {
         ensures room { HasRoomFor result.0 result.2.items (vec_capacity result.2) }
     {
         (self.request, self.slots, self.items)
+    }
+
+    /// Whether the other request under way is equal.
+    pub(crate) fn same_as(&self, other: &Pending) -> bool
+        ensures { IsTrue result ↔ (self.now ≡ other.now) }
+    {
+        self.op == other.op
+            && self.reading == other.reading
+            && self.request.same_as(&other.request)
+            && same_slots(&self.slots, &other.slots)
     }
 
     /// An equal request under way, with room of its own.

@@ -1,5 +1,5 @@
 //! A leg of a request as the proxy keeps it.
-ghost use Rattle.std.specs.Prelude.{◌≡◌, [], ◌∷◌, IfOk};
+ghost use Rattle.std.specs.Prelude.{◌≡◌, ◌↔◌, [], ◌∷◌, IsTrue, IfOk};
 ghost use Rattle.mr_join.specs.Join.{badness_of, first_cause};
 ghost use Rattle.mr_proxy.specs.Slots.{open_slot, is_open, is_awaiting, has_failed, outcome_of, is_of_kind};
 
@@ -94,6 +94,18 @@ impl Slot {
         }
     }
 
+    /// Whether the other slot is equal. It takes no memory.
+    pub fn same_as(&self, other: &Slot) -> bool
+        ensures { IsTrue result ↔ (self.now ≡ other.now) }
+    {
+        self.sheet.same_as(&other.sheet)
+            && match (&self.reply, &other.reply) {
+                (Some(reply), Some(other_reply)) => reply.same_as(other_reply),
+                (None, None) => true,
+                _ => false,
+            }
+    }
+
     /// An equal slot.
     pub fn copy(&self) -> Result<Slot, AllocError>
         ensures { IfOk result (λ slot. slot ≡ self.now) }
@@ -106,4 +118,19 @@ impl Slot {
             },
         })
     }
+}
+
+/// Whether both lists are equal.
+pub(crate) fn same_slots(slots: &[Slot], others: &[Slot]) -> bool
+    ensures { IsTrue result ↔ (slots.now ≡ others.now) }
+{
+    if slots.len() != others.len() {
+        return false;
+    }
+    for (place, slot) in slots.iter().enumerate() {
+        if !slot.same_as(&others[place]) {
+            return false;
+        }
+    }
+    true
 }

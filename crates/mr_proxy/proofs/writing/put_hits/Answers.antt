@@ -17,7 +17,7 @@ loop-place-preserved g c =
     let count =
     more_hits c.args.keys.now c.args.slots.now c.loop-place.place key slot (omega arith) (omega arith) c.index-keys-place.is c.index-slots-place.is in
     let one : HasGathered (items_text (hits_of (key ∷ []) (outcome_of slot ∷ []))) c.loop-place.buffer (g.W.Sink.told c.loop-place.writer)
-        c.put_hit.new.buffer (g.W.Sink.told c.put_hit.new.writer) = search rules in (
+    c.put_hit.new.buffer (g.W.Sink.told c.put_hit.new.writer) = search rules in (
       gathered_more c.args.keys.now c.args.slots.now c.loop-place.place key slot _ _ _ _ _ _
           (omega arith) (omega arith) c.index-keys-place.is c.index-slots-place.is so_far.0 one,
       omega arith,
@@ -29,7 +29,7 @@ returns-in_err-put_hit-clause-text g c =
     let key = c.index-keys-place.result in
     let slot = c.index-slots-place.result in
     let stop : Gathers (items_text (hits_of (key ∷ []) (outcome_of slot ∷ []))) c.loop-place.buffer (g.W.Sink.told c.loop-place.writer) (Err p.0)
-        c.put_hit.new.buffer (g.W.Sink.told c.put_hit.new.writer) = search rules in
+    c.put_hit.new.buffer (g.W.Sink.told c.put_hit.new.writer) = search rules in
     rw p.1
     (stopped_more c.args.keys.now c.args.slots.now c.loop-place.place key slot _ _ c.put_hit.new.buffer _ _ _ p.0
     (omega arith) (omega arith) c.index-keys-place.is c.index-slots-place.is c.loop-place.invariant.0 stop)
