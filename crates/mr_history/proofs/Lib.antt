@@ -2,3 +2,4 @@ pub mod Lists
 pub mod TestLemmas
 pub mod FormLemmas
 pub mod JudgeLemmas
+pub mod GrowthLemmas

@@ -58,6 +58,23 @@ get_last (z ∷ xs) y (suc i) x e = elim (get_last xs y i x e) [ inl h ↦ inl h
 pub at_last : {X : Type 0} (xs : List X) (y : X) {i : ℕ} {x : X} → At (xs ++ y ∷ []) i x → (At xs i x) ⊎ ((i ≡ length xs) × (x ≡ y))
 at_last xs y {i = i} {x = x} h = elim (get_last xs y i x h.gets) [ inl e ↦ inl (record { gets = e }) | inr e ↦ inr e ]
 
+get_left : {X : Type 0} (xs ys : List X) (i : ℕ) (x : X) → slice_get xs i ≡ Some x → slice_get (xs ++ ys) i ≡ Some x
+get_left [] ys i x e = cc
+get_left (z ∷ xs) ys zero x e = e
+get_left (z ∷ xs) ys (suc i) x e = get_left xs ys i x e
+
+pub at_left : {X : Type 0} {xs : List X} (ys : List X) {i : ℕ} {x : X} → At xs i x → At (xs ++ ys) i x
+at_left {xs = xs} ys {i = i} {x = x} h = record { gets = get_left xs ys i x h.gets }
+
+get_before : {X : Type 0} (xs ys : List X) (i : ℕ) (x : X) → slice_get (xs ++ ys) i ≡ Some x → i < length xs → slice_get xs i ≡ Some x
+get_before [] ys i x e below = absurd (omega arith)
+get_before (z ∷ xs) ys zero x e below = e
+get_before (z ∷ xs) ys (suc i) x e below = get_before xs ys i x e (omega arith)
+
+-- below the end of what was there, the list that grew has what was there
+pub at_before : {X : Type 0} (xs ys : List X) {i : ℕ} {x : X} → At (xs ++ ys) i x → i < length xs → At xs i x
+at_before xs ys {i = i} {x = x} h below = record { gets = get_before xs ys i x h.gets below }
+
 -- some element passes
 pub any_place : {X : Type 0} (test : X → Bool) (xs : List X) → list_any test xs ≡ true → (place : ℕ) × (x : X) × At xs place x × (test x ≡ true)
 any_place test [] h = cc

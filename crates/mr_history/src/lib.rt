@@ -5,6 +5,7 @@ mod entry;
 mod error;
 mod history;
 mod judge;
+pub mod laws;
 mod op_id;
 mod search;
 #[cfg(test)]
