@@ -7,7 +7,7 @@ use Rattle.mr_history.specs.declared.op_id.OpId.{OpId}
 use Rattle.mr_phases.specs.declared.side.Side.{Side}
 use Rattle.mr_phases.specs.Schedule.{Hop, phase_of, hop_of}
 use Rattle.mr_phases.specs.Sides.{sides_at, read_side_of, delete_sides_of}
-use Rattle.mr_phases.specs.Pools.{read_pool, delete_pools, pool_of as phase_pool}
+use Rattle.mr_phases.specs.Pools.{read_pool, delete_pools, pool_number as phase_pool}
 use Rattle.mr_pools.specs.Routing.{RoutingView}
 use Rattle.mr_node.specs.declared.command.NodeCommand.{NodeCommand}
 use Rattle.mr_node.specs.declared.command.NodeCommand.TheVariants.{Get, Set, Delete}

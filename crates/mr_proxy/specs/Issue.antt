@@ -58,7 +58,7 @@ targets_of sides commands = flat_map (λ command. map (λ side. record { side = 
 
 -- the pool of a side: 0 is the old one's
 abbrev pub pool_number : Side → ℕ
-pool_number side = pools.pool_of 0 side
+pool_number side = pools.pool_number 0 side
 
 -- the sheet of the leg of a place: its node is the one at which the routing places the key
 abbrev pub sheet_at : RoutingView → OpId → ℕ → Target → LegSheet

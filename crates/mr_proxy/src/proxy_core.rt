@@ -320,7 +320,7 @@ impl ProxyCore {
         self.number == other.number
             && self.incarnation == other.incarnation
             && self.routing.same_as(&other.routing)
-            && self.schedule.is_same(&other.schedule)
+            && self.schedule.same_as(&other.schedule)
             && self.room == other.room
     }
 
