@@ -1,8 +1,8 @@
 //! The bytes that requests and replies are written as.
 ghost use Rattle.std.specs.Prelude.{Some};
 
-use super::{add_repeated, reply_text, request_text};
-use crate::{
+use super::{add_repeated, are, count_is, reply_text, request_text};
+use mr_text::{
     Block, Cause, FailsAt, FixedBuffer, GhostCount, Item, ItemList, Key, KeyList, Line, OverWriter,
     Reply, Request, Sink, WriteFault, write_reply, write_reply_at_once, write_request,
 };
@@ -47,24 +47,40 @@ impl Sink for CountedWrites {
     }
 }
 
+/// Asserts what a request is written as.
+fn is_written(rt: &impl Abort, alloc: Global, request: &Request, text: &[u8]) -> Result<(), Fail> {
+    let written = request_text(alloc, request)?;
+    are(rt, &written, text);
+    Ok(())
+}
+
+fn is_copied(rt: &impl Abort, alloc: Global, request: &Request, text: &[u8]) -> Result<(), Fail> {
+    is_written(rt, alloc, request, text)?;
+    let copy = request.copy()?;
+    is_written(rt, alloc, &copy, text)
+}
+
 /// Asserts what a request and its copy are written as.
 fn is_request(rt: &impl Abort, alloc: Global, request: Request, text: &[u8]) -> Result<(), Fail> {
-    let copy = request.copy()?;
-    let written = request_text(alloc, &request)?;
-    assert_eq!(rt; written.as_slice(), text);
-    let written = request_text(alloc, &copy)?;
-    assert_eq!(rt; written.as_slice(), text);
+    is_copied(rt, alloc, &request, text)
+}
+
+/// Asserts what a reply is written as.
+fn is_answered(rt: &impl Abort, alloc: Global, reply: &Reply, text: &[u8]) -> Result<(), Fail> {
+    let written = reply_text(alloc, reply)?;
+    are(rt, &written, text);
     Ok(())
+}
+
+fn is_copied_reply(rt: &impl Abort, alloc: Global, reply: &Reply, text: &[u8]) -> Result<(), Fail> {
+    is_answered(rt, alloc, reply, text)?;
+    let copy = reply.copy()?;
+    is_answered(rt, alloc, &copy, text)
 }
 
 /// Asserts what a reply and its copy are written as.
 fn is_reply(rt: &impl Abort, alloc: Global, reply: Reply, text: &[u8]) -> Result<(), Fail> {
-    let copy = reply.copy()?;
-    let written = reply_text(alloc, &reply)?;
-    assert_eq!(rt; written.as_slice(), text);
-    let written = reply_text(alloc, &copy)?;
-    assert_eq!(rt; written.as_slice(), text);
-    Ok(())
+    is_copied_reply(rt, alloc, &reply, text)
 }
 
 fn get(alloc: Global) -> Result<Request, Fail> {
@@ -126,11 +142,15 @@ fn sets_are_written(rt: HostRuntime) -> Result<(), Fail> {
     )
 }
 
-fn one_item(alloc: Global, flags: u32, block: &[u8]) -> Result<Reply, Fail> {
+fn item(alloc: Global, flags: u32, block: &[u8]) -> Result<Item, Fail> {
     let key = Key::new(alloc, b"k")?;
     let block = Block::new(alloc, block)?;
+    Ok(Item { key, flags, block })
+}
+
+fn one_item(alloc: Global, flags: u32, block: &[u8]) -> Result<Reply, Fail> {
     let mut items = Vec::new(alloc);
-    items.push(Item { key, flags, block })?;
+    items.push(item(alloc, flags, block)?)?;
     Ok(Reply::Items(ItemList::new(items)))
 }
 
@@ -169,54 +189,94 @@ fn errors_are_written(rt: HostRuntime) -> Result<(), Fail> {
     is_reply(&rt, alloc, other(alloc, b" a\r")?, b"SERVER_ERROR  a\r\r\n")
 }
 
-#[test]
-fn short_reply_takes_one_write(rt: HostRuntime) -> Result<(), Fail> {
-    let alloc = rt.alloc();
+/// Asserts what a sink holds, and in how many writes it came.
+fn holds(rt: &impl Abort, sink: &CountedWrites, bytes: &[u8], writes: u64) {
+    are(rt, &sink.bytes, bytes);
+    assert_eq!(rt; sink.writes, writes);
+}
+
+/// Asserts that two replies that go through one buffer each take one write.
+fn take_one_write_each(rt: &impl Abort, alloc: Global, item: &Reply) -> Result<(), Fail> {
     let mut buffer = FixedBuffer::new();
     let mut sink = CountedWrites::new(alloc);
-    let item = one_item(alloc, 0, b"v")?;
-    write_reply_at_once(&item, &mut buffer, &mut sink)?;
-    assert_eq!(rt; sink.writes, 1);
+    write_reply_at_once(item, &mut buffer, &mut sink)?;
+    holds(rt, &sink, b"VALUE k 0 1\r\nv\r\nEND\r\n", 1);
     write_reply_at_once(&Reply::Stored, &mut buffer, &mut sink)?;
-    assert_eq!(rt; sink.writes, 2);
-    let wanted = b"VALUE k 0 1\r\nv\r\nEND\r\nSTORED\r\n".as_slice();
-    assert_eq!(rt; sink.bytes.as_slice(), wanted);
+    holds(rt, &sink, b"VALUE k 0 1\r\nv\r\nEND\r\nSTORED\r\n", 2);
     Ok(())
 }
 
-/// Asserts whether a reply with so many bytes of data is written at once, and that it is written as ever.
-fn is_at_once(rt: &impl Abort, alloc: Global, length: usize, at_once: bool) -> Result<(), Fail> {
+#[test]
+fn short_reply_takes_one_write(rt: HostRuntime) -> Result<(), Fail> {
+    let item = one_item(rt.alloc(), 0, b"v")?;
+    take_one_write_each(&rt, rt.alloc(), &item)
+}
+
+/// A reply with so many bytes of data.
+fn reply_of(alloc: Global, length: usize) -> Result<Reply, Fail> {
     let mut block = Vec::new(alloc);
     add_repeated(&mut block, b'x', length)?;
-    let reply = one_item(alloc, 0, &block)?;
-    let text = reply_text(alloc, &reply)?;
+    one_item(alloc, 0, &block)
+}
+
+/// Asserts whether a reply goes out in one write, and that it is written as ever.
+fn takes_one_write(
+    rt: &impl Abort,
+    alloc: Global,
+    reply: &Reply,
+    text: &[u8],
+    at_once: bool,
+) -> Result<(), Fail> {
     let mut buffer = FixedBuffer::new();
     let mut sink = CountedWrites::new(alloc);
-    write_reply_at_once(&reply, &mut buffer, &mut sink)?;
-    assert_eq!(rt; text.len(), length.saturating_add(23));
-    assert_eq!(rt; sink.bytes.as_slice(), text.as_slice());
+    write_reply_at_once(reply, &mut buffer, &mut sink)?;
+    are(rt, &sink.bytes, text);
     assert_eq!(rt; sink.writes == 1, at_once);
     Ok(())
 }
 
-#[test]
-fn reply_of_4096_bytes_takes_one_write(rt: HostRuntime) -> Result<(), Fail> {
-    // Beside the data, the line of the item, `END` and the line ends have 23 bytes.
-    is_at_once(&rt, rt.alloc(), 4073, true)?;
-    is_at_once(&rt, rt.alloc(), 4074, false)
+/// The same of a reply that has so many bytes.
+fn has_bytes(
+    rt: &impl Abort,
+    alloc: Global,
+    reply: &Reply,
+    length: usize,
+    at_once: bool,
+) -> Result<(), Fail> {
+    let text = reply_text(alloc, reply)?;
+    count_is(rt, text.len(), length);
+    takes_one_write(rt, alloc, reply, &text, at_once)
 }
 
-/// Asserts that a reply isn't written where this write fails.
-fn is_not_written(rt: &impl Abort, alloc: Global, reply: &Reply, call: u64) {
-    let mut sink = FailsAt::new(OverWriter::new(Vec::new(alloc)), call);
-    assert_eq!(rt; write_reply(reply, &mut sink), Err(WriteFault), "{call}");
+/// Asserts whether a reply of so many bytes goes out in one write.
+fn is_at_once(rt: &impl Abort, alloc: Global, length: usize, at_once: bool) -> Result<(), Fail> {
+    // Beside the data, the line of the item, `END` and the line ends have 23 bytes.
+    let reply = reply_of(alloc, length.saturating_sub(23))?;
+    has_bytes(rt, alloc, &reply, length, at_once)
+}
+
+#[test]
+fn reply_of_4096_bytes_takes_one_write(rt: HostRuntime) -> Result<(), Fail> {
+    is_at_once(&rt, rt.alloc(), 4096, true)?;
+    is_at_once(&rt, rt.alloc(), 4097, false)
+}
+
+/// A sink of which one write fails.
+fn failing_sink(alloc: Global, call: u64) -> FailsAt<OverWriter<Vec<u8>>> {
+    FailsAt::new(OverWriter::new(Vec::new(alloc)), call)
+}
+
+/// Asserts that a write failed.
+fn has_failed(rt: &impl Abort, written: Result<(), WriteFault>) {
+    assert_eq!(rt; written, Err(WriteFault));
 }
 
 #[test]
 fn reply_passes_on_faults(rt: HostRuntime) -> Result<(), Fail> {
     let reply = one_item(rt.alloc(), 0, b"v")?;
     for call in 1..6 {
-        is_not_written(&rt, rt.alloc(), &reply, call);
+        let mut sink = failing_sink(rt.alloc(), call);
+        has_failed(&rt, write_reply(&reply, &mut sink));
     }
     Ok(())
 }
@@ -225,9 +285,8 @@ fn reply_passes_on_faults(rt: HostRuntime) -> Result<(), Fail> {
 fn request_passes_on_faults(rt: HostRuntime) -> Result<(), Fail> {
     let request = set(rt.alloc(), b"v", 0, true)?;
     for call in 1..6 {
-        let mut sink = FailsAt::new(OverWriter::new(Vec::new(rt.alloc())), call);
-        let written = write_request(&request, &mut sink);
-        assert_eq!(rt; written, Err(WriteFault), "{call}");
+        let mut sink = failing_sink(rt.alloc(), call);
+        has_failed(&rt, write_request(&request, &mut sink));
     }
     Ok(())
 }
@@ -235,8 +294,10 @@ fn request_passes_on_faults(rt: HostRuntime) -> Result<(), Fail> {
 #[test]
 fn reply_at_once_passes_on_a_fault(rt: HostRuntime) {
     let mut buffer = FixedBuffer::new();
-    let mut sink = FailsAt::new(OverWriter::new(Vec::new(rt.alloc())), 1);
-    let written = write_reply_at_once(&Reply::Stored, &mut buffer, &mut sink);
-    assert_eq!(rt; written, Err(WriteFault));
-    assert_eq!(rt; sink.into_inner().into_inner().as_slice(), b"".as_slice());
+    let mut sink = failing_sink(rt.alloc(), 1);
+    has_failed(
+        &rt,
+        write_reply_at_once(&Reply::Stored, &mut buffer, &mut sink),
+    );
+    are(&rt, &sink.into_inner().into_inner(), b"");
 }
