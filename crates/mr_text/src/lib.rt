@@ -23,8 +23,6 @@ mod request;
 mod request_reader;
 mod sink;
 mod source;
-#[cfg(test)]
-mod tests;
 mod writing;
 
 pub use block::Block;

@@ -1,6 +1,6 @@
 //! What a writer leaves where one of its calls fails.
 use super::{add_repeated, reply_text, request_text};
-use crate::{
+use mr_text::{
     Block, Cause, Item, ItemList, Key, KeyList, Line, OverWriter, Reply, Request, WriteFault,
     write_delete, write_get, write_reply, write_request, write_server_error, write_set,
 };

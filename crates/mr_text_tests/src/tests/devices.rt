@@ -1,6 +1,6 @@
 //! What goes through to a device, and a device that fails.
 use super::add_repeated;
-use crate::{FailsAt, OverReader, OverWriter, ReadFault, Sink, Source, WriteFault};
+use mr_text::{FailsAt, OverReader, OverWriter, ReadFault, Sink, Source, WriteFault};
 use std::alloc::Global;
 use std::cell::Cell;
 use std::io;

@@ -1,8 +1,15 @@
 //! Which requests lines say, and how other lines are refused.
-use super::{add_repeated, answers_in_two, gives, gives_all};
-use crate::{Key, KeyList, TextError};
+use super::reading::{Texts, gives_all, gives_at_end, gives_in_two};
+use super::{add_repeated, count_is, is_refused, reading, repeated_keys};
+use mr_text::{KeyList, TextError};
 use std::alloc::Global;
+use std::process::Abort;
 use std::test::Fail;
+
+/// Asserts what a reader answers to a text.
+fn gives(rt: &impl Abort, alloc: Global, text: &[u8], wanted: &[u8]) -> Result<(), Fail> {
+    reading::gives(rt, alloc, Texts::Requests, text, wanted)
+}
 
 #[test]
 fn lines_say_requests(rt: HostRuntime) -> Result<(), Fail> {
@@ -25,7 +32,7 @@ fn lines_say_requests(rt: HostRuntime) -> Result<(), Fail> {
         set noreply 0 0 1 noreply\r\nv\r\n|set noreply 0 0 1 noreply\r\nv\r\n;|\
         set k 0 0 6\r\nquit\r\n\r\nquit\r\n|set k 0 0 6\r\nquit\r\n\r\nquit\r\n<9>|\
         quit\r\nget k\r\n|quit\r\n<9>|";
-    gives_all(&rt, rt.alloc(), table)
+    gives_all(&rt, rt.alloc(), Texts::Requests, table)
 }
 
 #[test]
@@ -50,7 +57,7 @@ fn numbers_have_ranges(rt: HostRuntime) -> Result<(), Fail> {
         set k 0 0 8193\r\n|<5><9>|\
         set k 0 0 18446744073709551615\r\n|<5><9>|\
         set k 0 0 18446744073709551616\r\n|<3><9>|";
-    gives_all(&rt, rt.alloc(), table)
+    gives_all(&rt, rt.alloc(), Texts::Requests, table)
 }
 
 #[test]
@@ -85,7 +92,7 @@ fn other_lines_are_refused_in_order(rt: HostRuntime) -> Result<(), Fail> {
         get k\x00\n|<2><9>|\
         set \x7f x 0 8193\r\n|<2><9>|\
         set k 0 x 8193\r\n|<3><9>|";
-    gives_all(&rt, rt.alloc(), table)
+    gives_all(&rt, rt.alloc(), Texts::Requests, table)
 }
 
 #[test]
@@ -95,7 +102,7 @@ fn block_needs_its_end(rt: HostRuntime) -> Result<(), Fail> {
         set k 0 0 1\r\nv\r\r|<6><9>|\
         set k 0 0 0 noreply\r\nv|<6><9>|\
         set k 0 0 1\r\nv\r|;|";
-    gives_all(&rt, rt.alloc(), table)
+    gives_all(&rt, rt.alloc(), Texts::Requests, table)
 }
 
 #[test]
@@ -115,55 +122,81 @@ fn spaced_line(alloc: Global, spaces: usize, end: &[u8]) -> Result<Vec<u8>, Fail
     Ok(line)
 }
 
+/// Asserts what a reader answers to a line of `get k` and so many spaces.
+fn gives_spaced(
+    rt: &impl Abort,
+    alloc: Global,
+    spaces: usize,
+    end: &[u8],
+    wanted: &[u8],
+) -> Result<(), Fail> {
+    let line = spaced_line(alloc, spaces, end)?;
+    gives(rt, alloc, &line, wanted)
+}
+
 #[test]
 fn line_of_8192_bytes_is_read(rt: HostRuntime) -> Result<(), Fail> {
     let alloc = rt.alloc();
-    gives(&rt, alloc, &spaced_line(alloc, 8187, b"\n")?, b"get k\r\n;")?;
-    gives(
-        &rt,
-        alloc,
-        &spaced_line(alloc, 8187, b"\r\n")?,
-        b"get k\r\n;",
-    )?;
-    gives(&rt, alloc, &spaced_line(alloc, 8188, b"\n")?, b"<1><9>")?;
-    gives(&rt, alloc, &spaced_line(alloc, 8188, b"\r\n")?, b"<1><9>")
+    gives_spaced(&rt, alloc, 8187, b"\n", b"get k\r\n;")?;
+    gives_spaced(&rt, alloc, 8187, b"\r\n", b"get k\r\n;")?;
+    gives_spaced(&rt, alloc, 8188, b"\n", b"<1><9>")?;
+    gives_spaced(&rt, alloc, 8188, b"\r\n", b"<1><9>")
+}
+
+/// Asserts what a reader answers to 8,193 bytes without a line end, and to one more.
+fn gives_long(rt: &impl Abort, alloc: Global, line: &[u8]) -> Result<(), Fail> {
+    gives(rt, alloc, line, b";")?;
+    gives_at_end(rt, alloc, Texts::Requests, line, b"<8><9>")?;
+    gives_in_two(rt, alloc, Texts::Requests, (line, b"x"), b"<1><9>")
 }
 
 #[test]
 fn line_without_end_is_refused_at_8194_bytes(rt: HostRuntime) -> Result<(), Fail> {
     let alloc = rt.alloc();
     let line = spaced_line(alloc, 8187, b"x")?;
-    gives(&rt, alloc, &line, b";")?;
-    let ended = answers_in_two(alloc, &line, b"", true)?;
-    assert_eq!(rt; ended.as_slice(), b"<8><9>".as_slice());
-    let longer = answers_in_two(alloc, &line, b"x", false)?;
-    assert_eq!(rt; longer.as_slice(), b"<1><9>".as_slice());
-    gives(&rt, alloc, &spaced_line(alloc, 8187, b"\r")?, b";")?;
-    gives(&rt, alloc, &spaced_line(alloc, 9995, b"")?, b"<1><9>")
+    gives_long(&rt, alloc, &line)?;
+    gives_spaced(&rt, alloc, 8187, b"\r", b";")?;
+    gives_spaced(&rt, alloc, 9995, b"", b"<1><9>")
 }
 
-/// The line of a get of so many keys `k`, and what `KeyList` says of them.
-fn line_of_keys(alloc: Global, count: usize) -> Result<(Vec<u8>, Option<TextError>), Fail> {
-    let mut line = Vec::from_slice(alloc, b"get")?;
-    let mut keys = Vec::new(alloc);
+/// Adds the line of a get of so many keys `k`, and another end.
+fn add_keys(line: &mut Vec<u8>, count: usize, end: &[u8]) -> Result<(), Fail> {
+    line.extend_from_slice(b"get")?;
     for _ in 0..count {
         line.extend_from_slice(b" k")?;
-        keys.push(Key::new(alloc, b"k")?)?;
     }
-    line.extend_from_slice(b"\r\n")?;
-    Ok((line, KeyList::new(keys).err()))
+    line.extend_from_slice(end)?;
+    Ok(())
+}
+
+fn line_of_keys(alloc: Global, count: usize, end: &[u8]) -> Result<Vec<u8>, Fail> {
+    let mut line = Vec::new(alloc);
+    add_keys(&mut line, count, end)?;
+    Ok(line)
+}
+
+/// What a list of so many keys is refused with.
+fn keys_refusal(alloc: Global, count: usize) -> Result<Option<TextError>, Fail> {
+    let keys = repeated_keys(alloc, b"k", count)?;
+    Ok(KeyList::new(keys).err())
 }
 
 #[test]
 fn get_of_4094_keys_is_read(rt: HostRuntime) -> Result<(), Fail> {
-    let alloc = rt.alloc();
-    let (line, refusal) = line_of_keys(alloc, 4094)?;
-    assert_eq!(rt; line.len(), 8193);
-    assert_eq!(rt; refusal, None);
-    let mut answers = line.clone()?;
-    answers.push(b';')?;
-    gives(&rt, alloc, &line, &answers)?;
-    let (line, refusal) = line_of_keys(alloc, 4095)?;
-    assert_eq!(rt; refusal, Some(TextError::LineTooLong));
-    gives(&rt, alloc, &line, b"<1><9>")
+    let line = line_of_keys(rt.alloc(), 4094, b"\r\n")?;
+    count_is(&rt, line.len(), 8193);
+    let wanted = line_of_keys(rt.alloc(), 4094, b"\r\n;")?;
+    gives(&rt, rt.alloc(), &line, &wanted)?;
+    let is_made = keys_refusal(rt.alloc(), 4094)?.is_none();
+    assert!(rt; is_made);
+    Ok(())
+}
+
+#[test]
+fn get_of_4095_keys_is_refused(rt: HostRuntime) -> Result<(), Fail> {
+    let line = line_of_keys(rt.alloc(), 4095, b"\r\n")?;
+    gives(&rt, rt.alloc(), &line, b"<1><9>")?;
+    let refusal = keys_refusal(rt.alloc(), 4095)?;
+    is_refused(&rt, refusal, TextError::LineTooLong);
+    Ok(())
 }

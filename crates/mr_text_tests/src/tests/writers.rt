@@ -1,6 +1,6 @@
 //! The bytes that requests and replies are written as.
-use super::{reply_text, request_text};
-use crate::{
+use super::{are, reply_text, request_text};
+use mr_text::{
     Block, Cause, Item, ItemList, Key, KeyList, Line, OverWriter, Reply, Request, write_delete,
     write_get, write_set,
 };
@@ -8,24 +8,40 @@ use std::alloc::Global;
 use std::process::Abort;
 use std::test::Fail;
 
+/// Asserts what a request is written as.
+fn is_written(rt: &impl Abort, alloc: Global, request: &Request, text: &[u8]) -> Result<(), Fail> {
+    let written = request_text(alloc, request)?;
+    are(rt, &written, text);
+    Ok(())
+}
+
+fn is_copied(rt: &impl Abort, alloc: Global, request: &Request, text: &[u8]) -> Result<(), Fail> {
+    is_written(rt, alloc, request, text)?;
+    let copy = request.copy()?;
+    is_written(rt, alloc, &copy, text)
+}
+
 /// Asserts what a request and its copy are written as.
 fn is_request(rt: &impl Abort, alloc: Global, request: Request, text: &[u8]) -> Result<(), Fail> {
-    let copy = request.copy()?;
-    let written = request_text(alloc, &request)?;
-    assert_eq!(rt; written.as_slice(), text);
-    let written = request_text(alloc, &copy)?;
-    assert_eq!(rt; written.as_slice(), text);
+    is_copied(rt, alloc, &request, text)
+}
+
+/// Asserts what a reply is written as.
+fn is_answered(rt: &impl Abort, alloc: Global, reply: &Reply, text: &[u8]) -> Result<(), Fail> {
+    let written = reply_text(alloc, reply)?;
+    are(rt, &written, text);
     Ok(())
+}
+
+fn is_copied_reply(rt: &impl Abort, alloc: Global, reply: &Reply, text: &[u8]) -> Result<(), Fail> {
+    is_answered(rt, alloc, reply, text)?;
+    let copy = reply.copy()?;
+    is_answered(rt, alloc, &copy, text)
 }
 
 /// Asserts what a reply and its copy are written as.
 fn is_reply(rt: &impl Abort, alloc: Global, reply: Reply, text: &[u8]) -> Result<(), Fail> {
-    let copy = reply.copy()?;
-    let written = reply_text(alloc, &reply)?;
-    assert_eq!(rt; written.as_slice(), text);
-    let written = reply_text(alloc, &copy)?;
-    assert_eq!(rt; written.as_slice(), text);
-    Ok(())
+    is_copied_reply(rt, alloc, &reply, text)
 }
 
 fn get(alloc: Global) -> Result<Request, Fail> {
@@ -72,7 +88,7 @@ fn commands_of_one_key_are_written(rt: HostRuntime) -> Result<(), Fail> {
     write_set(&key, 7, -1, &block, &mut sink)?;
     write_delete(&key, &mut sink)?;
     let wanted = b"get k\r\nset k 7 -1 1\r\nv\r\ndelete k\r\n".as_slice();
-    assert_eq!(rt; sink.into_inner().as_slice(), wanted);
+    are(&rt, &sink.into_inner(), wanted);
     Ok(())
 }
 
@@ -101,11 +117,15 @@ fn sets_are_written(rt: HostRuntime) -> Result<(), Fail> {
     )
 }
 
-fn one_item(alloc: Global, flags: u32, block: &[u8]) -> Result<Reply, Fail> {
+fn item(alloc: Global, flags: u32, block: &[u8]) -> Result<Item, Fail> {
     let key = Key::new(alloc, b"k")?;
     let block = Block::new(alloc, block)?;
+    Ok(Item { key, flags, block })
+}
+
+fn one_item(alloc: Global, flags: u32, block: &[u8]) -> Result<Reply, Fail> {
     let mut items = Vec::new(alloc);
-    items.push(Item { key, flags, block })?;
+    items.push(item(alloc, flags, block)?)?;
     Ok(Reply::Items(ItemList::new(items)))
 }
 
