@@ -52,7 +52,7 @@ module _ {C P : Type 0} (Does : C → P → Request → Reply → C → P → Ty
   serves_more reader' between new rest spelling after exchange so splits spells does answers =
       let same : so.bytes ++ rest ≡ (so.bytes ++ spelling) ++ after = ap (λ (r : List ℕ). so.bytes ++ r) splits ∙ sym (append_assoc so.bytes spelling after) in
       let more : output_of so.exchanges ++ text_of_exchange exchange ≡ output_of (so.exchanges ++ exchange ∷ []) =
-          sym (flat_map-append text_of_exchange so.exchanges (exchange ∷ []) ∙ ap (λ (t : List ℕ). output_of so.exchanges ++ t) (append-nil (text_of_exchange exchange))) in
+      sym (flat_map-append text_of_exchange so.exchanges (exchange ∷ []) ∙ ap (λ (t : List ℕ). output_of so.exchanges ++ t) (append-nil (text_of_exchange exchange))) in
       record {
         exchanges = so.exchanges ++ exchange ∷ [];
         bytes = so.bytes ++ spelling;
@@ -141,17 +141,31 @@ module _ {C P : Type 0} (Does : C → P → Request → Reply → C → P → Ty
 
     -- the service ends
     pub ends : (how : Ended) → StepIs Does now new ended so.rest requests' (Ok (Ends how)) → ServiceIs Does reader reader' old new (Ok how)
-    ends how.Quit step =
-        (so.rest, None, now, so.serves, (step.1, refl), ap (λ (s : Station C P). s.clock) step.0, ap (λ (s : Station C P). s.node) step.0,
-        ap (λ (s : Station C P). s.writer) step.0)
+    ends how.Quit step = (
+      so.rest,
+      None,
+      now,
+      so.serves,
+      (step.1, refl),
+      ap (λ (s : Station C P). s.clock) step.0,
+      ap (λ (s : Station C P). s.node) step.0,
+      ap (λ (s : Station C P). s.writer) step.0,
+    )
     ends how.Ended step = absurd step
     ends (how.Refused number) step =
         (so.rest, _, now, so.serves, (step.2, step.3, step.4, (λ e. so.at_end (step.5 e)), step.6, refl), step.0, step.1, step.7)
 
     pub all_read : StepIs Does now new ended so.rest requests' (Ok Waits) → ended ≡ true → ServiceIs Does reader reader' old new (Ok how.Ended)
-    all_read step done =
-        (so.rest, None, now, so.serves, (step.2 done, so.at_end done, refl), ap (λ (s : Station C P). s.clock) step.0, ap (λ (s : Station C P). s.node) step.0,
-        ap (λ (s : Station C P). s.writer) step.0)
+    all_read step done = (
+      so.rest,
+      None,
+      now,
+      so.serves,
+      (step.2 done, so.at_end done, refl),
+      ap (λ (s : Station C P). s.clock) step.0,
+      ap (λ (s : Station C P). s.node) step.0,
+      ap (λ (s : Station C P). s.writer) step.0,
+    )
 
     pub spent : StepIs Does now new ended so.rest requests' (Ok Waits) → ServiceIs Does reader reader' old new (Err TurnsSpent)
     spent step = (so.rest, waits step, step.1)
@@ -194,18 +208,19 @@ module _ {C P : Type 0} (Does : C → P → Request → Reply → C → P → Ty
   pub write_fails : (reader' : SourceView) (new : Station C P) (result : Result Ended NodeError) → ServiceIs Does reader reader' old new result
       → result ≡ Err WriteFault → (new.writer.failures ≡ old.writer.failures + 1) × (new.writer.last_failed ≡ true)
   write_fails reader' new result is fault = failed (subst (ServiceIs Does reader reader' old new) fault is)
-    where failed : ServiceIs Does reader reader' old new (Err WriteFault) → (new.writer.failures ≡ old.writer.failures + 1) × (new.writer.last_failed ≡ true)
-          failed (rest, between, so, inl next) =
-              let stop = stopped (answer_of next.0) between.writer new.writer next.6 in
-              (stop.0 ∙ ap (λ n. n + 1) so.writes.steady, stop.1)
-          failed (rest, between, so, inr next) =
-              let stop = stopped _ between.writer new.writer next.5 in
-              (stop.0 ∙ ap (λ n. n + 1) so.writes.steady, stop.1)
+    where
+      failed : ServiceIs Does reader reader' old new (Err WriteFault) → (new.writer.failures ≡ old.writer.failures + 1) × (new.writer.last_failed ≡ true)
+      failed (rest, between, so, inl next) =
+          let stop = stopped (answer_of next.0) between.writer new.writer next.6 in
+          (stop.0 ∙ ap (λ n. n + 1) so.writes.steady, stop.1)
+      failed (rest, between, so, inr next) =
+          let stop = stopped _ between.writer new.writer next.5 in
+          (stop.0 ∙ ap (λ n. n + 1) so.writes.steady, stop.1)
 
   -- the writer failed nowhere else
   pub writes_well : (reader' : SourceView) (new : Station C P) (result : Result Ended NodeError) → ServiceIs Does reader reader' old new result
       → result ≢ Err WriteFault → new.writer.failures ≡ old.writer.failures
-  writes_well reader' new (Ok ended) is other = answered_well is.1 is.2.writer new.writer is.7 ∙ is.3.writes.steady
+  writes_well reader' new (Ok _) is other = answered_well is.1 is.2.writer new.writer is.7 ∙ is.3.writes.steady
   writes_well reader' new (Err ZeroCapacity) is other = absurd is
   writes_well reader' new (Err OutOfMemory) is other = is.1.writes.steady
   writes_well reader' new (Err ReadFault) is other = is.1.writes.steady

@@ -79,10 +79,7 @@ fn skips_line(refusal: TextError) -> bool
 }
 
 /// Writes the answer to a refused request, if it gets one. Unless reading goes on behind it, it ends the service.
-pub(crate) fn serve_refusal<W: Sink>(
-    writer: &mut W,
-    refusal: TextError,
-) -> Result<Step, NodeError>
+pub(crate) fn serve_refusal<W: Sink>(writer: &mut W, refusal: TextError) -> Result<Step, NodeError>
     ensures { RefusalIs refusal (W.told writer.old) result (W.told writer.new) }
 {
     if refusal == TextError::OutOfMemory {

@@ -7,7 +7,7 @@ use mr_text::{FailsAt, Key, OverReader, OverWriter};
 use std::alloc::AllocError;
 use std::cell::Cell;
 use std::io;
-use std::io::Read;
+use std::io::{Read, Write};
 use std::process::Abort;
 use std::test::Fail;
 
@@ -460,5 +460,120 @@ fn refused_memory_is_answered_or_ends_the_service(rt: HostRuntime) -> Result<(),
         return Ok(());
     }
     assert!(rt; !lacks_memory(&rt, alloc)?);
+    Ok(())
+}
+
+/// A writer that takes half of one piece and fails then. It keeps what it took.
+#[derive(Drop)]
+struct TakesHalf {
+    kept: Vec<u8>,
+    calls: usize,
+    fails_at: usize,
+}
+
+impl Write for TakesHalf {
+    fn write(&mut self, bytes: &[u8]) -> io::Result<usize> {
+        self.calls = self.calls.saturating_add(1);
+        if self.calls > self.fails_at {
+            return Err(io::ErrorKind::BrokenPipe.into());
+        }
+        let taken = if self.calls == self.fails_at {
+            bytes.len() / 2
+        } else {
+            bytes.len()
+        };
+        match self.kept.extend_from_slice(&bytes[..taken]) {
+            Ok(()) => Ok(taken),
+            Err(_) => Err(io::ErrorKind::OutOfMemory.into()),
+        }
+    }
+
+    fn flush(&mut self) -> io::Result<()> {
+        self.calls = self.calls.saturating_add(1);
+        Ok(())
+    }
+}
+
+#[test]
+fn a_fault_of_the_writer_leaves_a_beginning_of_one_answer(rt: HostRuntime) -> Result<(), Fail> {
+    let alloc = rt.alloc();
+    let input =
+        b"set a 0 0 1\r\nv\r\nset b 0 0 1 noreply\r\nw\r\nget a\r\ngets a\r\ndelete a\r\nquit\r\n".as_slice();
+    for (fails_at, how, output, calls, kept) in [
+        (1, Err(NodeError::WriteFault), b"STOR".as_slice(), 2, 1),
+        (
+            2,
+            Err(NodeError::WriteFault),
+            b"STORED\r\nVALUE a 0 ".as_slice(),
+            3,
+            2,
+        ),
+        (
+            3,
+            Err(NodeError::WriteFault),
+            b"STORED\r\nVALUE a 0 1\r\nv\r\nEND\r\nERR".as_slice(),
+            4,
+            2,
+        ),
+        (
+            4,
+            Err(NodeError::WriteFault),
+            b"STORED\r\nVALUE a 0 1\r\nv\r\nEND\r\nERROR\r\nDELE".as_slice(),
+            5,
+            1,
+        ),
+        (
+            5,
+            Ok(Ended::Quit),
+            b"STORED\r\nVALUE a 0 1\r\nv\r\nEND\r\nERROR\r\nDELETED\r\n".as_slice(),
+            4,
+            1,
+        ),
+    ] {
+        let mut node = CacheNode::new(alloc, 4)?;
+        let mut reader = OverReader::new(input);
+        let mut writer = OverWriter::new(TakesHalf {
+            kept: Vec::new(alloc),
+            calls: 0,
+            fails_at,
+        });
+        let ended = serve(
+            alloc,
+            &mut node,
+            &mut reader,
+            &mut writer,
+            &mut FixedClock(999),
+            10,
+        );
+        let device = writer.into_inner();
+        assert_eq!(rt; ended, how, "at {fails_at}");
+        assert_eq!(rt; device.kept.as_slice(), output, "at {fails_at}");
+        assert_eq!(rt; device.calls, calls, "at {fails_at}");
+        assert_eq!(rt; node.len(), kept, "at {fails_at}");
+    }
+    Ok(())
+}
+
+#[test]
+fn a_request_without_an_answer_makes_no_call(rt: HostRuntime) -> Result<(), Fail> {
+    let alloc = rt.alloc();
+    let input = b"set a 0 0 1 noreply\r\nv\r\ndelete b noreply\r\nquit\r\n".as_slice();
+    let mut node = CacheNode::new(alloc, 4)?;
+    let mut reader = OverReader::new(input);
+    let mut writer = OverWriter::new(TakesHalf {
+        kept: Vec::new(alloc),
+        calls: 0,
+        fails_at: 1,
+    });
+    let ended = serve(
+        alloc,
+        &mut node,
+        &mut reader,
+        &mut writer,
+        &mut FixedClock(999),
+        10,
+    );
+    assert_eq!(rt; ended, Ok(Ended::Quit));
+    assert_eq!(rt; writer.into_inner().calls, 0);
     Ok(())
 }

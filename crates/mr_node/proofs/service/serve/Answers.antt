@@ -28,8 +28,11 @@ returns-in_err-serve_next-clause-service g c =
 
 pub session-smaller-in-Served : goal.session-smaller-in-Served
 session-smaller-in-Served g c =
-    omega (arith, shrinks _ _ _ _ _ (station c.serve_next.new.clock c.serve_next.new.node (g.W.Sink.told c.serve_next.new.writer)) _ c.serve_next.new.requests _ c.session.invariant.so
-    (stepped _ _ _ _ _ (station c.serve_next.new.clock c.serve_next.new.node (g.W.Sink.told c.serve_next.new.writer)) _ c.serve_next.new.requests _ c.session.invariant.so (Ok c.in_ok-serve_next.field-0) (Ok Served) (ap (λ (s : Step). Ok s) c.in-Served.is) (c.in_ok-serve_next.ensures c.session.invariant.so.rest c.session.invariant.so.becomes.stands)))
+    omega (
+      arith,
+      shrinks _ _ _ _ _ (station c.serve_next.new.clock c.serve_next.new.node (g.W.Sink.told c.serve_next.new.writer)) _ c.serve_next.new.requests _ c.session.invariant.so
+          (stepped _ _ _ _ _ (station c.serve_next.new.clock c.serve_next.new.node (g.W.Sink.told c.serve_next.new.writer)) _ c.serve_next.new.requests _ c.session.invariant.so (Ok c.in_ok-serve_next.field-0) (Ok Served) (ap (λ (s : Step). Ok s) c.in-Served.is) (c.in_ok-serve_next.ensures c.session.invariant.so.rest c.session.invariant.so.becomes.stands)),
+    )
 
 pub session-preserved-in-Served : goal.session-preserved-in-Served
 session-preserved-in-Served g c =
