@@ -1,0 +1,112 @@
+//! Entries in few words.
+use super::*;
+
+/// The op of a proxy that was never restarted.
+pub fn op(proxy: u32, number: u64) -> OpId {
+    OpId {
+        proxy,
+        incarnation: 0,
+        number,
+    }
+}
+
+pub fn key(alloc: Global, name: &[u8]) -> Result<Key, Fail> {
+    Ok(Key::new(alloc, name)?)
+}
+
+pub fn issued(op: OpId, request: Request) -> Entry {
+    Entry::Issued {
+        op,
+        proxy: op.proxy,
+        request,
+    }
+}
+
+pub fn get(alloc: Global, op: OpId, name: &[u8]) -> Result<Entry, Fail> {
+    let keys = KeyList::new(vec![in alloc; key(alloc, name)?]?)?;
+    Ok(issued(op, Request::Get { keys }))
+}
+
+pub fn set(alloc: Global, op: OpId, name: &[u8], data: &[u8]) -> Result<Entry, Fail> {
+    Ok(issued(
+        op,
+        Request::Set {
+            key: key(alloc, name)?,
+            flags: 0,
+            exptime: 0,
+            block: Block::new(alloc, data)?,
+            noreply: false,
+        },
+    ))
+}
+
+pub fn delete(alloc: Global, op: OpId, name: &[u8]) -> Result<Entry, Fail> {
+    Ok(issued(
+        op,
+        Request::Delete {
+            key: key(alloc, name)?,
+            noreply: false,
+        },
+    ))
+}
+
+pub fn stored(alloc: Global, by: Author, name: &[u8], data: &[u8]) -> Result<Entry, Fail> {
+    Ok(Entry::Stored {
+        by,
+        key: key(alloc, name)?,
+        flags: 0,
+        block: Block::new(alloc, data)?,
+    })
+}
+
+pub fn removed(alloc: Global, op: OpId, side: Side, name: &[u8]) -> Result<Entry, Fail> {
+    Ok(Entry::Removed {
+        op,
+        side,
+        key: key(alloc, name)?,
+    })
+}
+
+pub fn answered(op: OpId, reply: Reply) -> Entry {
+    Entry::Answered { op, reply }
+}
+
+pub fn item(alloc: Global, name: &[u8], data: &[u8]) -> Result<Item, Fail> {
+    Ok(Item {
+        key: key(alloc, name)?,
+        flags: 0,
+        block: Block::new(alloc, data)?,
+    })
+}
+
+/// An answer of one item.
+pub fn hit(alloc: Global, op: OpId, name: &[u8], data: &[u8]) -> Result<Entry, Fail> {
+    let items = vec![in alloc; item(alloc, name, data)?]?;
+    Ok(answered(op, Reply::Items(ItemList::new(items))))
+}
+
+/// An answer without items.
+pub fn end(alloc: Global, op: OpId) -> Entry {
+    answered(op, Reply::Items(ItemList::new(Vec::new(alloc))))
+}
+
+/// Appends the entry where it fits, and tells whether it did.
+pub fn put(history: &mut History, entry: Entry) -> Result<bool, Fail> {
+    history.reserve(1)?;
+    let fits = history.fits(&entry);
+    if fits {
+        history.push(entry);
+    }
+    Ok(fits)
+}
+
+/// A verdict with the key's bytes.
+pub fn told(verdict: Verdict<'_>) -> (u8, Option<OpId>, Option<&[u8]>, Option<OpId>) {
+    match verdict {
+        Verdict::Safe => (0, None, None, None),
+        Verdict::Stale { get, key, delete } => {
+            (1, Some(get), Some(key.as_bytes()), Some(delete))
+        }
+        Verdict::Invented { get, key } => (2, Some(get), Some(key.as_bytes()), None),
+    }
+}
