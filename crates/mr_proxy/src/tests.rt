@@ -1,3 +1,5 @@
+mod faults;
+
 use super::*;
 use mr_history::OpId;
 use mr_join::LegReply;
