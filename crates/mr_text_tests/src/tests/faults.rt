@@ -1,8 +1,8 @@
 //! What a writer leaves where one of its calls fails.
 use super::{add_repeated, reply_text, request_text};
 use mr_text::{
-    Block, Cause, Item, ItemList, Key, KeyList, Line, OverWriter, Reply, Request, WriteFault,
-    write_delete, write_get, write_reply, write_request, write_server_error, write_set,
+    Block, Cause, Item, ItemList, Key, KeyList, Line, MAX_ITEMS, OverWriter, Reply, Request,
+    WriteFault, write_delete, write_get, write_reply, write_request, write_server_error, write_set,
 };
 use std::alloc::Global;
 use std::io;
@@ -112,7 +112,7 @@ fn block_of(alloc: Global, length: usize) -> Result<Block, Fail> {
 }
 
 /// Items of `k` with data of these lengths.
-fn items_of(alloc: Global, lengths: &[usize]) -> Result<Reply, Fail> {
+fn items_of(rt: &impl Abort, alloc: Global, lengths: &[usize]) -> Result<Reply, Fail> {
     let mut items = Vec::new(alloc);
     for length in lengths {
         items.push(Item {
@@ -121,6 +121,7 @@ fn items_of(alloc: Global, lengths: &[usize]) -> Result<Reply, Fail> {
             block: block_of(alloc, *length)?,
         })?;
     }
+    assert!(rt; items.len() <= MAX_ITEMS);
     Ok(Reply::Items(ItemList::new(items)))
 }
 
@@ -129,32 +130,32 @@ fn short_replies_take_one_call(rt: HostRuntime) -> Result<(), Fail> {
     let alloc = rt.alloc();
     reply_takes(&rt, alloc, &Reply::Stored, 1, "stored")?;
     reply_takes(&rt, alloc, &Reply::ServerError(Cause::LegLost), 1, "lost")?;
-    reply_takes(&rt, alloc, &items_of(alloc, &[])?, 1, "none")?;
-    reply_takes(&rt, alloc, &items_of(alloc, &[1, 0, 7])?, 1, "three")
+    reply_takes(&rt, alloc, &items_of(&rt, alloc, &[])?, 1, "none")?;
+    reply_takes(&rt, alloc, &items_of(&rt, alloc, &[1, 0, 7])?, 1, "three")
 }
 
 #[test]
 fn reply_of_4096_bytes_takes_one_call(rt: HostRuntime) -> Result<(), Fail> {
     let alloc = rt.alloc();
     // Beside the data, the line of the item, `END` and the line ends have 23 bytes.
-    let whole = items_of(alloc, &[4073])?;
+    let whole = items_of(&rt, alloc, &[4073])?;
     assert_eq!(rt; reply_text(alloc, &whole)?.len(), 4096);
     reply_takes(&rt, alloc, &whole, 1, "4096")?;
-    reply_takes(&rt, alloc, &items_of(alloc, &[4074])?, 2, "4097")
+    reply_takes(&rt, alloc, &items_of(&rt, alloc, &[4074])?, 2, "4097")
 }
 
 #[test]
 fn long_replies_take_two_calls_for_an_item(rt: HostRuntime) -> Result<(), Fail> {
     let alloc = rt.alloc();
     // The line, the block by itself, and its line end with `END`.
-    reply_takes(&rt, alloc, &items_of(alloc, &[8192])?, 3, "one")?;
+    reply_takes(&rt, alloc, &items_of(&rt, alloc, &[8192])?, 3, "one")?;
     // The line of the second item goes out with the line end of the first.
-    reply_takes(&rt, alloc, &items_of(alloc, &[8192, 8192])?, 5, "two")?;
+    reply_takes(&rt, alloc, &items_of(&rt, alloc, &[8192, 8192])?, 5, "two")?;
     // Small ones are gathered.
     reply_takes(
         &rt,
         alloc,
-        &items_of(alloc, &[1000, 1000, 1000, 1000, 1000])?,
+        &items_of(&rt, alloc, &[1000, 1000, 1000, 1000, 1000])?,
         2,
         "five",
     )
