@@ -1,24 +1,12 @@
 -- What `next` answers, of requests or replies, from what the reading of the bytes that are left finds.
-use Rattle.std.proofs.Common.{◌≡◌, ◌≢◌, ℕ, Bool, true, false, List, [], ◌++◌, length, take, drop, Option, Some, None, Result, Ok, Err, sym, ◌∙◌, ap, subst, cond, MatchResult}
+use Rattle.std.proofs.Common.{◌≡◌, ◌≢◌, ℕ, Bool, true, false, List, [], ◌++◌, length, take, drop, Option, Some, None, Result, Ok, Err, sym, ◌∙◌, ap, subst, cond}
 use Rattle.std.proofs.lemmas.List.{take-append-drop}
 use Rattle.mr_text.specs.Stream.{ReaderView, StandsFor, Becomes, BeginsWith, IsUnfinished, NextIs, skips_line}
+use Rattle.mr_text.specs.Waiting.{WaitIs}
 use Rattle.mr_text.specs.Reading.{Reading}
 use Rattle.mr_text.specs.Reading.Reading.{Waits, Gives, Refused}
 use Rattle.mr_text.specs.declared.error.TextError.{TextError}
 use Rattle.mr_text.specs.declared.error.TextError.TheVariants.{LineTooLong, BadKey, BadNumber, WrongWords, DataTooLong, BadDataEnd, UnknownCommand, Truncated, Closed, OutOfMemory}
-
--- what waiting answers
-abbrev pub WaitIs : {Item : Type 0} → ReaderView → ReaderView → Result (Option Item) TextError → Type 0
-WaitIs old new (Ok item) = (item ≡ None) × (new ≡ old) × (old.ended ≡ true → old.kept ≡ [])
-WaitIs old new (Err refusal) = (refusal ≡ Truncated) × (old.ended ≡ true) × (old.kept ≢ []) × (new ≡ record old { closed = true })
-
--- the same as a contract says it
-pub wait_is : {Item : Type 0} (old new : ReaderView) (r : Result (Option Item) TextError)
-    → MatchResult r (λ item. (item ≡ None) × (new ≡ old) × (old.ended ≡ true → old.kept ≡ []))
-    (λ refusal. (refusal ≡ Truncated) × (old.ended ≡ true) × (old.kept ≢ []) × (new ≡ record old { closed = true }))
-    → WaitIs old new r
-wait_is old new (Ok item) h = h
-wait_is old new (Err refusal) h = h
 
 abbrev pub RefusedIs : ReaderView → ReaderView → ℕ → TextError → Type 0
 RefusedIs old new size refusal = new ≡ (cond (skips_line refusal) (record old { kept = drop size old.kept }) (record old { closed = true }))

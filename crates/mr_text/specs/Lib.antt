@@ -16,6 +16,7 @@ pub mod Text
 pub mod Commands
 pub mod Requests
 pub mod Stream
+pub mod Waiting
 pub mod Reading
 pub mod CommandView
 pub mod RequestView

@@ -23,6 +23,7 @@ mod request;
 mod request_reader;
 mod sink;
 mod source;
+mod stream;
 mod writing;
 
 pub use block::Block;

@@ -1,11 +1,11 @@
-ghost use Rattle.std.specs.Prelude.{◌≡◌, ◌≢◌, ◌≤◌, ◌++◌, ℕ, List, [], true, false, None, drop, length, if◌then◌else◌, MatchResult};
+ghost use Rattle.std.specs.Prelude.{◌≡◌, ◌≤◌, ℕ, List, [], true, false, drop, length, if◌then◌else◌};
 ghost use Rattle.mr_text.specs.Requests.{SpellsRequest, RefusesRequest, SkipsLine, is_quit};
 ghost use Rattle.mr_text.specs.Stream.{StandsFor, Becomes, NextIs, FeedIs, skips_line};
 
 use crate::error::TextError;
-use crate::kept::KeptBytes;
 use crate::reading::requests::{RefusedText, request_at, request_of};
 use crate::request::Request;
+use crate::stream::Stream;
 use std::alloc::Global;
 use std::marker::Model;
 
@@ -16,9 +16,7 @@ use std::marker::Model;
 /// given. After OutOfMemory the same call may be made again.
 #[derive(Drop)]
 pub struct RequestReader {
-    kept: KeptBytes,
-    ended: bool,
-    closed: bool,
+    stream: Stream,
 }
 
 impl Model for RequestReader {
@@ -26,7 +24,7 @@ impl Model for RequestReader {
 
     ghost Value = { ReaderView };
 
-    ghost view = { λ r. record { kept = r.kept; ended = r.ended; closed = r.closed } };
+    ghost view = { λ r. r.stream };
 }
 
 impl RequestReader {
@@ -35,9 +33,7 @@ impl RequestReader {
         ensures { Becomes result [] false false }
     {
         RequestReader {
-            kept: KeptBytes::new(alloc),
-            ended: false,
-            closed: false,
+            stream: Stream::new(alloc),
         }
     }
 
@@ -46,18 +42,14 @@ impl RequestReader {
     pub fn feed(&mut self, piece: &[u8]) -> Result<(), TextError>
         ensures { (rest : List ℕ) → StandsFor self.old rest → FeedIs self.old self.new rest piece.now result }
     {
-        if self.closed || self.ended {
-            return Err(TextError::Closed);
-        }
-        self.kept.push(piece)?;
-        Ok(())
+        self.stream.feed(piece)
     }
 
     /// Marks the end of the input.
     pub fn end(&mut self)
         ensures { (rest : List ℕ) → StandsFor self.old rest → Becomes self.new rest true self.old.closed }
     {
-        self.ended = true;
+        self.stream.end();
     }
 
     /// The next request; None where more input is needed, or all was read. The refusals come in the order of the
@@ -67,45 +59,34 @@ impl RequestReader {
         ensures { (rest : List ℕ) → StandsFor self.old rest
             → NextIs SpellsRequest RefusesRequest SkipsLine is_quit self.old self.new rest result }
     {
-        if self.closed {
+        if self.stream.is_closed() {
             return Err(TextError::Closed);
         }
-        match request_at(self.kept.as_slice()) {
+        match request_at(self.stream.as_slice()) {
             Ok(Some(found)) => {
                 let length = found.length;
-                let Ok(request) = request_of(self.kept.allocator(), &found) else {
+                let Ok(request) = request_of(self.stream.allocator(), &found) else {
                     return Err(TextError::OutOfMemory);
                 };
                 Ok(Some(self.give(request, length)))
             }
-            Ok(None) => self.wait(),
+            Ok(None) => self.stream.wait(),
             Err(refused) => Err(self.refuse(refused)),
         }
     }
 
     /// Gives a request away, and goes on behind the bytes that spell it.
     fn give(&mut self, request: Request, size: usize) -> Request
-        requires { size ≤ length self.old.kept }
+        requires within { size ≤ length self.old.kept }
+        requires going_on { self.old.closed ≡ false }
         ensures request { result ≡ request }
         ensures reader { self.new ≡ record { kept = drop size self.old.kept; ended = self.old.ended; closed = is_quit request } }
     {
-        self.kept.skip(size);
-        self.closed = matches!(&request, Request::Quit);
-        request
-    }
-
-    /// Nothing is whole: what is left waits for more, unless the input ended inside it.
-    fn wait(&mut self) -> Result<Option<Request>, TextError>
-        ensures { MatchResult result
-            (λ request. (request ≡ None) × (self.new ≡ self.old) × (self.old.ended ≡ true → self.old.kept ≡ []))
-            (λ refusal. (refusal ≡ TextError.Truncated) × (self.old.ended ≡ true) × (self.old.kept ≢ [])
-            × (self.new ≡ record self.old { closed = true })) }
-    {
-        if self.ended && !self.kept.as_slice().is_empty() {
-            self.closed = true;
-            return Err(TextError::Truncated);
+        self.stream.skip(size);
+        if let Request::Quit = &request {
+            self.stream.close();
         }
-        Ok(None)
+        request
     }
 
     /// Skips the line of an unknown command, or closes the reader.
@@ -117,9 +98,9 @@ impl RequestReader {
             else record self.old { closed = true }) }
     {
         if let TextError::UnknownCommand { closes: false } = refused.refusal {
-            self.kept.skip(refused.length);
+            self.stream.skip(refused.length);
         } else {
-            self.closed = true;
+            self.stream.close();
         }
         refused.refusal
     }
