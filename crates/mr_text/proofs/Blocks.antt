@@ -4,7 +4,7 @@ use Rattle.std.proofs.lemmas.Bool.{lt-leb, ne_eqb, eqb-false}
 use Rattle.std.proofs.Math.Seq.{get_or-append_seam}
 use Rattle.std.proofs.lemmas.List.{length-take-le, take-append-drop, get_or-append-add, take_more}
 use Rattle.mr_text.specs.Requests.{EndsBadly}
-use Rattle.mr_text.specs.Reading.{block_reading}
+use Rattle.mr_text.specs.steps.Reading.{block_reading}
 use Rattle.mr_text.specs.declared.error.TextError.{TextError}
 use Rattle.mr_text.specs.declared.error.TextError.TheVariants.{BadDataEnd}
 

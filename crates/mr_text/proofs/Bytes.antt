@@ -1,7 +1,7 @@
 -- The place of a byte, as a search finds it and as it splits the bytes.
 use Rattle.std.proofs.Common.{◌≡◌, ℕ, zero, suc, ◌+◌, ◌<◌, ◌==◌, Bool, true, false, List, [], ◌∷◌, ◌++◌, Option, Some, None, length, get_or, take, drop, refl, ap, sym, ◌∙◌, arith, option_map, if◌then◌else◌, add-one, Contains, eqb-true, eq-eqb}
 use Rattle.memchr.specs.Find.{IsFirstByte, is_byte}
-use Rattle.mr_text.specs.Reading.{byte_place}
+use Rattle.mr_text.specs.steps.Reading.{byte_place}
 
 -- a search that says where the first such byte is
 pub first_byte_is : (wanted : ℕ) (bytes : List ℕ) (r : Option ℕ) → IsFirstByte (is_byte wanted) bytes r → r ≡ byte_place wanted bytes

@@ -3,8 +3,8 @@ use Rattle.std.proofs.Common.{◌≡◌, ℕ, suc, ◌+◌, ◌*◌, All, ◌<�
 use Rattle.std.proofs.lemmas.List.Sums.{sum_by-cons}
 use Rattle.mr_text.specs.Key.{IsKey, FitLine, AreFew}
 use Rattle.mr_text.specs.Text.{words_of, pieces_of, begun_with, is_empty}
-use Rattle.mr_text.specs.CommandView.{said_by, IsCounted, IsCommand, IsGoodLine}
-use Rattle.mr_text.specs.Reading.{command_line}
+use Rattle.mr_text.specs.steps.CommandView.{said_by, IsCounted, IsCommand, IsGoodLine}
+use Rattle.mr_text.specs.steps.Reading.{command_line}
 use Rattle.mr_text.specs.Limits.{MAX_LINE}
 use Rattle.mr_text.specs.declared.error.TextError.{TextError}
 use Rattle.mr_text.specs.declared.reading.commands.Command.{Command}

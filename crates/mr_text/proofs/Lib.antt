@@ -27,3 +27,4 @@ pub mod CanonicalReplies
 pub mod Writes
 pub mod Gathered
 pub mod Leaving
+pub mod ShortRequests

@@ -4,8 +4,8 @@ use Rattle.std.proofs.Math.Seq.{take-append_seam}
 use Rattle.std.proofs.lemmas.List.{take-append-drop, take_more}
 use Rattle.mr_text.specs.Text.{IsLine, without_carriage_return}
 use Rattle.mr_text.specs.Requests.{BeginsWithLongLine}
-use Rattle.mr_text.specs.Reading.{Reading, byte_place, line_reading, line_reading_at}
-use Rattle.mr_text.specs.Reading.Reading.{Waits, Gives, Refused}
+use Rattle.mr_text.specs.steps.Reading.{Reading, byte_place, line_reading, line_reading_at}
+use Rattle.mr_text.specs.steps.Reading.Reading.{Waits, Gives, Refused}
 use Rattle.mr_text.specs.Limits.{MAX_LINE}
 use Rattle.mr_text.specs.declared.error.TextError.TheVariants.{LineTooLong}
 use Rattle.mr_text.proofs.Bytes.{SplitsAt, place_splits, place_behind, place_none, none_place}

@@ -2,9 +2,9 @@
 use Rattle.std.proofs.Common.{◌≡◌, ◌≢◌, ℕ, Bool, true, false, List, [], ◌++◌, length, take, drop, Option, Some, None, Result, Ok, Err, sym, ◌∙◌, ap, subst, cond}
 use Rattle.std.proofs.lemmas.List.{take-append-drop}
 use Rattle.mr_text.specs.Stream.{ReaderView, StandsFor, Becomes, BeginsWith, IsUnfinished, NextIs, skips_line}
-use Rattle.mr_text.specs.Waiting.{WaitIs}
-use Rattle.mr_text.specs.Reading.{Reading}
-use Rattle.mr_text.specs.Reading.Reading.{Waits, Gives, Refused}
+use Rattle.mr_text.specs.steps.Waiting.{WaitIs}
+use Rattle.mr_text.specs.steps.Reading.{Reading}
+use Rattle.mr_text.specs.steps.Reading.Reading.{Waits, Gives, Refused}
 use Rattle.mr_text.specs.declared.error.TextError.{TextError}
 use Rattle.mr_text.specs.declared.error.TextError.TheVariants.{LineTooLong, BadKey, BadNumber, WrongWords, DataTooLong, BadDataEnd, UnknownCommand, Truncated, Closed, OutOfMemory}
 

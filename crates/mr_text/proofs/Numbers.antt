@@ -6,7 +6,7 @@ use Rattle.std.proofs.lemmas.List.Sums.{AllPass-from_list_all}
 use Rattle.std.specs.List.{list_all}
 use Rattle.std.specs.Char.{is_ascii_digit}
 use Rattle.mr_text.specs.Text.{number_of_digits}
-use Rattle.mr_text.specs.Reading.{number_in}
+use Rattle.mr_text.specs.steps.Reading.{number_in}
 
 -- one more digit
 pub number-push : (digits : List ℕ) (digit : ℕ) → number_of_digits (digits ++ digit ∷ []) ≡ 10 * number_of_digits digits + (digit - 48)

@@ -1,10 +1,10 @@
 -- How far the items of a reply were read.
 use Rattle.std.proofs.Common.{◌≡◌, ℕ, zero, suc, ◌+◌, ◌-◌, ◌<◌, ◌≤◌, List, [], ◌∷◌, ◌++◌, length, drop, refl, sym, ◌∙◌, ap, arith, append_assoc, append-nil, length-append, length-drop}
 use Rattle.std.proofs.lemmas.List.{drop-drop}
-use Rattle.mr_text.specs.Reading.{Reading}
-use Rattle.mr_text.specs.Reading.Reading.{Waits, Gives, Refused}
-use Rattle.mr_text.specs.ReplyReading.{step_reading, with_items, items_by, items_reading}
-use Rattle.mr_text.specs.ReplyReading.Step.{ItemStep, EndStep}
+use Rattle.mr_text.specs.steps.Reading.{Reading}
+use Rattle.mr_text.specs.steps.Reading.Reading.{Waits, Gives, Refused}
+use Rattle.mr_text.specs.steps.ReplyReading.{step_reading, with_items, items_by, items_reading}
+use Rattle.mr_text.specs.steps.ReplyReading.Step.{ItemStep, EndStep}
 use Rattle.mr_text.specs.declared.item.Item.{Item}
 use Rattle.mr_text.specs.Limits.{MAX_ITEMS}
 use Rattle.mr_text.specs.declared.error.TextError.{TextError}

@@ -3,13 +3,13 @@ use Rattle.std.proofs.Common.{◌≡◌, ◌≢◌, ℕ, zero, suc, ◌-◌, ◌
 use Rattle.std.specs.Str.{bytes_eq}
 use Rattle.mr_text.specs.Key.{IsKey, key_test}
 use Rattle.mr_text.specs.Replies.{ItemNumbers, item_words}
-use Rattle.mr_text.specs.Reading.{number_in}
-use Rattle.mr_text.specs.ReplyReading.{ReplyLine, item_values, item_line, item_line_within, lone_line, next_line}
-use Rattle.mr_text.specs.ReplyReading.ReplyLine.{ItemLine, EndLine, LoneLine}
+use Rattle.mr_text.specs.steps.Reading.{number_in}
+use Rattle.mr_text.specs.steps.ReplyReading.{ReplyLine, item_values, item_line, item_line_within, lone_line, next_line}
+use Rattle.mr_text.specs.steps.ReplyReading.ReplyLine.{ItemLine, EndLine, LoneLine}
 use Rattle.mr_text.specs.Limits.{MAX_BLOCK}
 use Rattle.mr_text.specs.declared.error.TextError.{TextError}
 use Rattle.mr_text.specs.declared.error.TextError.TheVariants.{LineTooLong, BadKey, BadNumber, WrongWords, DataTooLong, BadDataEnd, UnknownCommand, Truncated, Closed, OutOfMemory}
-use Rattle.mr_text.specs.ReplyView.{IsLine, IsGoodItem}
+use Rattle.mr_text.specs.steps.ReplyView.{IsLine, IsGoodItem}
 use Rattle.mr_text.specs.declared.reading.reply_lines.SaidLine.{SaidLine}
 use Rattle.mr_text.specs.declared.reading.reply_lines.SaidLine.TheVariants as said
 use Rattle.mr_text.proofs.Keys.{key_test-true, key_test-false, IsKey-test}

@@ -1,13 +1,13 @@
 -- The facts about the reading of replies that `next` rests on.
 use Rattle.std.proofs.Common.{◌≡◌, ℕ, List, take, true, false, Err, refl, subst}
 use Rattle.mr_text.specs.Replies.{SpellsReply, RefusesReply, SkipsNone, is_no_last}
-use Rattle.mr_text.specs.ReplySteps.{IsWholeReply, SaysReply}
+use Rattle.mr_text.specs.steps.ReplySteps.{IsWholeReply, SaysReply}
 use Rattle.mr_text.specs.Stream.{ReaderView, StandsFor, NextIs}
 use Rattle.mr_text.specs.declared.reading.replies.FoundReply.{FoundReply}
 use Rattle.mr_text.specs.declared.reading.replies.FoundReply.TheVariants as found
 use Rattle.mr_text.specs.declared.reply.Reply.TheVariants as reply
-use Rattle.mr_text.specs.Reading.Reading.{Gives, Refused}
-use Rattle.mr_text.specs.ReplyReading.{reply_reading}
+use Rattle.mr_text.specs.steps.Reading.Reading.{Gives, Refused}
+use Rattle.mr_text.specs.steps.ReplyReading.{reply_reading}
 use Rattle.mr_text.specs.declared.error.TextError.{TextError}
 use Rattle.mr_text.specs.declared.error.TextError.TheVariants.{LineTooLong, BadKey, BadNumber, WrongWords, DataTooLong, BadDataEnd, UnknownCommand, Truncated, Closed, OutOfMemory}
 use Rattle.mr_text.specs.declared.reply.Reply.{Reply}

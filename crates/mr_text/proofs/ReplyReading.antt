@@ -5,11 +5,11 @@ use Rattle.std.proofs.lemmas.List.{take-append-drop}
 use Rattle.mr_text.specs.Requests.{IsLineOfWords, BeginsWithWords, BeginsWithLongLine, EndsBadly}
 use Rattle.mr_text.specs.Replies.{item_words, IsItemLine, BeginsWithItems, BeginsWithItemLine, TellsCause, cause_of, SpellsReply, RefusesBehind, RefusesReply}
 use Rattle.mr_text.specs.Text.{IsLine, words_of}
-use Rattle.mr_text.specs.Reading.{Reading, line_reading, byte_place}
-use Rattle.mr_text.specs.Reading.Reading.{Waits, Gives, Refused}
-use Rattle.mr_text.specs.ReplyReading.{ReplyLine, Step, drop_spaces, first_line, next_line, item_step, step_of_line, step_reading, with_items, items_by, items_reading, as_reply, reply_of_line, reply_of_reading, reply_reading}
-use Rattle.mr_text.specs.ReplyReading.ReplyLine.{ItemLine, EndLine, LoneLine}
-use Rattle.mr_text.specs.ReplyReading.Step.{ItemStep, EndStep}
+use Rattle.mr_text.specs.steps.Reading.{Reading, line_reading, byte_place}
+use Rattle.mr_text.specs.steps.Reading.Reading.{Waits, Gives, Refused}
+use Rattle.mr_text.specs.steps.ReplyReading.{ReplyLine, Step, drop_spaces, first_line, next_line, item_step, step_of_line, step_reading, with_items, items_by, items_reading, as_reply, reply_of_line, reply_of_reading, reply_reading}
+use Rattle.mr_text.specs.steps.ReplyReading.ReplyLine.{ItemLine, EndLine, LoneLine}
+use Rattle.mr_text.specs.steps.ReplyReading.Step.{ItemStep, EndStep}
 use Rattle.mr_text.specs.declared.cause.Cause.{Cause}
 use Rattle.mr_text.specs.declared.item.Item.{Item}
 use Rattle.mr_text.specs.Limits.{MAX_LINE, MAX_BLOCK, MAX_ITEMS}

@@ -5,11 +5,11 @@ use Rattle.std.proofs.lemmas.List.{length-take-le, take-append-drop}
 use Rattle.mr_text.specs.Requests.{IsLineOfWords, BeginsWithWords, block_end}
 use Rattle.mr_text.specs.Replies.{item_words, IsItemLine, SpellsItem, HasRoom, AreWrongReply, BeginsWithItemWords, BeginsWithItemLine, RefusesBehind}
 use Rattle.mr_text.specs.Text.{words_of}
-use Rattle.mr_text.specs.Reading.{Reading, line_reading, block_reading}
-use Rattle.mr_text.specs.Reading.Reading.{Waits, Gives, Refused}
-use Rattle.mr_text.specs.ReplyReading.{ReplyLine, Step, next_line, item_line, item_step, step_of_line, step_of_reading, step_reading}
-use Rattle.mr_text.specs.ReplyReading.ReplyLine.{ItemLine, EndLine, LoneLine}
-use Rattle.mr_text.specs.ReplyReading.Step.{ItemStep, EndStep}
+use Rattle.mr_text.specs.steps.Reading.{Reading, line_reading, block_reading}
+use Rattle.mr_text.specs.steps.Reading.Reading.{Waits, Gives, Refused}
+use Rattle.mr_text.specs.steps.ReplyReading.{ReplyLine, Step, next_line, item_line, item_step, step_of_line, step_of_reading, step_reading}
+use Rattle.mr_text.specs.steps.ReplyReading.ReplyLine.{ItemLine, EndLine, LoneLine}
+use Rattle.mr_text.specs.steps.ReplyReading.Step.{ItemStep, EndStep}
 use Rattle.mr_text.specs.declared.item.Item.{Item}
 use Rattle.mr_text.specs.Limits.{MAX_BLOCK, MAX_ITEMS}
 use Rattle.mr_text.specs.declared.error.TextError.{TextError}

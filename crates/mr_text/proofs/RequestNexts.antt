@@ -1,8 +1,8 @@
 -- The facts about the reading of requests that `next` rests on.
 use Rattle.std.proofs.Common.{◌≡◌, ℕ, List, take, true, false, subst}
 use Rattle.mr_text.specs.Requests.{SpellsRequest, RefusesRequest, SkipsLine}
-use Rattle.mr_text.specs.Reading.{request_reading}
-use Rattle.mr_text.specs.Reading.Reading.{Gives, Refused}
+use Rattle.mr_text.specs.steps.Reading.{request_reading}
+use Rattle.mr_text.specs.steps.Reading.Reading.{Gives, Refused}
 use Rattle.mr_text.specs.declared.error.TextError.{TextError}
 use Rattle.mr_text.specs.declared.error.TextError.TheVariants.{LineTooLong, BadKey, BadNumber, WrongWords, DataTooLong, BadDataEnd, UnknownCommand, Truncated, Closed, OutOfMemory}
 use Rattle.mr_text.specs.declared.request.Request.{Request}

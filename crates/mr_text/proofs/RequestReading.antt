@@ -6,9 +6,9 @@ use Rattle.mr_text.specs.Commands.{Shape, HasShape, IsUnknown, AreWrong, HasKeys
 use Rattle.mr_text.specs.Commands.Shape.{GetShape, SetShape, DeleteShape, QuitShape}
 use Rattle.mr_text.specs.Requests.{IsLineOfWords, IsLineOfShape, IsSetLine, SpellsSet, SpellsRequest, BeginsWithWords, HasBadKey, HasBadNumber, BeginsWithSet, HasBadDataEnd, RefusesRequest, SkipsLine, block_end}
 use Rattle.mr_text.specs.Text.{words_of}
-use Rattle.mr_text.specs.Reading.{Reading, CommandLine, line_reading, command_line, line_of_shape, line_of, shape_of, block_reading, set_reading, request_of_line, request_of_reading, request_reading}
-use Rattle.mr_text.specs.Reading.Reading.{Waits, Gives, Refused}
-use Rattle.mr_text.specs.Reading.CommandLine.{GetLine, SetLine, DeleteLine, QuitLine}
+use Rattle.mr_text.specs.steps.Reading.{Reading, CommandLine, line_reading, command_line, line_of_shape, line_of, shape_of, block_reading, set_reading, request_of_line, request_of_reading, request_reading}
+use Rattle.mr_text.specs.steps.Reading.Reading.{Waits, Gives, Refused}
+use Rattle.mr_text.specs.steps.Reading.CommandLine.{GetLine, SetLine, DeleteLine, QuitLine}
 use Rattle.mr_text.specs.Limits.{MAX_BLOCK}
 use Rattle.mr_text.specs.declared.error.TextError.{TextError}
 use Rattle.mr_text.specs.declared.error.TextError.TheVariants.{LineTooLong, BadKey, BadNumber, WrongWords, DataTooLong, BadDataEnd, UnknownCommand, Truncated, Closed, OutOfMemory}

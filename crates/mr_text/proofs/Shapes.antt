@@ -4,7 +4,7 @@ use Rattle.std.specs.Str.{bytes_eq}
 use Rattle.std.specs.List.{list_any}
 use Rattle.mr_text.specs.Commands.{Shape, HasShape, IsUnknown, AreWrong, command_words, block_command_words}
 use Rattle.mr_text.specs.Commands.Shape.{GetShape, SetShape, DeleteShape, QuitShape}
-use Rattle.mr_text.specs.Reading.{shape_of, get_shape, set_shape, set_shape_with, delete_shape, delete_shape_with, quit_shape, noreply_of, without_zero}
+use Rattle.mr_text.specs.steps.Reading.{shape_of, get_shape, set_shape, set_shape_with, delete_shape, delete_shape_with, quit_shape, noreply_of, without_zero}
 use Rattle.mr_text.specs.declared.error.TextError.{TextError}
 use Rattle.mr_text.specs.declared.error.TextError.TheVariants.{LineTooLong, BadKey, BadNumber, WrongWords, DataTooLong, BadDataEnd, UnknownCommand, Truncated, Closed, OutOfMemory}
 use Rattle.mr_text.proofs.Texts.{text_true, among_true, true_among}

@@ -7,8 +7,8 @@ use Rattle.mr_text.specs.Key.{IsKey, key_test}
 use Rattle.mr_text.specs.Text.{IsNumber, IsSigned, number_of_digits}
 use Rattle.mr_text.specs.Commands.{Shape, Numbers, IsExptime}
 use Rattle.mr_text.specs.Commands.Shape.{GetShape, SetShape, DeleteShape, QuitShape}
-use Rattle.mr_text.specs.Reading.{CommandLine, number_in, signed_in, line_of, set_values}
-use Rattle.mr_text.specs.Reading.CommandLine.{GetLine, SetLine, DeleteLine, QuitLine}
+use Rattle.mr_text.specs.steps.Reading.{CommandLine, number_in, signed_in, line_of, set_values}
+use Rattle.mr_text.specs.steps.Reading.CommandLine.{GetLine, SetLine, DeleteLine, QuitLine}
 use Rattle.mr_text.specs.Limits.{MAX_BLOCK}
 use Rattle.mr_text.specs.declared.error.TextError.{TextError}
 use Rattle.mr_text.specs.declared.error.TextError.TheVariants.{BadKey, BadNumber, DataTooLong}

@@ -2,7 +2,7 @@
 use Rattle.std.proofs.Common.{◌≡◌, ◌≢◌, ℕ, zero, suc, ◌+◌, ◌<◌, ◌≤◌, ◌==◌, Bool, true, false, not, List, [], ◌∷◌, Option, Some, None, length, take, drop, refl, ap, arith, option_map, if◌then◌else◌, unwrap_or, filter, length-take, slice_get}
 use Rattle.std.proofs.Math.Seq.{take-length, drop-length}
 use Rattle.std.proofs.Common.{add-one}
-use Rattle.mr_text.specs.Reading.{byte_place}
+use Rattle.mr_text.specs.steps.Reading.{byte_place}
 use Rattle.mr_text.specs.Text.{words_of, pieces_of, is_empty}
 use Rattle.mr_text.proofs.Bytes.{SplitsAt, place_splits}
 

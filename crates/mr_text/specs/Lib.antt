@@ -1,11 +1,7 @@
 pub mod Limits
 pub mod Sink
 pub mod Source
-pub mod Count
-pub mod Roll
-pub mod Least
 pub mod Key
-pub mod Making
 pub mod TextError
 pub mod FailsAt
 pub mod Block
@@ -16,14 +12,8 @@ pub mod Text
 pub mod Commands
 pub mod Requests
 pub mod Stream
-pub mod Waiting
-pub mod Reading
-pub mod CommandView
-pub mod RequestView
 pub mod Canonical
 pub mod Gathering
 pub mod Replies
-pub mod ReplyReading
-pub mod ReplyView
-pub mod ReplySteps
 pub mod Valid
+pub mod steps

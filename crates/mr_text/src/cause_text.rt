@@ -68,44 +68,24 @@ impl Cause {
 pub(crate) fn named_cause(text: &[u8]) -> Option<Cause>
     ensures { result ≡ cause_named text.now }
 {
-    if text == b"line too long".as_slice() {
-        return Some(Cause::LineTooLong);
-    }
-    if text == b"bad key".as_slice() {
-        return Some(Cause::BadKey);
-    }
-    if text == b"bad number".as_slice() {
-        return Some(Cause::BadNumber);
-    }
-    if text == b"wrong words".as_slice() {
-        return Some(Cause::WrongWords);
-    }
-    if text == b"data too long".as_slice() {
-        return Some(Cause::DataTooLong);
-    }
-    if text == b"bad data end".as_slice() {
-        return Some(Cause::BadDataEnd);
-    }
-    if text == b"leg lost".as_slice() {
-        return Some(Cause::LegLost);
-    }
-    if text == b"busy".as_slice() {
-        return Some(Cause::Busy);
-    }
-    if text == b"out of memory".as_slice() {
-        return Some(Cause::OutOfMemory);
-    }
-    if text == b"clock fault".as_slice() {
-        return Some(Cause::ClockFault);
-    }
-    if text == b"book full".as_slice() {
-        return Some(Cause::BookFull);
-    }
-    if text == b"numbers spent".as_slice() {
-        return Some(Cause::NumbersSpent);
-    }
-    if text == b"node refused".as_slice() {
-        return Some(Cause::NodeRefused);
+    for cause in [
+        Cause::LineTooLong,
+        Cause::BadKey,
+        Cause::BadNumber,
+        Cause::WrongWords,
+        Cause::DataTooLong,
+        Cause::BadDataEnd,
+        Cause::LegLost,
+        Cause::Busy,
+        Cause::OutOfMemory,
+        Cause::ClockFault,
+        Cause::BookFull,
+        Cause::NumbersSpent,
+        Cause::NodeRefused,
+    ] {
+        if text == cause.text() {
+            return Some(cause);
+        }
     }
     None
 }

@@ -67,9 +67,7 @@ impl KeptBytes {
         ensures { self.new ≡ self.old }
     {
         if self.read > 0 {
-            let left = self.bytes.len() - self.read;
-            self.bytes.rotate_left(self.read);
-            self.bytes.truncate(left);
+            drop(self.bytes.drain(..self.read));
             self.read = 0;
         }
     }

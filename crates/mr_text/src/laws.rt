@@ -1,14 +1,15 @@
 //! The laws of the text, which hold of every request and every reply that the types of this crate can hold.
-ghost use Rattle.std.specs.Prelude.{◌≡◌, ◌<◌, ◌↔◌, ℕ, List, [], ◌++◌, length, false, Some, Ok, Err, All};
+ghost use Rattle.std.specs.Prelude.{◌≡◌, ◌+◌, ◌<◌, ◌↔◌, ℕ, List, [], ◌++◌, length, false, Some, Ok, Err, All};
 ghost use Rattle.mr_text.specs.declared.request.Request.{Request};
 ghost use Rattle.mr_text.specs.declared.reply.Reply.{Reply};
 ghost use Rattle.mr_text.specs.declared.error.TextError.{TextError};
 ghost use Rattle.mr_text.specs.declared.error.TextError.TheVariants.{UnknownCommand};
 ghost use Rattle.mr_text.specs.Commands.{IsExptime};
 ghost use Rattle.mr_text.specs.Key.{IsKey};
+ghost use Rattle.mr_text.specs.Limits.{MAX_LINE, MAX_BLOCK};
 ghost use Rattle.mr_text.specs.Canonical.{canonical_request, canonical_reply};
 ghost use Rattle.mr_text.specs.Requests.{SpellsRequest, RefusesRequest, SkipsLine, is_quit};
-ghost use Rattle.mr_text.specs.Stream.{ReaderView, StandsFor, NextIs, unread};
+ghost use Rattle.mr_text.specs.Stream.{ReaderView, StandsFor, IsUnfinished, NextIs, unread};
 ghost use Rattle.mr_text.specs.Replies.{SpellsReply, RefusesReply};
 ghost use Rattle.mr_text.specs.Valid.{IsFlags, IsValidRequest, IsValidItem, IsValidCause, IsValidReply};
 
@@ -79,6 +80,17 @@ pub fn skipped_lines_leave_less()
 pub fn skipped_lines_are_refused()
     ensures { (bytes : List ℕ)
         → ((after : List ℕ) × SkipsLine bytes after) ↔ RefusesRequest (UnknownCommand false) bytes }
+{}
+
+/// Nothing holds neither a request nor a refusal.
+pub fn nothing_is_unfinished()
+    ensures { IsUnfinished SpellsRequest RefusesRequest [] }
+{}
+
+/// Bytes that hold neither a request nor a refusal are fewer than the longest line and the longest block have with
+/// their ends: a reader of requests that is read out after each piece keeps no more.
+pub fn unfinished_requests_are_short()
+    ensures { (bytes : List ℕ) → IsUnfinished SpellsRequest RefusesRequest bytes → length bytes < MAX_LINE + 2 + MAX_BLOCK + 2 }
 {}
 
 /// The canonical text of a request spells that request: a reader that comes to it gives it, whatever follows.

@@ -1,7 +1,7 @@
 ghost use Rattle.std.specs.Prelude.{◌≡◌, ◌≤◌, ℕ, List, [], true, false, drop, length};
 ghost use Rattle.mr_text.specs.Replies.{SpellsReply, RefusesReply, SkipsNone, is_no_last};
 ghost use Rattle.mr_text.specs.Stream.{StandsFor, Becomes, NextIs, FeedIs};
-ghost use Rattle.mr_text.specs.ReplySteps.{size_of};
+ghost use Rattle.mr_text.specs.steps.ReplySteps.{size_of};
 
 use crate::error::TextError;
 use crate::reading::replies::{FoundReply, reply_at, reply_of};

@@ -1,7 +1,7 @@
 //! What a reader keeps of its stream, whatever is spelled in it.
 ghost use Rattle.std.specs.Prelude.{◌≡◌, ◌≤◌, ℕ, List, [], true, false, drop, length};
 ghost use Rattle.mr_text.specs.Stream.{StandsFor, Becomes, FeedIs};
-ghost use Rattle.mr_text.specs.Waiting.{WaitIs};
+ghost use Rattle.mr_text.specs.steps.Waiting.{WaitIs};
 
 use crate::error::TextError;
 use crate::kept::KeptBytes;

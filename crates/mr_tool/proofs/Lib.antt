@@ -4,5 +4,4 @@ pub mod PlainWords
 pub mod ReadLemmas
 pub mod RequestLemmas
 pub mod RunLemmas
-pub mod WaitLemmas
 pub mod WordLemmas

@@ -12,7 +12,7 @@ use Rattle.mr_text.specs.declared.error.TextError.TheVariants.{LineTooLong, BadK
 use Rattle.mr_tool.specs.declared.fault.Fault.{Fault}
 use Rattle.mr_tool.specs.declared.fault.Fault.TheVariants.{Memory, Input, Output, Text, Pools, Phases}
 use Rattle.mr_tool.specs.FirstRequest.{HoldsNoRequest, Hold, IsNextOf, HasRead, Completes, EndsEarly, FailsEarly, Reads, most_reads}
-use Rattle.mr_tool.proofs.WaitLemmas.{nothing_unfinished, unfinished_short}
+use Rattle.mr_text.proofs.ShortRequests.{nothing_unfinished, unfinished_short}
 
 pub next_refusal : (old new : ReaderView) (bytes : List ℕ) (refusal : TextError) → old.closed ≡ false → old.ended ≡ false
     → NextIs SpellsRequest RefusesRequest SkipsLine is_quit old new bytes (Err refusal) → Hold bytes (Err (Text refusal))

@@ -15,7 +15,7 @@ impl Model for GhostBytes {
 
     ghost Value = { List ℕ };
 
-    ghost use Rattle.mr_text.specs.Roll.{bytes_of};
+    ghost use Rattle.mr_text.specs.steps.Roll.{bytes_of};
 
     ghost view = { λ b. bytes_of b.roll };
 }

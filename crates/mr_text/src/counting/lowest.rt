@@ -16,7 +16,7 @@ impl Model for GhostLeast {
 
     ghost Value = { Option ℕ };
 
-    ghost use Rattle.mr_text.specs.Least.{least_of};
+    ghost use Rattle.mr_text.specs.steps.Least.{least_of};
 
     ghost view = { λ g. least_of g.least };
 }

@@ -15,7 +15,7 @@ impl Model for GhostCount {
 
     ghost Value = { ℕ };
 
-    ghost use Rattle.mr_text.specs.Count.{number_of};
+    ghost use Rattle.mr_text.specs.steps.Count.{number_of};
 
     ghost view = { λ c. number_of c.count };
 }

@@ -1,10 +1,10 @@
 ghost use Rattle.std.specs.Prelude.{◌≡◌, ◌+◌, ◌^◌, ◌<◌, ◌≤◌, true, length};
-ghost use Rattle.mr_text.specs.Reading.{block_reading};
+ghost use Rattle.mr_text.specs.steps.Reading.{block_reading};
 
 use crate::error::TextError;
 
 /// Whether a block of this length and the line end behind it are there.
-#[tactic(auto, unfolding(crate::specs::Reading::block_reading))]
+#[tactic(auto, unfolding(crate::specs::steps::Reading::block_reading))]
 pub(crate) fn has_block(block_length: usize, bytes: &[u8]) -> Result<bool, TextError>
     requires { block_length + 2 < 2 ^ 64 }
     ensures reading { result ≡ block_reading block_length bytes.now }

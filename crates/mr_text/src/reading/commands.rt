@@ -3,8 +3,8 @@ ghost use Rattle.std.specs.List.{list_any};
 ghost use Rattle.std.specs.Str.{bytes_eq};
 ghost use Rattle.mr_text.specs.Commands.{block_command_words};
 ghost use Rattle.mr_text.specs.Text.{words_of};
-ghost use Rattle.mr_text.specs.Reading.{command_line, line_of_shape, get_shape, set_shape, delete_shape, quit_shape, noreply_of, without_zero};
-ghost use Rattle.mr_text.specs.CommandView.{IsCommand, IsGoodLine};
+ghost use Rattle.mr_text.specs.steps.Reading.{command_line, line_of_shape, get_shape, set_shape, delete_shape, quit_shape, noreply_of, without_zero};
+ghost use Rattle.mr_text.specs.steps.CommandView.{IsCommand, IsGoodLine};
 ghost use Rattle.mr_text.specs.Limits.{MAX_LINE};
 
 use crate::error::TextError;
@@ -45,28 +45,22 @@ pub(crate) fn command_of(line: &[u8]) -> Result<Command<'_>, TextError>
     said(line)
 }
 
-#[tactic(auto, unfolding(crate::specs::Reading::shape_of))]
+#[tactic(auto, unfolding(crate::specs::steps::Reading::shape_of))]
 fn said(line: &[u8]) -> Result<Command<'_>, TextError>
     ensures { IsCommand (command_line (words_of line.now)) result }
 {
     let Some((word, arguments)) = next_word(line) else {
         return Err(TextError::UnknownCommand { closes: false });
     };
-    if word == b"get".as_slice() {
-        return get(arguments);
+    match word {
+        b"get" => get(arguments),
+        b"set" => set(arguments),
+        b"delete" => delete(arguments),
+        b"quit" => quit(arguments),
+        _ => Err(TextError::UnknownCommand {
+            closes: is_followed_by_block(word),
+        }),
     }
-    if word == b"set".as_slice() {
-        return set(arguments);
-    }
-    if word == b"delete".as_slice() {
-        return delete(arguments);
-    }
-    if word == b"quit".as_slice() {
-        return quit(arguments);
-    }
-    Err(TextError::UnknownCommand {
-        closes: is_followed_by_block(word),
-    })
 }
 
 /// Whether a block follows the line of this command, which isn't served.
@@ -104,33 +98,17 @@ fn get(arguments: &[u8]) -> Result<Command<'_>, TextError>
 fn set(arguments: &[u8]) -> Result<Command<'_>, TextError>
     ensures { IsCommand (line_of_shape (set_shape (words_of arguments.now))) result }
 {
-    let Some((key, rest)) = next_word(arguments) else {
-        return Err(TextError::WrongWords);
-    };
-    let Some((flags, rest)) = next_word(rest) else {
-        return Err(TextError::WrongWords);
-    };
-    let Some((exptime, rest)) = next_word(rest) else {
-        return Err(TextError::WrongWords);
-    };
-    let Some((bytes, options)) = next_word(rest) else {
-        return Err(TextError::WrongWords);
-    };
-    let Some(noreply) = noreply(options) else {
-        return Err(TextError::WrongWords);
-    };
+    let (key, rest) = next_word(arguments).ok_or(TextError::WrongWords)?;
+    let (flags, rest) = next_word(rest).ok_or(TextError::WrongWords)?;
+    let (exptime, rest) = next_word(rest).ok_or(TextError::WrongWords)?;
+    let (bytes, options) = next_word(rest).ok_or(TextError::WrongWords)?;
+    let noreply = noreply(options).ok_or(TextError::WrongWords)?;
     if !is_key(key) {
         return Err(TextError::BadKey);
     }
-    let Some(flags) = number_up_to(u64::from(u32::MAX), flags) else {
-        return Err(TextError::BadNumber);
-    };
-    let Some(exptime) = signed_number(exptime) else {
-        return Err(TextError::BadNumber);
-    };
-    let Some(block_length) = number_up_to(u64::MAX, bytes) else {
-        return Err(TextError::BadNumber);
-    };
+    let flags = number_up_to(u64::from(u32::MAX), flags).ok_or(TextError::BadNumber)?;
+    let exptime = signed_number(exptime).ok_or(TextError::BadNumber)?;
+    let block_length = number_up_to(u64::MAX, bytes).ok_or(TextError::BadNumber)?;
     if block_length > MAX_BLOCK as u64 {
         return Err(TextError::DataTooLong);
     }
@@ -146,12 +124,8 @@ fn set(arguments: &[u8]) -> Result<Command<'_>, TextError>
 fn delete(arguments: &[u8]) -> Result<Command<'_>, TextError>
     ensures { IsCommand (line_of_shape (delete_shape (words_of arguments.now))) result }
 {
-    let Some((key, options)) = next_word(arguments) else {
-        return Err(TextError::WrongWords);
-    };
-    let Some(noreply) = noreply(without_zero(options)) else {
-        return Err(TextError::WrongWords);
-    };
+    let (key, options) = next_word(arguments).ok_or(TextError::WrongWords)?;
+    let noreply = noreply(without_zero(options)).ok_or(TextError::WrongWords)?;
     if !is_key(key) {
         return Err(TextError::BadKey);
     }

@@ -1,6 +1,6 @@
 ghost use Rattle.std.specs.Prelude.{◌≡◌, ◌<◌, ◌≤◌, length, IfSome, IfOk, MatchResult, MatchOption};
-ghost use Rattle.mr_text.specs.Reading.{byte_place, line_reading, line_reading_at, line_read_to};
-ghost use Rattle.mr_text.specs.Reading.Reading.{Waits, Gives, Refused};
+ghost use Rattle.mr_text.specs.steps.Reading.{byte_place, line_reading, line_reading_at, line_read_to};
+ghost use Rattle.mr_text.specs.steps.Reading.Reading.{Waits, Gives, Refused};
 ghost use Rattle.mr_text.specs.Line.{HasLineFeed};
 ghost use Rattle.mr_text.specs.Text.{without_carriage_return};
 
@@ -27,7 +27,7 @@ fn without_carriage_return(bytes: &[u8]) -> &[u8]
 }
 
 /// The first line and the length of its bytes, its end included; None where its end isn't there yet.
-#[tactic(auto, unfolding(crate::specs::Reading::line_reading))]
+#[tactic(auto, unfolding(crate::specs::steps::Reading::line_reading))]
 pub(crate) fn line_at(bytes: &[u8]) -> Result<Option<(&[u8], usize)>, TextError>
     ensures reading { MatchResult result
         (λ found. MatchOption found (line_reading bytes.now ≡ Waits) (λ l. line_reading bytes.now ≡ Gives l.0.now l.1))

@@ -1,5 +1,5 @@
 ghost use Rattle.std.specs.Prelude.{◌≡◌, ◌≤◌, ◌^◌, pos, neg_ℤ, IfSome};
-ghost use Rattle.mr_text.specs.Reading.{number_in, signed_in};
+ghost use Rattle.mr_text.specs.steps.Reading.{number_in, signed_in};
 
 /// The number that a word of decimal digits is, unless it is none or above `greatest`.
 pub(crate) fn number_up_to(greatest: u64, word: &[u8]) -> Option<u64>
@@ -42,7 +42,7 @@ fn negative(size: u64) -> i64
 }
 
 /// The number that a word of decimal digits is, with a minus sign before it or without.
-#[tactic(auto, unfolding(crate::specs::Reading::number_in))]
+#[tactic(auto, unfolding(crate::specs::steps::Reading::number_in))]
 pub(crate) fn signed_number(word: &[u8]) -> Option<i64>
     ensures { result ≡ signed_in word.now }
 {

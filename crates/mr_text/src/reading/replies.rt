@@ -1,12 +1,12 @@
 ghost use Rattle.std.specs.Prelude.{◌≡◌, ◌≤◌, Some, is_none, drop, length, IfOk};
 ghost use Rattle.mr_text.specs.Block.{IsBlock};
 ghost use Rattle.mr_text.specs.Key.{IsKey};
-ghost use Rattle.mr_text.specs.Reading.{block_reading};
-ghost use Rattle.mr_text.specs.Reading.Reading.{Gives};
+ghost use Rattle.mr_text.specs.steps.Reading.{block_reading};
+ghost use Rattle.mr_text.specs.steps.Reading.Reading.{Gives};
 ghost use Rattle.mr_text.specs.Replies.{cause_of};
-ghost use Rattle.mr_text.specs.ReplyReading.{item_step, items_reading};
-ghost use Rattle.mr_text.specs.ReplySteps.{IsStep, IsItemStep, IsCount, HasItems, IsFoundItems, IsFoundReply, IsWholeReply, SaysReply, lone_reply};
-ghost use Rattle.mr_text.specs.ReplyView.{HasOneLine, IsOneLine};
+ghost use Rattle.mr_text.specs.steps.ReplyReading.{item_step, items_reading};
+ghost use Rattle.mr_text.specs.steps.ReplySteps.{IsStep, IsItemStep, IsCount, HasItems, IsFoundItems, IsFoundReply, IsWholeReply, SaysReply, lone_reply};
+ghost use Rattle.mr_text.specs.steps.ReplyView.{HasOneLine, IsOneLine};
 ghost use Rattle.mr_text.specs.Limits.{MAX_BLOCK, MAX_ITEMS};
 ghost use Rattle.mr_text.specs.declared.reply.Reply.{Reply};
 
@@ -49,21 +49,15 @@ pub(crate) enum FoundReply<'a> {
 }
 
 /// The next item, or the end of the items, with room for so many more; None where more bytes are needed.
-#[tactic(auto, unfolding(crate::specs::ReplyReading::step_reading))]
+#[tactic(auto, unfolding(crate::specs::steps::ReplyReading::step_reading))]
 fn step_at(room: usize, bytes: &[u8]) -> Result<Option<FoundStep<'_>>, TextError>
     ensures { IsStep room bytes.now result }
 {
-    let found = match line_at(bytes) {
-        Ok(found) => found,
-        Err(refusal) => return Err(refusal),
-    };
+    let found = line_at(bytes)?;
     let Some((line, line_length)) = found else {
         return Ok(None);
     };
-    let said = match next_line_of(room, line) {
-        Ok(said) => said,
-        Err(refusal) => return Err(refusal),
-    };
+    let said = next_line_of(room, line)?;
     match said {
         SaidLine::Item {
             key,
@@ -180,21 +174,15 @@ fn item_of(alloc: Global, key: &[u8], flags: u32, block: &[u8]) -> Result<Item, 
 }
 
 /// The reply at the front of the bytes; None where more bytes are needed.
-#[tactic(auto, unfolding(crate::specs::ReplyReading::reply_reading))]
+#[tactic(auto, unfolding(crate::specs::steps::ReplyReading::reply_reading))]
 pub(crate) fn reply_at(bytes: &[u8]) -> Result<Option<FoundReply<'_>>, TextError>
     ensures { IsFoundReply bytes.now result }
 {
-    let found = match line_at(bytes) {
-        Ok(found) => found,
-        Err(refusal) => return Err(refusal),
-    };
+    let found = line_at(bytes)?;
     let Some((line, length)) = found else {
         return Ok(None);
     };
-    let said = match first_line_of(line) {
-        Ok(said) => said,
-        Err(refusal) => return Err(refusal),
-    };
+    let said = first_line_of(line)?;
     if begins_items(said) {
         return found_items(bytes);
     }

@@ -1,8 +1,8 @@
 ghost use Rattle.std.specs.Prelude.{◌≡◌, ◌≤◌, drop, length, IfOk};
 ghost use Rattle.mr_text.specs.Text.{words_of};
-ghost use Rattle.mr_text.specs.ReplyReading.{ReplyLine, first_line, next_line, item_line, item_line_within, lone_line, drop_spaces};
-ghost use Rattle.mr_text.specs.ReplyReading.ReplyLine.{EndLine, LoneLine};
-ghost use Rattle.mr_text.specs.ReplyView.{IsLine, IsGoodItem, HasOneLine, IsOneLine, said_by};
+ghost use Rattle.mr_text.specs.steps.ReplyReading.{ReplyLine, first_line, next_line, item_line, item_line_within, lone_line, drop_spaces};
+ghost use Rattle.mr_text.specs.steps.ReplyReading.ReplyLine.{EndLine, LoneLine};
+ghost use Rattle.mr_text.specs.steps.ReplyView.{IsLine, IsGoodItem, HasOneLine, IsOneLine, said_by};
 ghost use Rattle.mr_text.specs.Line.{HasLineFeed};
 ghost use Rattle.mr_text.specs.Limits.{MAX_LINE};
 
@@ -31,7 +31,7 @@ pub(crate) enum SaidLine<'a> {
 }
 
 /// What the first line of a reply says.
-#[tactic(auto, unfolding(crate::specs::ReplyReading::first_line))]
+#[tactic(auto, unfolding(crate::specs::steps::ReplyReading::first_line))]
 pub(crate) fn first_line_of(line: &[u8]) -> Result<SaidLine<'_>, TextError>
     requires one_line { ¬ HasLineFeed line.now }
     requires not_long { length line.now ≤ MAX_LINE }
@@ -76,13 +76,11 @@ pub(crate) fn next_line_of(room: usize, line: &[u8]) -> Result<SaidLine<'_>, Tex
     next_said(room, line)
 }
 
-#[tactic(auto, unfolding(crate::specs::ReplyReading::next_line))]
+#[tactic(auto, unfolding(crate::specs::steps::ReplyReading::next_line))]
 fn next_said(room: usize, line: &[u8]) -> Result<SaidLine<'_>, TextError>
     ensures { IsLine (next_line room (words_of line.now)) result }
 {
-    let Some((word, rest)) = next_word(line) else {
-        return Err(TextError::WrongWords);
-    };
+    let (word, rest) = next_word(line).ok_or(TextError::WrongWords)?;
     if word == b"END".as_slice() {
         return alone(SaidLine::End, rest);
     }
@@ -132,27 +130,17 @@ fn item(words: &[u8]) -> Result<SaidLine<'_>, TextError>
     ensures line { IsLine (item_line (words_of words.now)) result }
     ensures text { IfOk result HasOneLine }
 {
-    let Some((key, rest)) = next_word(words) else {
-        return Err(TextError::WrongWords);
-    };
-    let Some((flags, rest)) = next_word(rest) else {
-        return Err(TextError::WrongWords);
-    };
-    let Some((bytes, rest)) = next_word(rest) else {
-        return Err(TextError::WrongWords);
-    };
+    let (key, rest) = next_word(words).ok_or(TextError::WrongWords)?;
+    let (flags, rest) = next_word(rest).ok_or(TextError::WrongWords)?;
+    let (bytes, rest) = next_word(rest).ok_or(TextError::WrongWords)?;
     if next_word(rest).is_some() {
         return Err(TextError::WrongWords);
     }
     if !is_key(key) {
         return Err(TextError::BadKey);
     }
-    let Some(flags) = number_up_to(u64::from(u32::MAX), flags) else {
-        return Err(TextError::BadNumber);
-    };
-    let Some(block_length) = number_up_to(u64::MAX, bytes) else {
-        return Err(TextError::BadNumber);
-    };
+    let flags = number_up_to(u64::from(u32::MAX), flags).ok_or(TextError::BadNumber)?;
+    let block_length = number_up_to(u64::MAX, bytes).ok_or(TextError::BadNumber)?;
     if block_length > MAX_BLOCK as u64 {
         return Err(TextError::DataTooLong);
     }

@@ -1,6 +1,6 @@
 ghost use Rattle.std.specs.Prelude.{◌≡◌, ◌≤◌, length, IfOk};
-ghost use Rattle.mr_text.specs.RequestView.{IsFound, IsWhole, said_request};
-ghost use Rattle.mr_text.specs.CommandView.{AreKeys};
+ghost use Rattle.mr_text.specs.steps.RequestView.{IsFound, IsWhole, said_request};
+ghost use Rattle.mr_text.specs.steps.CommandView.{AreKeys};
 ghost use Rattle.mr_text.specs.Text.{words_of};
 
 use crate::block::Block;
@@ -32,7 +32,7 @@ pub(crate) struct RefusedText {
 }
 
 /// The request at the front of the bytes; None where more bytes are needed.
-#[tactic(auto, unfolding(crate::specs::Reading::request_reading))]
+#[tactic(auto, unfolding(crate::specs::steps::Reading::request_reading))]
 pub(crate) fn request_at(bytes: &[u8]) -> Result<Option<FoundRequest<'_>>, RefusedText>
     ensures { IsFound bytes.now result }
 {

@@ -1,6 +1,6 @@
 ghost use Rattle.std.specs.Prelude.{◌≡◌, ◌≢◌, ◌∷◌, [], ◌<◌, ◌≤◌, drop, length, slice_get, Some, IfSome, MatchOption};
 ghost use Rattle.mr_text.specs.Text.{words_of};
-ghost use Rattle.mr_text.specs.ReplyReading.{drop_spaces};
+ghost use Rattle.mr_text.specs.steps.ReplyReading.{drop_spaces};
 
 use crate::reading::lines::place_of_byte;
 

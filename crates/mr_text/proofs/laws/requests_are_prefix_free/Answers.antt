@@ -1,5 +1,5 @@
 use Rattle.mr_text.specs.Requests.{SpellsRequest, RefusesRequest}
-use Rattle.mr_text.specs.Reading.{request_reading}
+use Rattle.mr_text.specs.steps.Reading.{request_reading}
 use Rattle.mr_text.proofs.OneReading.{prefix_free}
 use Rattle.mr_text.proofs.RequestReading.{request_found, refusal_found}
 use Rattle.mr_text.proofs.laws.requests_are_prefix_free.Goals as goal

@@ -1,6 +1,6 @@
 use Rattle.std.proofs.Common.{◌∷◌, [], ◌++◌, Some, Ok, drop, subst, arith, length-drop, length-append}
 use Rattle.mr_text.specs.declared.item.Item.{Item}
-use Rattle.mr_text.specs.ReplySteps.{IsStep}
+use Rattle.mr_text.specs.steps.ReplySteps.{IsStep}
 use Rattle.mr_text.proofs.Reached.{reached_item, reached_waits, reached_end, reached_refused}
 use Rattle.mr_text.proofs.reading.replies.items_at.Goals as goal
 

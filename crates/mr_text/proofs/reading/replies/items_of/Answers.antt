@@ -1,6 +1,6 @@
 use Rattle.std.proofs.Common.{◌≡◌, ◌+◌, ◌-◌, ◌∷◌, [], ◌++◌, Some, Ok, drop, sym, ◌∙◌, ap, subst}
-use Rattle.mr_text.specs.Reading.Reading.{Gives}
-use Rattle.mr_text.specs.ReplySteps.{IsStep}
+use Rattle.mr_text.specs.steps.Reading.Reading.{Gives}
+use Rattle.mr_text.specs.steps.ReplySteps.{IsStep}
 use Rattle.mr_text.specs.declared.item.Item.{Item}
 use Rattle.mr_text.proofs.Reached.{Reached, reached_item, reached_waits, reached_end, reached_refused}
 use Rattle.mr_text.proofs.reading.replies.items_of.Goals as goal

@@ -1,6 +1,6 @@
 use Rattle.std.proofs.Common.{◌-◌, drop, length, sym, subst, arith, length-drop}
 use Rattle.std.proofs.lemmas.List.{take_all}
-use Rattle.mr_text.specs.ReplyView.{IsOneLine}
+use Rattle.mr_text.specs.steps.ReplyView.{IsOneLine}
 use Rattle.mr_text.proofs.OneLine.{text_one_line}
 use Rattle.mr_text.proofs.reading.reply_lines.error_text.Goals as goal
 

@@ -1,5 +1,5 @@
 use Rattle.std.proofs.Common.{◌≡◌, ◌≤◌, length}
-use Rattle.mr_text.specs.ReplyReading.{drop_spaces}
+use Rattle.mr_text.specs.steps.ReplyReading.{drop_spaces}
 use Rattle.mr_text.specs.Text.{words_of}
 use Rattle.mr_text.proofs.reading.words.without_spaces.Given as goal
 

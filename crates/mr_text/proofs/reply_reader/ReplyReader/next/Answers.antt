@@ -1,10 +1,10 @@
 use Rattle.std.proofs.Common.{◌≡◌, true, false, Ok, Err, refl, sym, ◌∙◌, ap, subst}
 use Rattle.mr_text.specs.Stream.{NextIs}
-use Rattle.mr_text.specs.Waiting.{WaitIs}
+use Rattle.mr_text.specs.steps.Waiting.{WaitIs}
 use Rattle.mr_text.specs.Replies.{SpellsReply, RefusesReply, SkipsNone, is_no_last}
-use Rattle.mr_text.specs.ReplyReading.{reply_reading}
-use Rattle.mr_text.specs.Reading.Reading.{Waits, Gives, Refused}
-use Rattle.mr_text.specs.ReplySteps.{IsFoundReply, size_of}
+use Rattle.mr_text.specs.steps.ReplyReading.{reply_reading}
+use Rattle.mr_text.specs.steps.Reading.Reading.{Waits, Gives, Refused}
+use Rattle.mr_text.specs.steps.ReplySteps.{IsFoundReply, size_of}
 use Rattle.mr_text.proofs.Nexts.{gives, lacks, waiting}
 use Rattle.mr_text.proofs.ReplyReading.{reply_found, reply_refusal_found}
 use Rattle.mr_text.proofs.ReplyNexts.{reply_given, reply_refuses, says_some, reply_refusing}

@@ -1,10 +1,10 @@
 use Rattle.std.proofs.Common.{◌≡◌, false, Ok, Err, refl, sym, ◌∙◌, ap, subst}
 use Rattle.mr_text.specs.Stream.{NextIs}
-use Rattle.mr_text.specs.Waiting.{WaitIs}
+use Rattle.mr_text.specs.steps.Waiting.{WaitIs}
 use Rattle.mr_text.specs.Requests.{SpellsRequest, RefusesRequest, SkipsLine, is_quit}
-use Rattle.mr_text.specs.Reading.{request_reading}
-use Rattle.mr_text.specs.Reading.Reading.{Waits, Gives, Refused}
-use Rattle.mr_text.specs.RequestView.{said_request, IsFound}
+use Rattle.mr_text.specs.steps.Reading.{request_reading}
+use Rattle.mr_text.specs.steps.Reading.Reading.{Waits, Gives, Refused}
+use Rattle.mr_text.specs.steps.RequestView.{said_request, IsFound}
 use Rattle.mr_text.proofs.Nexts.{gives, lacks, waiting, refusing}
 use Rattle.mr_text.proofs.RequestReading.{request_found, refusal_found}
 use Rattle.mr_text.proofs.RequestNexts.{request_given, request_refuses}

@@ -6,17 +6,17 @@ use Rattle.mr_text.proofs.Nexts.{RefusedSo, waits}
 use Rattle.mr_text.proofs.RequestNexts.{request_given, request_refuses}
 use Rattle.mr_text.proofs.RequestReading.{LineSays, line_says, request_found, refusal_found}
 use Rattle.mr_text.specs.Limits.{MAX_LINE, MAX_BLOCK}
-use Rattle.mr_text.specs.Reading.{Reading, CommandLine, byte_place, block_reading, command_line, line_reading, line_reading_at, request_of_line, request_of_reading, request_reading, set_reading}
-use Rattle.mr_text.specs.Reading.Reading.{Waits, Gives, Refused}
-use Rattle.mr_text.specs.Reading.CommandLine.{GetLine, SetLine, DeleteLine, QuitLine}
+use Rattle.mr_text.specs.steps.Reading.{Reading, CommandLine, byte_place, block_reading, command_line, line_reading, line_reading_at, request_of_line, request_of_reading, request_reading, set_reading}
+use Rattle.mr_text.specs.steps.Reading.Reading.{Waits, Gives, Refused}
+use Rattle.mr_text.specs.steps.Reading.CommandLine.{GetLine, SetLine, DeleteLine, QuitLine}
 use Rattle.mr_text.specs.Requests.{SpellsRequest, RefusesRequest, SkipsLine, is_quit}
 use Rattle.mr_text.specs.Text.{IsLine, words_of, without_carriage_return}
 use Rattle.mr_text.specs.declared.error.TextError.{TextError}
 use Rattle.mr_text.specs.declared.error.TextError.TheVariants.{LineTooLong, BadKey, BadNumber, WrongWords, DataTooLong, BadDataEnd, UnknownCommand, Truncated, Closed, OutOfMemory}
 use Rattle.mr_text.specs.declared.request.Request.{Request}
-use Rattle.mr_tool.specs.FirstRequest.{HoldsNoRequest}
+use Rattle.mr_text.specs.Stream.{IsUnfinished}
 
-never_refused : (bytes : List ℕ) (refusal : TextError) (size : ℕ) → HoldsNoRequest bytes → RefusedSo RefusesRequest SkipsLine bytes refusal size → ⊥
+never_refused : (bytes : List ℕ) (refusal : TextError) (size : ℕ) → IsUnfinished SpellsRequest RefusesRequest bytes → RefusedSo RefusesRequest SkipsLine bytes refusal size → ⊥
 never_refused bytes (UnknownCommand true) size h r = h.not_refused (UnknownCommand true) r
 never_refused bytes (UnknownCommand false) size h r =
     h.not_refused (UnknownCommand false) (r.words, record { line = r.line; after = drop size bytes; splits = r.splits; is_line = r.is_line }, r.unknown)
@@ -31,7 +31,7 @@ never_refused bytes Closed size h r = absurd r
 never_refused bytes OutOfMemory size h r = absurd r
 
 -- where nothing is spelled and nothing refused, the reading waits
-unfinished_waits : (bytes : List ℕ) → HoldsNoRequest bytes → request_reading bytes ≡ Waits
+unfinished_waits : (bytes : List ℕ) → IsUnfinished SpellsRequest RefusesRequest bytes → request_reading bytes ≡ Waits
 unfinished_waits bytes h = go (request_reading bytes) refl
   where
     go : (r : Reading Request) → request_reading bytes ≡ r → r ≡ Waits
@@ -128,7 +128,7 @@ waits_short bytes e = go (line_reading bytes) refl (line_is bytes)
     go (Refused refusal size) is read = let never : request_of_reading bytes (Refused refusal size) ≡ Waits = (rw is at e) in cc
 
 -- so many bytes always hold a request or a refusal
-pub unfinished_short : (bytes : List ℕ) → HoldsNoRequest bytes → length bytes < 16388
+pub unfinished_short : (bytes : List ℕ) → IsUnfinished SpellsRequest RefusesRequest bytes → length bytes < 16388
 unfinished_short bytes h = waits_short bytes (unfinished_waits bytes h)
 
 nothing_waits : request_reading [] ≡ Waits
@@ -136,6 +136,6 @@ unfolding request_reading line_reading
 nothing_waits = refl
 
 -- nothing holds neither
-pub nothing_unfinished : HoldsNoRequest []
+pub nothing_unfinished : IsUnfinished SpellsRequest RefusesRequest []
 nothing_unfinished =
     waits SpellsRequest RefusesRequest SkipsLine is_quit request_reading request_found refusal_found request_given request_refuses [] nothing_waits

@@ -2,8 +2,8 @@
 use Rattle.std.specs.Prelude.{ℕ, zero, suc, ◌+◌, ◌-◌, ◌^◌, ◌==◌, nat_lt, Bool, true, false, List, [], ◌∷◌, ◌++◌, length, take, drop, codes, Option, Some, None, Result, Ok, Err, if◌then◌else◌}
 use Rattle.std.specs.Str.{bytes_eq}
 use Rattle.mr_text.specs.Key.{key_test}
-use Rattle.mr_text.specs.Reading.{Reading, line_reading, number_in, block_reading}
-use Rattle.mr_text.specs.Reading.Reading.{Waits, Gives, Refused}
+use Rattle.mr_text.specs.steps.Reading.{Reading, line_reading, number_in, block_reading}
+use Rattle.mr_text.specs.steps.Reading.Reading.{Waits, Gives, Refused}
 use Rattle.mr_text.specs.Replies.{cause_of}
 use Rattle.mr_text.specs.Text.{words_of}
 use Rattle.mr_text.specs.declared.item.Item.{Item}

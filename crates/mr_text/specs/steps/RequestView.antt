@@ -2,10 +2,10 @@
 use Rattle.std.specs.Prelude.{◌≡◌, ℕ, ◌≤◌, List, length, Option, Some, None, Result, Ok, Err}
 use Rattle.mr_text.specs.Block.{IsBlock}
 use Rattle.mr_text.specs.Key.{IsKey}
-use Rattle.mr_text.specs.CommandView.{AreKeys}
+use Rattle.mr_text.specs.steps.CommandView.{AreKeys}
 use Rattle.mr_text.specs.Text.{words_of}
-use Rattle.mr_text.specs.Reading.{request_reading}
-use Rattle.mr_text.specs.Reading.Reading.{Waits, Gives, Refused}
+use Rattle.mr_text.specs.steps.Reading.{request_reading}
+use Rattle.mr_text.specs.steps.Reading.Reading.{Waits, Gives, Refused}
 use Rattle.mr_text.specs.declared.reading.commands.Command.{Command}
 use Rattle.mr_text.specs.declared.reading.commands.Command.TheVariants.{Get, Set, Delete, Quit}
 use Rattle.mr_text.specs.declared.reading.requests.FoundRequest.{FoundRequest}

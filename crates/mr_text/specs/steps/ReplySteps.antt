@@ -2,12 +2,12 @@
 use Rattle.std.specs.Prelude.{◌≡◌, ℕ, ◌<◌, ◌≤◌, List, length, Option, Some, None, Result, Ok, Err}
 use Rattle.mr_text.specs.Block.{IsBlock}
 use Rattle.mr_text.specs.Key.{IsKey}
-use Rattle.mr_text.specs.ReplyView.{HasOneLine}
+use Rattle.mr_text.specs.steps.ReplyView.{HasOneLine}
 use Rattle.mr_text.specs.Replies.{cause_of}
-use Rattle.mr_text.specs.Reading.{Reading}
-use Rattle.mr_text.specs.Reading.Reading.{Waits, Gives, Refused}
-use Rattle.mr_text.specs.ReplyReading.{Step, step_reading, items_reading, reply_reading}
-use Rattle.mr_text.specs.ReplyReading.Step.{ItemStep, EndStep}
+use Rattle.mr_text.specs.steps.Reading.{Reading}
+use Rattle.mr_text.specs.steps.Reading.Reading.{Waits, Gives, Refused}
+use Rattle.mr_text.specs.steps.ReplyReading.{Step, step_reading, items_reading, reply_reading}
+use Rattle.mr_text.specs.steps.ReplyReading.Step.{ItemStep, EndStep}
 use Rattle.mr_text.specs.declared.item.Item.{Item}
 use Rattle.mr_text.specs.Limits.{MAX_ITEMS}
 use Rattle.mr_text.specs.declared.error.TextError.{TextError}

@@ -3,8 +3,8 @@ use Rattle.std.specs.Prelude.{◌≡◌, ℕ, ◌<◌, ◌≤◌, List, length, 
 use Rattle.mr_text.specs.Key.{IsKey}
 use Rattle.mr_text.specs.Line.{HasLineFeed}
 use Rattle.mr_text.specs.Replies.{cause_of}
-use Rattle.mr_text.specs.ReplyReading.{ReplyLine}
-use Rattle.mr_text.specs.ReplyReading.ReplyLine.{ItemLine, EndLine, LoneLine}
+use Rattle.mr_text.specs.steps.ReplyReading.{ReplyLine}
+use Rattle.mr_text.specs.steps.ReplyReading.ReplyLine.{ItemLine, EndLine, LoneLine}
 use Rattle.mr_text.specs.Limits.{MAX_BLOCK, MAX_ERROR_TEXT}
 use Rattle.mr_text.specs.declared.error.TextError.{TextError}
 use Rattle.mr_text.specs.declared.reading.reply_lines.SaidLine.{SaidLine}
