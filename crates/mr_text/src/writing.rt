@@ -146,7 +146,7 @@ pub fn put_end<W: Sink>(buffer: &mut FixedBuffer, writer: &mut W) -> Result<(), 
     ensures text { Gathers (codes "END" ++ line_end) buffer.old (W.told writer.old) result buffer.new (W.told writer.new) }
     ensures calls { (W.told writer.new).calls ≤ (W.told writer.old).calls + owes buffer.old }
 {
-    buffer.put_line(&[b"END\r\n".as_slice()], writer)
+    buffer.put_line(&[b"END".as_slice(), LINE_END], writer)
 }
 
 /// Puts an error: its word with a space, the text and the line end.
@@ -178,10 +178,10 @@ fn put_reply<W: Sink>(
             put_items(items.as_slice(), buffer, writer)?;
             put_end(buffer, writer)
         }
-        Reply::Stored => buffer.put_line(&[b"STORED\r\n".as_slice()], writer),
-        Reply::Deleted => buffer.put_line(&[b"DELETED\r\n".as_slice()], writer),
-        Reply::NotFound => buffer.put_line(&[b"NOT_FOUND\r\n".as_slice()], writer),
-        Reply::Error => buffer.put_line(&[b"ERROR\r\n".as_slice()], writer),
+        Reply::Stored => buffer.put_line(&[b"STORED".as_slice(), LINE_END], writer),
+        Reply::Deleted => buffer.put_line(&[b"DELETED".as_slice(), LINE_END], writer),
+        Reply::NotFound => buffer.put_line(&[b"NOT_FOUND".as_slice(), LINE_END], writer),
+        Reply::Error => buffer.put_line(&[b"ERROR".as_slice(), LINE_END], writer),
         Reply::ClientError(cause) => put_error(b"CLIENT_ERROR ", cause, buffer, writer),
         Reply::ServerError(cause) => put_error(b"SERVER_ERROR ", cause, buffer, writer),
     }
@@ -308,6 +308,6 @@ fn put_request<W: Sink>(
             noreply,
         } => put_set(key, *flags, *exptime, block, *noreply, buffer, writer),
         Request::Delete { key, noreply } => put_delete(key, *noreply, buffer, writer),
-        Request::Quit => buffer.put_line(&[b"quit\r\n".as_slice()], writer),
+        Request::Quit => buffer.put_line(&[b"quit".as_slice(), LINE_END], writer),
     }
 }
