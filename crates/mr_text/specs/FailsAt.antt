@@ -1,6 +1,6 @@
 -- What a device that is made to fail once is.
 use Rattle.std.specs.Prelude.{◌≡◌, ℕ, [], None, false}
-use Rattle.mr_text.specs.declared.fails_at.FailsAt.{FailsAt}
+use Rattle.mr_text.specs.declared.devices.fails_at.FailsAt.{FailsAt}
 
 -- the number of the call, counted from the next one, that is made to fail; 0 for none
 abbrev pub calls_until_failure : {D : Type 0} → FailsAt D → ℕ

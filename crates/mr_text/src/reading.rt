@@ -1,10 +1,18 @@
-//! How requests and replies are read from the bytes that are there, without taking memory.
+//! How requests and replies are read: a reader keeps the bytes of its stream, and finds the next item in them without
+//! taking memory.
 
-pub(crate) mod blocks;
-pub(crate) mod commands;
-pub(crate) mod lines;
-pub(crate) mod numbers;
-pub(crate) mod replies;
-pub(crate) mod reply_lines;
-pub(crate) mod requests;
-pub(crate) mod words;
+mod blocks;
+mod commands;
+mod kept;
+mod lines;
+mod numbers;
+mod replies;
+mod reply_lines;
+mod reply_reader;
+mod request_reader;
+mod requests;
+mod stream;
+mod words;
+
+pub use reply_reader::ReplyReader;
+pub use request_reader::RequestReader;

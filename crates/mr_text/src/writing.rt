@@ -6,15 +6,18 @@ ghost use Rattle.mr_text.specs.Sink.{Writes};
 ghost use Rattle.mr_text.specs.declared.reply.Reply.TheVariants.{ServerError};
 ghost use Rattle.mr_text.specs.declared.request.Request.TheVariants.{Get, Set, Delete};
 
+mod gathering;
+
 use crate::block::Block;
 use crate::cause::Cause;
+use crate::devices::Sink;
 use crate::error::WriteFault;
-use crate::gathering::{FixedBuffer, LINE_END};
 use crate::item::Item;
 use crate::key::Key;
 use crate::reply::Reply;
 use crate::request::Request;
-use crate::sink::Sink;
+use crate::writing::gathering::LINE_END;
+pub use gathering::FixedBuffer;
 use itoa::Buffer;
 
 /// Writes a request. It takes memory only as the writer does. At a fault a beginning of the text is written, and the

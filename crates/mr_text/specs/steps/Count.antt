@@ -1,6 +1,6 @@
 -- What a count that only contracts see stands for.
 use Rattle.std.specs.Prelude.{ℕ, ◌+◌}
-use Rattle.mr_text.specs.declared.counting.count.Count.{Count, Zero, More'}
+use Rattle.mr_text.specs.declared.devices.counting.count.Count.{Count, Zero, More'}
 
 -- how often something was counted
 abbrev pub number_of : Count → ℕ
