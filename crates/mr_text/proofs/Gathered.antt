@@ -5,7 +5,7 @@ use Rattle.std.proofs.lemmas.Grind.{flat_map-append, common_steps}
 use Rattle.mr_text.specs.Canonical.{spaced, line_end}
 use Rattle.mr_text.specs.Gathering.{HasGathered, Gathers, Costs, IsFew, IsFewAtFault, owes}
 use Rattle.mr_text.specs.Limits.{FIXED_BUFFER}
-use Rattle.mr_text.specs.Sink.{SinkView, HasWritten, HasStopped, Writes}
+use Rattle.mr_text.specs.Sink.{SinkView, HasStopped, Writes}
 use Rattle.mr_text.specs.declared.error.WriteFault.{WriteFault}
 use Rattle.mr_text.proofs.Writes.{written_none, written_then, stopped_behind, stopped_before, writes_behind}
 

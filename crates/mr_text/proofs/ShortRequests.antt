@@ -1,16 +1,16 @@
 -- How much may be read without a request or a refusal: less than the longest line and the longest block with their ends.
-use Rattle.std.proofs.Common.{◌≡◌, ℕ, ◌+◌, ◌-◌, ◌<◌, ◌≤◌, ◌==◌, Bool, true, false, not, List, [], ◌∷◌, ◌++◌, length, take, drop, Option, Some, None, Result, Ok, Err, refl, sym, ◌∙◌, ap, subst, arith, if◌then◌else◌, nat_le, nat_lt, leb-true, leb-false, length-drop, slice_index}
+use Rattle.std.proofs.Common.{◌≡◌, ℕ, ◌+◌, ◌-◌, ◌<◌, ◌≤◌, ◌==◌, Bool, true, false, not, List, [], length, take, drop, Option, Some, None, Result, Ok, Err, refl, sym, arith, if◌then◌else◌, nat_le, nat_lt, leb-true, leb-false, length-drop, slice_index}
 use Rattle.std.proofs.lemmas.List.{take-append-drop, length-take, length-take-le}
 use Rattle.mr_text.proofs.Lines.{IsRead, LineIs, line_is, line_length}
 use Rattle.mr_text.proofs.Nexts.{RefusedSo, waits}
 use Rattle.mr_text.proofs.RequestNexts.{request_given, request_refuses}
 use Rattle.mr_text.proofs.RequestReading.{LineSays, line_says, request_found, refusal_found}
 use Rattle.mr_text.specs.Limits.{MAX_LINE, MAX_BLOCK}
-use Rattle.mr_text.specs.steps.Reading.{Reading, CommandLine, byte_place, block_reading, command_line, line_reading, line_reading_at, request_of_line, request_of_reading, request_reading, set_reading}
+use Rattle.mr_text.specs.steps.Reading.{Reading, CommandLine, byte_place, block_reading, command_line, line_reading, request_of_line, request_of_reading, request_reading, set_reading}
 use Rattle.mr_text.specs.steps.Reading.Reading.{Waits, Gives, Refused}
 use Rattle.mr_text.specs.steps.Reading.CommandLine.{GetLine, SetLine, DeleteLine, QuitLine}
 use Rattle.mr_text.specs.Requests.{SpellsRequest, RefusesRequest, SkipsLine, is_quit}
-use Rattle.mr_text.specs.Text.{IsLine, words_of, without_carriage_return}
+use Rattle.mr_text.specs.Text.{words_of, without_carriage_return}
 use Rattle.mr_text.specs.declared.error.TextError.{TextError}
 use Rattle.mr_text.specs.declared.error.TextError.TheVariants.{LineTooLong, BadKey, BadNumber, WrongWords, DataTooLong, BadDataEnd, UnknownCommand, Truncated, Closed, OutOfMemory}
 use Rattle.mr_text.specs.declared.request.Request.{Request}

@@ -1,6 +1,5 @@
 -- What goes out of a text, piece by piece.
-use Rattle.std.proofs.Common.{◌≡◌, ℕ, ◌+◌, List, [], ◌++◌, refl, sym, ap, ◌∙◌, append-nil, append_assoc, Option, Result, Ok, Err, subst}
-use Rattle.std.specs.Io.KnownBytes.{Appends}
+use Rattle.std.proofs.Common.{ℕ, ◌+◌, List, [], ◌++◌, refl, sym, ap, ◌∙◌, append-nil, append_assoc, Result, Ok, Err}
 use Rattle.std.proofs.KnownBytes.{Appends-nil, Appends-trans}
 use Rattle.mr_text.specs.Sink.{SinkView, HasWritten, HasStopped, Writes, IsOneWrite}
 use Rattle.mr_text.specs.declared.error.WriteFault.{WriteFault}

@@ -1,5 +1,4 @@
-use Rattle.std.proofs.Common.{◌≡◌, true, false, Ok, Err, refl, sym, ◌∙◌, ap, subst}
-use Rattle.mr_text.specs.Stream.{NextIs}
+use Rattle.std.proofs.Common.{◌≡◌, false, Ok, refl, sym, ◌∙◌, ap, subst}
 use Rattle.mr_text.specs.steps.Waiting.{WaitIs}
 use Rattle.mr_text.specs.Replies.{SpellsReply, RefusesReply, SkipsNone, is_no_last}
 use Rattle.mr_text.specs.steps.ReplyReading.{reply_reading}
