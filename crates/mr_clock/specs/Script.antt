@@ -24,7 +24,7 @@ failures_after None failures = failures + 1
 failures_after (Some reading) failures = failures
 
 -- one call gives the next reading
-pub record Reads (old : Script) (reading : Option ℕ) (new : Script) : Type 0 where
+pub record GivesNext (old : Script) (reading : Option ℕ) (new : Script) : Type 0 where
   pub gives : reading ≡ first_reading old.left
   pub leaves : new.left ≡ left_after old.left
   pub counts : new.failures ≡ failures_after reading old.failures

@@ -43,11 +43,11 @@ impl ListClock {
 }
 
 impl Clock for ListClock {
-    ghost use Rattle.mr_clock.specs.Script.{Reads, first_reading, left_after};
+    ghost use Rattle.mr_clock.specs.Script.{GivesNext, first_reading, left_after};
 
     ghost failures = { λ c. c.failures };
 
-    ghost reads = { Reads };
+    ghost reads = { GivesNext };
 
     fn now(&mut self) -> Result<u64, ClockFault>
         ensures reading { MatchResult result

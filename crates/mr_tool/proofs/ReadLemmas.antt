@@ -10,7 +10,7 @@ use Rattle.clap.specs.declared.error.kind.ErrorKind.TheVariants.{OutOfMemory}
 use Rattle.mr_tool.proofs.PlainWords.{plainly_said}
 use Rattle.mr_tool.proofs.WordLemmas.{one_plan_said}
 use Rattle.mr_tool.specs.Command.{NamesAt, program_app}
-use Rattle.mr_tool.specs.Words.{Finds, Reads, ReadsAs, ReadsWith, Say, SaysPlainly}
+use Rattle.mr_tool.specs.Words.{FindsCommand, ReadsWords, ReadsAs, ReadsWith, Say, SaysPlainly}
 use Rattle.mr_tool.specs.declared.words.PlanValues.{PlanValues}
 use Rattle.mr_tool.specs.declared.words.Wanted.{Wanted}
 use Rattle.mr_tool.specs.declared.words.Wanted.TheVariants.{Plan}
@@ -35,7 +35,7 @@ wrong_is_no_memory : (text : Error) → Wrong text ≡ Memory → ⊥
 wrong_is_no_memory text e = cc
 
 -- a refusal of memory says nothing of the words
-pub memory_refused : (words : List Text) (result : Result Wanted WordsFault) → IsErrAnd result (λ fault. fault ≡ Memory) → Reads words result
+pub memory_refused : (words : List Text) (result : Result Wanted WordsFault) → IsErrAnd result (λ fault. fault ≡ Memory) → ReadsWords words result
 unfolding some_hashes
 memory_refused words (Ok read) h = absurd h
 memory_refused words (Err (Wrong text)) h = absurd (wrong_is_no_memory text h)
@@ -57,15 +57,15 @@ words_refused hashes words error (Err (Wrong text)) found h =
 
 -- words in which it finds none
 pub words_read : (hashes : NamesAt) (words : List Text) (found : Option (Text × List Row)) (wanted : Wanted) → fault_of (program_app hashes) words ≡ []
-    → found ≡ subcommand_of (program_app hashes) words → Finds found wanted → Say hashes words wanted
-words_read hashes words found wanted fits is finds = record { fits = fits; finds = subst (λ (o : Option (Text × List Row)). Finds o wanted) is finds }
+    → found ≡ subcommand_of (program_app hashes) words → FindsCommand found wanted → Say hashes words wanted
+words_read hashes words found wanted fits is finds = record { fits = fits; finds = subst (λ (o : Option (Text × List Row)). FindsCommand o wanted) is finds }
 
 pub none_read : (hashes : NamesAt) (words : List Text) (found : Option (Text × List Row)) → found ≡ subcommand_of (program_app hashes) words
-    → ((wanted : Wanted) → ¬ Finds found wanted) → (wanted : Wanted) → ¬ Say hashes words wanted
-none_read hashes words found is none wanted says = none wanted (subst (λ (o : Option (Text × List Row)). Finds o wanted) (sym is) says.finds)
+    → ((wanted : Wanted) → ¬ FindsCommand found wanted) → (wanted : Wanted) → ¬ Say hashes words wanted
+none_read hashes words found is none wanted says = none wanted (subst (λ (o : Option (Text × List Row)). FindsCommand o wanted) (sym is) says.finds)
 
 -- what is read of words that plainly say a plan
-pub reads_as : (words : List Text) (result : Result Wanted WordsFault) → Reads words result → (plan : PlanValues) → SaysPlainly words plan → ReadsAs plan result
+pub reads_as : (words : List Text) (result : Result Wanted WordsFault) → ReadsWords words result → (plan : PlanValues) → SaysPlainly words plan → ReadsAs plan result
 reads_as words (Ok (Plan read)) h plan plainly = one_plan_said h.0 words read plan h.2 (plainly_said h.0 words plan h.1 plainly)
 reads_as words (Err (Wrong text)) h plan plainly = h.2 (Plan plan) (plainly_said h.0 words plan h.1 plainly)
 reads_as words (Err Memory) h plan plainly = tt

@@ -11,7 +11,7 @@ use Rattle.mr_text.specs.declared.error.TextError.{TextError}
 use Rattle.mr_text.specs.declared.error.TextError.TheVariants.{LineTooLong, BadKey, BadNumber, WrongWords, DataTooLong, BadDataEnd, UnknownCommand, Truncated, Closed, OutOfMemory}
 use Rattle.mr_tool.specs.declared.fault.Fault.{Fault}
 use Rattle.mr_tool.specs.declared.fault.Fault.TheVariants.{Memory, Input, Output, Text, Pools, Phases}
-use Rattle.mr_tool.specs.FirstRequest.{HoldsNoRequest, Hold, IsNextOf, HasRead, Completes, EndsEarly, FailsEarly, Reads, most_reads}
+use Rattle.mr_tool.specs.FirstRequest.{HoldsNoRequest, Hold, IsNextOf, HasRead, Completes, EndsEarly, FailsEarly, ReadsRequest, most_reads}
 use Rattle.mr_text.proofs.ShortRequests.{nothing_unfinished, unfinished_short}
 
 pub next_refusal : (old new : ReaderView) (bytes : List ℕ) (refusal : TextError) → old.closed ≡ false → old.ended ≡ false
@@ -100,7 +100,7 @@ fed_more before now after reader reader' turns count buffer h read some next =
       brought = omega arith;
     }
 
-completed : (before after : SourceView) (result : Result Request Fault) (h : Completes before after result) → Hold (h.early ++ h.piece) result → Reads before after result
+completed : (before after : SourceView) (result : Result Request Fault) (h : Completes before after result) → Hold (h.early ++ h.piece) result → ReadsRequest before after result
 completed before after (Ok request) h holds = h
 completed before after (Err Memory) h holds = absurd holds
 completed before after (Err Input) h holds = absurd holds
@@ -120,7 +120,7 @@ completed before after (Err (Text OutOfMemory)) h holds = h
 
 -- the piece completes a request or a refusal
 pub fed_completes : (before now after : SourceView) (reader : ReaderView) (turns count : ℕ) (buffer : List ℕ) (result : Result Request Fault)
-    (h : HasFed before now reader turns) → IsOneRead buffer now (Ok count) after → Hold (h.fed ++ take count buffer) result → Reads before after result
+    (h : HasFed before now reader turns) → IsOneRead buffer now (Ok count) after → Hold (h.fed ++ take count buffer) result → ReadsRequest before after result
 fed_completes before now after reader turns count buffer result h read holds =
     completed before after result
     (record {
@@ -134,7 +134,7 @@ fed_completes before now after reader turns count buffer result h read holds =
 
 -- the input ended
 pub fed_ends : (before now after : SourceView) (reader : ReaderView) (turns count : ℕ) (buffer : List ℕ) → HasFed before now reader turns
-    → IsOneRead buffer now (Ok count) after → count ≡ 0 → 0 < length buffer → Reads before after (Err (Text Truncated))
+    → IsOneRead buffer now (Ok count) after → count ≡ 0 → 0 < length buffer → ReadsRequest before after (Err (Text Truncated))
 fed_ends before now after reader turns count buffer h read none room = record {
   early = h.fed;
   read = subst (λ (n : ℕ). HasRead h.fed (take n buffer) before after) none (piece_read before now after reader turns count buffer h read);
@@ -144,7 +144,7 @@ fed_ends before now after reader turns count buffer h read none room = record {
 
 -- a read failed
 pub fed_fails : (before now after : SourceView) (reader : ReaderView) (turns : ℕ) (buffer : List ℕ) (fault : ReadFault) → HasFed before now reader turns
-    → IsOneRead buffer now (Err fault) after → Reads before after (Err Input)
+    → IsOneRead buffer now (Err fault) after → ReadsRequest before after (Err Input)
 fed_fails before now after reader turns buffer fault h read =
     let counted = read.counted in
     let reads = h.reads in
@@ -171,7 +171,7 @@ few early piece before after h =
     omega arith
 
 -- how many reads were made
-pub few_reads : (before after : SourceView) (result : Result Request Fault) → Reads before after result → after.reads ≤ before.reads + most_reads
+pub few_reads : (before after : SourceView) (result : Result Request Fault) → ReadsRequest before after result → after.reads ≤ before.reads + most_reads
 few_reads before after (Ok request) h = few h.early h.piece before after h.read
 few_reads before after (Err Memory) h = few h.early h.piece before after h.read
 few_reads before after (Err Input) h = few h.early [] before after h.read

@@ -10,7 +10,7 @@ use Rattle.mr_tool.specs.declared.words.Wanted.TheVariants.{Plan}
 use Rattle.mr_tool.specs.declared.words.WordsFault.TheVariants as words_fault
 use Rattle.mr_tool.specs.Command.{NamesAt, AreHashes}
 use Rattle.mr_tool.specs.Devices.{Devices, devices, IsTold, Tells, NoneFailed}
-use Rattle.mr_tool.specs.FirstRequest.{Reads}
+use Rattle.mr_tool.specs.FirstRequest.{ReadsRequest}
 use Rattle.mr_pools.specs.Pool.{AreApart}
 use Rattle.mr_pools.specs.Routing.{RoutingView, IsRoutingOf}
 use Rattle.mr_pools.specs.declared.error.PoolError.{PoolError}
@@ -31,7 +31,7 @@ routing_refused plan before (Pools refusal) h = (h, refl)
 routing_refused plan before (Phases refusal) h = cc
 
 pub request_refused : (plan : PlanValues) (before after : SourceView) (output faults : SinkView) (fault : Fault) → HasRouting plan → HasSchedule plan
-    → Reads before after (Err fault) → PlanGives plan (devices before output faults) (devices after output faults) (Err fault)
+    → ReadsRequest before after (Err fault) → PlanGives plan (devices before output faults) (devices after output faults) (Err fault)
 request_refused plan before after output faults Memory routing schedule h = absurd h.holds
 request_refused plan before after output faults Input routing schedule h = (record { routing = routing; schedule = schedule; read = h }, refl)
 request_refused plan before after output faults Output routing schedule h = absurd h.holds

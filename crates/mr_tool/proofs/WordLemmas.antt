@@ -13,7 +13,7 @@ use Rattle.mr_pools.specs.Hash.{name_of_hash}
 use Rattle.mr_pools.specs.declared.hash.NamedHash.{NamedHash}
 use Rattle.mr_pools.specs.declared.hash.NamedHash.TheVariants.{Sum, Fnv}
 use Rattle.mr_tool.specs.Command.{NamesAt}
-use Rattle.mr_tool.specs.Words.{AgreesWith, Finds, FindsPlan, HasValues, IsNumberWord, Say}
+use Rattle.mr_tool.specs.Words.{AgreesWith, FindsCommand, FindsPlan, HasValues, IsNumberWord, Say}
 use Rattle.mr_tool.specs.declared.words.PlanValues.{PlanValues}
 use Rattle.mr_tool.specs.declared.words.Wanted.{Wanted}
 use Rattle.mr_tool.specs.declared.words.Wanted.TheVariants.{Plan}
@@ -96,7 +96,7 @@ found_rows found of_matches plan matched none finds =
     none plan (subst (λ (r : List Row). HasValues r plan) same finds.2)
 
 -- where no plan is found, no command is
-pub none_found : (found : Option (Text × List Row)) → ((plan : PlanValues) → ¬ FindsPlan found plan) → (wanted : Wanted) → ¬ Finds found wanted
+pub none_found : (found : Option (Text × List Row)) → ((plan : PlanValues) → ¬ FindsPlan found plan) → (wanted : Wanted) → ¬ FindsCommand found wanted
 none_found found none (Plan plan) finds = none plan finds
 
 -- what is said of no value, said more weakly

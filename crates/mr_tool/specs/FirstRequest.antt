@@ -62,7 +62,7 @@ pub record FailsEarly (before after : SourceView) : Type 0 where
   pub failed : after.failures ≡ before.failures + 1
 
 -- what was read of an input for its first request
-abbrev pub Reads : SourceView → SourceView → Result Request Fault → Type 0
-Reads before after (Err Input) = FailsEarly before after
-Reads before after (Err (Text Truncated)) = EndsEarly before after
-Reads before after result = Completes before after result
+abbrev pub ReadsRequest : SourceView → SourceView → Result Request Fault → Type 0
+ReadsRequest before after (Err Input) = FailsEarly before after
+ReadsRequest before after (Err (Text Truncated)) = EndsEarly before after
+ReadsRequest before after result = Completes before after result

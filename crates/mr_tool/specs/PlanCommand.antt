@@ -12,7 +12,7 @@ use Rattle.mr_phases.specs.Schedule.{one_hop}
 use Rattle.mr_phases.specs.declared.error.ScheduleError.{ScheduleError}
 use Rattle.mr_phases.specs.declared.error.ScheduleError.TheVariants.{ZeroInterval, TooLate}
 use Rattle.mr_tool.specs.Devices.{Devices}
-use Rattle.mr_tool.specs.FirstRequest.{Reads}
+use Rattle.mr_tool.specs.FirstRequest.{ReadsRequest}
 use Rattle.mr_tool.specs.PlanText.{plan_text}
 use Rattle.mr_tool.specs.PoolWords.{names_in, IsPoolNamed}
 use Rattle.mr_tool.specs.declared.fault.Fault.{Fault}
@@ -56,7 +56,7 @@ RefusesSchedule plan TooLate = (plan.interval ≢ 0) × (2 ^ 64 ≤ plan.start +
 pub record ReadsFor (plan : PlanValues) (before after : Devices) (result : Result Request Fault) : Type 0 where
   pub routing : HasRouting plan
   pub schedule : HasSchedule plan
-  pub read : Reads before.input after.input result
+  pub read : ReadsRequest before.input after.input result
 
 -- the plan of the first request was handed to the output in one call, which answered so
 pub record WritesPlan (plan : PlanValues) (before after : Devices) (answer : Result (Unit {0}) WriteFault) : Type 0 where

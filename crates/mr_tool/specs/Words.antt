@@ -36,13 +36,13 @@ abbrev pub FindsPlan : Option (Text × List Row) → PlanValues → Type 0
 FindsPlan found values = (rows : List Row) × (found ≡ Some (codes "plan", rows)) × HasValues rows values
 
 -- this command was found
-abbrev pub Finds : Option (Text × List Row) → Wanted → Type 0
-Finds found (Plan values) = FindsPlan found values
+abbrev pub FindsCommand : Option (Text × List Row) → Wanted → Type 0
+FindsCommand found (Plan values) = FindsPlan found values
 
 -- the program's command line finds no fault in the words, and they are this command
 pub record Say (hashes : NamesAt) (words : List Text) (wanted : Wanted) : Type 0 where
   pub fits : fault_of (program_app hashes) words ≡ []
-  pub finds : Finds (subcommand_of (program_app hashes) words) wanted
+  pub finds : FindsCommand (subcommand_of (program_app hashes) words) wanted
 
 -- the words say no command
 abbrev pub SayNothing : NamesAt → List Text → Type 0
@@ -54,8 +54,8 @@ ReadsWith hashes words (Ok wanted) = Say hashes words wanted
 ReadsWith hashes words (Err (Wrong error)) = SayNothing hashes words
 ReadsWith hashes words (Err Memory) = ⊤
 
-abbrev pub Reads : List Text → Result Wanted WordsFault → Type 0
-Reads words result = (hashes : NamesAt) × AreHashes hashes × ReadsWith hashes words result
+abbrev pub ReadsWords : List Text → Result Wanted WordsFault → Type 0
+ReadsWords words result = (hashes : NamesAt) × AreHashes hashes × ReadsWith hashes words result
 
 -- the word is no option: it doesn't begin with a hyphen
 abbrev pub IsNoOption : Text → Type 0

@@ -1,7 +1,7 @@
 //! The first request of an input.
 ghost use Rattle.std.specs.Prelude.{◌≡◌, ◌+◌, ◌≤◌, List, ℕ, false, ◌++◌};
 ghost use Rattle.mr_text.specs.Stream.{Becomes};
-ghost use Rattle.mr_tool.specs.FirstRequest.{IsNextOf, Reads, most_reads};
+ghost use Rattle.mr_tool.specs.FirstRequest.{IsNextOf, ReadsRequest, most_reads};
 
 use crate::fault::Fault;
 use mr_text::{Request, RequestReader, Source, TextError};
@@ -30,7 +30,7 @@ fn next_with(reader: &mut RequestReader, piece: &[u8]) -> Result<Option<Request>
 /// The first request of an input, read no further than the piece that completes it. The first line that is refused is
 /// the fault, an unknown command too; Truncated where the input ends before a request is whole.
 pub fn first_request<I: Source>(alloc: Global, input: &mut I) -> Result<Request, Fault>
-    ensures request { Reads (I.told input.old) (I.told input.new) result }
+    ensures request { ReadsRequest (I.told input.old) (I.told input.new) result }
     ensures reads { (I.told input.new).reads ≤ (I.told input.old).reads + most_reads }
 {
     let mut reader = RequestReader::new(alloc);

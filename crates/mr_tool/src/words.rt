@@ -2,7 +2,7 @@
 ghost use Rattle.std.specs.Prelude.{◌≡◌, None, false, map, IfOk, IfSome, IfNone};
 ghost use Rattle.clap.specs.Words.{app_of, found_of, rows_of, rule_of, subcommand_rows_of};
 ghost use Rattle.mr_tool.specs.Command.{AreHashes, value_rule, number_rule, hash_rule, plan_app, program_app};
-ghost use Rattle.mr_tool.specs.Words.{HasValues, FindsPlan, Finds, Reads, SaysPlainly, ReadsAs};
+ghost use Rattle.mr_tool.specs.Words.{HasValues, FindsPlan, FindsCommand, ReadsWords, SaysPlainly, ReadsAs};
 
 use clap::error::ErrorKind;
 use clap::{Arg, ArgAction, ArgMatches, Command, Error, value_parser};
@@ -156,8 +156,8 @@ fn plan_of<'a>(matches: &ArgMatches<'a>) -> Option<PlanValues<'a>>
 
 /// The command that was found, where it has its values.
 fn wanted_of<'a>(matches: &ArgMatches<'a>) -> Option<Wanted<'a>>
-    ensures found { IfSome result (Finds (subcommand_rows_of matches.now)) }
-    ensures missing { IfNone result ((wanted : Wanted) → ¬ Finds (subcommand_rows_of matches.now) wanted) }
+    ensures found { IfSome result (FindsCommand (subcommand_rows_of matches.now)) }
+    ensures missing { IfNone result ((wanted : Wanted) → ¬ FindsCommand (subcommand_rows_of matches.now) wanted) }
 {
     match plan_of(matches) {
         Some(values) => Some(Wanted::Plan(values)),
@@ -168,7 +168,7 @@ fn wanted_of<'a>(matches: &ArgMatches<'a>) -> Option<Wanted<'a>>
 /// Reads the words after the program's name, of which the first names the command. Wrong words are those that the
 /// command line has no place for, and memory is the other fault.
 pub fn read_words<'a>(alloc: Global, words: &'a [&'a str]) -> Result<Wanted<'a>, WordsFault>
-    ensures exactly { Reads (map (λ word. word.now) words.entry.now) result }
+    ensures exactly { ReadsWords (map (λ word. word.now) words.entry.now) result }
     ensures plainly { (values : PlanValues) → SaysPlainly (map (λ word. word.now) words.entry.now) values → ReadsAs values result }
 {
     let mut program = program(alloc)?;

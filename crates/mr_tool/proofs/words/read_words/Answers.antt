@@ -4,7 +4,7 @@ use Rattle.clap.specs.Faults.{is_simple_and_free}
 use Rattle.clap.specs.Kinds.{HasKind}
 use Rattle.clap.specs.Words.{App, Text, fault_of, is_simple, subcommand_of}
 use Rattle.mr_tool.proofs.ReadLemmas.{memory_refused, none_read, reads_as, simple, simple_and_free, words_read, words_refused}
-use Rattle.mr_tool.specs.Words.{Reads}
+use Rattle.mr_tool.specs.Words.{ReadsWords}
 use Rattle.mr_tool.specs.declared.words.WordsFault.TheVariants.{Wrong}
 use Rattle.mr_tool.proofs.words.read_words.Goals as goal
 
@@ -19,7 +19,7 @@ returns-in_err-matches c =
     let is = c.in_ok-program.ensures.2 in
     let words : List Text = map (λ (word : Bor Text). word.now) c.args.words.now in
     let kinds = subst (λ (a : App). is_simple_and_free a ≡ true → HasKind (fault_of a words) c.in_err-matches.field-0.0) is c.in_err-matches.ensures.kinds in
-    let read : Reads words c.from_residual-in_err-matches.result =
+    let read : ReadsWords words c.from_residual-in_err-matches.result =
     (hashes, c.in_ok-program.ensures.1, words_refused hashes words c.in_err-matches.field-0.0 _ (kinds (simple_and_free hashes)) c.from_residual-in_err-matches.ensures.1) in
     record { exactly = read; plainly = reads_as words _ read }
 
@@ -30,7 +30,7 @@ returns-in-Some c =
     let words : List Text = map (λ (word : Bor Text). word.now) c.args.words.now in
     let kinds = subst (λ (a : App). is_simple_and_free a ≡ true → fault_of a words ≡ []) is c.in_ok-matches.ensures.kinds in
     let found = (c.in_ok-matches.ensures.ok.2 (ap is_simple is ∙ simple hashes)).1 ∙ ap (λ (a : App). subcommand_of a words) is in
-    let read : Reads words (Ok c.in-Some.wanted) =
+    let read : ReadsWords words (Ok c.in-Some.wanted) =
     (hashes, c.in_ok-program.ensures.1, words_read hashes words _ _ (kinds (simple_and_free hashes)) found c.in-Some.ensures.found) in
     record { exactly = read; plainly = reads_as words (Ok c.in-Some.wanted) read }
 
@@ -45,5 +45,5 @@ returns c =
     let is = c.in_ok-program.ensures.2 in
     let words : List Text = map (λ (word : Bor Text). word.now) c.args.words.now in
     let found = (c.in_ok-matches.ensures.ok.2 (ap is_simple is ∙ simple hashes)).1 ∙ ap (λ (a : App). subcommand_of a words) is in
-    let read : Reads words (Err (Wrong c.in_ok-error-in-None.error)) = (hashes, c.in_ok-program.ensures.1, none_read hashes words _ found c.in-None.ensures.missing) in
+    let read : ReadsWords words (Err (Wrong c.in_ok-error-in-None.error)) = (hashes, c.in_ok-program.ensures.1, none_read hashes words _ found c.in-None.ensures.missing) in
     record { exactly = read; plainly = reads_as words (Err (Wrong c.in_ok-error-in-None.error)) read }
