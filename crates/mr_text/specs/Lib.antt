@@ -2,6 +2,7 @@ pub mod Limits
 pub mod Sink
 pub mod Source
 pub mod Key
+pub mod Making
 pub mod TextError
 pub mod FailsAt
 pub mod Block

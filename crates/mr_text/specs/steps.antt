@@ -1,9 +1,8 @@
--- What the functions of this crate say to one another. No public clause cites these definitions: a reader of the
--- contracts needs none of them.
+-- What private functions of this crate say to one another, and how private types stand for what contracts see. No clause
+-- of a public call cites these definitions: a reader of the contracts needs none of them.
 pub mod Count
 pub mod Roll
 pub mod Least
-pub mod Making
 pub mod Waiting
 pub mod Reading
 pub mod CommandView

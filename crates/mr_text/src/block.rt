@@ -25,7 +25,7 @@ impl Model for Block {
 }
 
 impl Block {
-    ghost use Rattle.mr_text.specs.steps.Making.{MadeWhere};
+    ghost use Rattle.mr_text.specs.Making.{MadeWhere};
 
     /// The block of these bytes, or DataTooLong where they are too many.
     pub fn new(alloc: Global, bytes: &[u8]) -> Result<Block, TextError>

@@ -48,7 +48,7 @@ pub(crate) fn is_key(bytes: &[u8]) -> bool
 }
 
 impl Key {
-    ghost use Rattle.mr_text.specs.steps.Making.{MadeWhere};
+    ghost use Rattle.mr_text.specs.Making.{MadeWhere};
 
     /// The key of these bytes, or BadKey where they are none.
     #[tactic(auto, using(crate::proofs::Keys::key_lemmas))]

@@ -1,5 +1,10 @@
-//! The tests of `mr_text`: a crate of their own, so that they are proved over the library and it isn't proved with them again.
+//! The tests of `mr_text`'s values, devices and writers: a crate of their own, so that they are proved over the library
+//! and it isn't proved with them again. Those of its readers are in `mr_reader_tests`.
 #![tactic(auto)]
+
+mod making;
+
+pub use making::{add_repeated, repeated_keys, reply_text, request_text};
 
 #[cfg(test)]
 mod tests;

@@ -1,5 +1,5 @@
 //! What a writer leaves where one of its calls fails.
-use super::{add_repeated, reply_text, request_text};
+use crate::{add_repeated, reply_text, request_text};
 use mr_text::{
     Block, Cause, Item, ItemList, Key, KeyList, Line, MAX_ITEMS, OverWriter, Reply, Request,
     WriteFault, write_delete, write_get, write_reply, write_request, write_server_error, write_set,

@@ -1,5 +1,6 @@
 //! The bytes that requests and replies are written as.
-use super::{are, reply_text, request_text};
+use super::are;
+use crate::{reply_text, request_text};
 use mr_text::{
     Block, Cause, Item, ItemList, Key, KeyList, Line, OverWriter, Reply, Request, write_delete,
     write_get, write_set,

@@ -2,8 +2,9 @@
 mod replies;
 mod requests;
 
+use super::first_cell;
 use super::reading::{Texts, gives_in_two_at_end};
-use super::{add_repeated, first_cell};
+use mr_text_tests::add_repeated;
 use std::alloc::Global;
 use std::process::Abort;
 use std::test::Fail;

@@ -1,6 +1,7 @@
 //! What the readers answer to a text, shown as bytes.
-use super::{first_cell, reply_text, request_text};
-use mr_text::{ReplyReader, RequestReader, TextError};
+use super::first_cell;
+use mr_text::{ReplyReader, RequestReader, TextError, WriteFault};
+use mr_text_tests::{reply_text, request_text};
 use std::alloc::Global;
 use std::process::Abort;
 use std::test::Fail;
@@ -80,7 +81,7 @@ fn add_reply(alloc: Global, reader: &mut ReplyReader, answers: &mut Vec<u8>) -> 
 }
 
 /// Adds what was written.
-fn add_text(written: Result<Vec<u8>, Fail>, answers: &mut Vec<u8>) -> Result<Turn, Fail> {
+fn add_text(written: Result<Vec<u8>, WriteFault>, answers: &mut Vec<u8>) -> Result<Turn, Fail> {
     let text = written?;
     answers.extend_from_slice(&text)?;
     Ok(Turn::Answered)
