@@ -12,9 +12,6 @@ use mr_text::Key;
 use std::alloc::{AllocError, Global};
 use std::marker::Model;
 
-#[cfg(test)]
-mod tests;
-
 /// A cache of at most so many items. A new one drops the item that wasn't used for the longest time.
 #[derive(Drop)]
 pub struct CacheNode {

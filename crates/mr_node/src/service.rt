@@ -18,8 +18,6 @@ mod answer;
 mod next;
 mod piece;
 mod step;
-#[cfg(test)]
-mod tests;
 
 /// The most bytes that one read may bring.
 pub const READ_LENGTH: usize = 4096;
