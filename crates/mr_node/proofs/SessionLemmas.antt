@@ -1,10 +1,10 @@
 -- What a service has read, done and written so far.
-use Rattle.std.proofs.Common.{◌≡◌, ◌≢◌, ◌∙◌, ℕ, ◌+◌, ◌*◌, ◌<◌, ◌≤◌, List, [], ◌∷◌, ◌++◌, length, Bool, true, false, Option, Some, None, Result, Ok, Err, refl, sym, ap, subst, inl, inr, arith, append_assoc, length-append}
+use Rattle.std.proofs.Common.{◌≡◌, ◌≢◌, ◌∙◌, ℕ, ◌+◌, ◌<◌, ◌≤◌, List, [], ◌∷◌, ◌++◌, length, Bool, true, false, Option, Some, None, Result, Ok, Err, refl, sym, ap, subst, inl, inr, arith, append_assoc, length-append}
 use Rattle.std.specs.Io.KnownBytes.{Consumes, Keeps, IsAtEnd}
 use Rattle.std.proofs.KnownBytes.{Consumes-nil, Consumes-trans, Consumes-kept}
 use Rattle.std.proofs.lemmas.List.{append-nil}
 use Rattle.std.proofs.lemmas.Grind.{flat_map-append}
-use Rattle.mr_text.specs.Sink.{SinkView, HasWritten, HasStopped}
+use Rattle.mr_text.specs.Sink.{SinkView, HasWritten}
 use Rattle.mr_text.specs.Source.{SourceView}
 use Rattle.mr_text.specs.Stream.{ReaderView, Becomes}
 use Rattle.mr_text.specs.declared.reply.Reply.{Reply}
@@ -17,7 +17,7 @@ use Rattle.mr_node.specs.declared.error.NodeError.TheVariants.{ZeroCapacity, Out
 use Rattle.mr_node.specs.declared.service.step.Step.{Step}
 use Rattle.mr_node.specs.declared.service.step.Step.TheVariants.{Served, Waits, Ends}
 use Rattle.mr_node.specs.Output.{Exchange, Reads, SpellsExchange, answer_of, output_of, text_of_answer, text_of_exchange}
-use Rattle.mr_node.specs.Session.{Station, Answers, StopsAnswering, Performs, DoesExchange, Serves, IsUnanswered, ServiceIs}
+use Rattle.mr_node.specs.Session.{Station, Answers, StopsAnswering, Performs, DoesExchange, Serves, ServiceIs}
 use Rattle.mr_node.specs.Step.{StepIs, PieceIs}
 
 -- an answer is its text, all of it

@@ -32,10 +32,7 @@ fn copied(alloc: Global, node: &CacheNode) -> Result<Option<CachedItem>, Fail> {
 }
 
 fn is_wanted(item: &CachedItem) -> bool {
-    item.key.as_bytes() == b"k".as_slice()
-        && item.flags == 5
-        && item.block.as_bytes() == b"v".as_slice()
-        && item.expires_at == Some(110)
+    item.flags == 5 && item.block.as_bytes() == b"v".as_slice() && item.expires_at == Some(110)
 }
 
 #[test]

@@ -1,13 +1,10 @@
-use Rattle.std.proofs.Common.{◌≡◌, ◌≢◌, ◌∙◌, ◌+◌, ◌<◌, ℕ, List, length, length-append, Ok, Err, refl, ap, arith}
+use Rattle.std.proofs.Common.{◌∙◌, ℕ, List, length, length-append, Ok, Err, refl, ap, arith}
 use Rattle.std.proofs.lemmas.Result.{err_from_is_err_and}
-use Rattle.mr_text.specs.Source.{AreOffered}
-use Rattle.mr_node.specs.declared.error.NodeError.{NodeError}
-use Rattle.mr_node.specs.declared.error.NodeError.TheVariants.{ReadFault, WriteFault}
 use Rattle.mr_node.specs.declared.service.step.Step.{Step}
 use Rattle.mr_node.specs.declared.service.step.Step.TheVariants.{Served, Waits, Ends}
 use Rattle.mr_node.specs.Session.{station, read_length}
 use Rattle.mr_node.proofs.ReadLemmas.{still_offered}
-use Rattle.mr_node.proofs.SessionLemmas.{begins_so, stepped, goes_on, waits_for, shrinks, ends, all_read, spent, step_fails, fed, read_fails, reader_fails, reader_well, failed_read_within, write_fails, writes_well}
+use Rattle.mr_node.proofs.SessionLemmas.{begins_so, stepped, goes_on, waits_for, shrinks, ends, all_read, spent, step_fails, fed, read_fails, failed_read_within}
 use Rattle.mr_node.proofs.service.serve.Goals as goal
 
 pub session-init : goal.session-init
