@@ -1,84 +1,95 @@
 -- What taking an item out and cutting the list leave of the items.
-use Rattle.std.proofs.Common.{◌≡◌, ◌≢◌, ◌∙◌, ℕ, ◌+◌, ◌<◌, ◌≤◌, zero, suc, List, [], ◌∷◌, length, take, true, false, cond, not, Some, None, refl, sym, ap, arith, nat_lt, get_or}
+use Rattle.std.proofs.Common.{◌≡◌, ◌≢◌, ◌∙◌, ℕ, ◌+◌, ◌<◌, ◌≤◌, zero, suc, List, [], ◌∷◌, length, take, true, false, cond, not, Option, Some, None, refl, sym, ap, arith, nat_lt, get_or}
 use Rattle.std.proofs.lemmas.List.Folds.{find_at}
 use Rattle.std.proofs.lemmas.Option.{slice_get_read, slice_get_past}
 use Rattle.std.specs.List.{remove, position, position_or_len, prefix_len, slice_get}
 use Rattle.std.proofs.lemmas.Bool.{false_from_ne_true, ltb-true, ltb-false}
 use Rattle.std.proofs.lemmas.Slice.Eq.{bytes_eq-Decides}
+use Rattle.std.specs.Option.{option_map}
 use Rattle.mr_node.specs.declared.cached_item.CachedItem.{CachedItem}
-use Rattle.mr_node.specs.Items.{is_named, item_of, without, HasDistinctKeys}
+use Rattle.mr_node.specs.Items.{NamedItem, is_named, named_item_of, without, HasDistinctKeys}
 
-pub named_key : (key : List ℕ) (item : CachedItem) → is_named key item ≡ true → item.key ≡ key
-named_key key item h = (bytes_eq-Decides item.key key).0 h
+pub named_key : (key : List ℕ) (item : NamedItem) → is_named key item ≡ true → item.0 ≡ key
+named_key key item h = (bytes_eq-Decides item.0 key).0 h
 
-pub not_named : (key : List ℕ) (item : CachedItem) → item.key ≢ key → is_named key item ≡ false
+pub not_named : (key : List ℕ) (item : NamedItem) → item.0 ≢ key → is_named key item ≡ false
 not_named key item apart = false_from_ne_true (is_named key item) (λ h. apart (named_key key item h))
 
-pub named_apart : (key : List ℕ) (item : CachedItem) → is_named key item ≡ false → item.key ≢ key
+pub named_apart : (key : List ℕ) (item : NamedItem) → is_named key item ≡ false → item.0 ≢ key
 named_apart key item h same =
-    let named : is_named key item ≡ true = (bytes_eq-Decides item.key key).1 same in
+    let named : is_named key item ≡ true = (bytes_eq-Decides item.0 key).1 same in
     let both : true ≡ false = sym named ∙ h in cc
 
 -- an item under one key is not under another
-pub named_once : (other key : List ℕ) (item : CachedItem) → other ≢ key → is_named key item ≡ true → is_named other item ≡ false
+pub named_once : (other key : List ℕ) (item : NamedItem) → other ≢ key → is_named key item ≡ true → is_named other item ≡ false
 named_once other key item apart h = not_named other item (λ same. apart (sym same ∙ named_key key item h))
 
-pub without_absent : (key : List ℕ) (items : List CachedItem) → item_of key items ≡ None → without key items ≡ items
+-- a key without an item has no entry
+pub none_named : (found : Option NamedItem) → option_map (λ named. named.1) found ≡ None → found ≡ None
+none_named None h = refl
+none_named (Some named) h = cc
+
+pub some_named : (found : Option NamedItem) (item : CachedItem) → option_map (λ named. named.1) found ≡ Some item
+    → (named : NamedItem) × (found ≡ Some named)
+some_named None item h = cc
+some_named (Some named) item h = (named, refl)
+
+pub without_absent : (key : List ℕ) (items : List NamedItem) → named_item_of key items ≡ None → without key items ≡ items
 without_absent key [] h = refl
 without_absent key (x ∷ xs) h =
-    elim (is_named key x) as (λ b. cond b (Some x) (item_of key xs) ≡ None → cond (not b) (x ∷ without key xs) (without key xs) ≡ x ∷ xs) [
+    elim (is_named key x) as (λ b. cond b (Some x) (named_item_of key xs) ≡ None → cond (not b) (x ∷ without key xs) (without key xs) ≡ x ∷ xs) [
       | true ↦ λ e. cc
       | false ↦ λ e. ap (λ l. x ∷ l) (without_absent key xs e)
     ] h
 
-pub item_of-without : (key : List ℕ) (items : List CachedItem) → item_of key (without key items) ≡ None
+pub item_of-without : (key : List ℕ) (items : List NamedItem) → named_item_of key (without key items) ≡ None
 item_of-without key [] = refl
 item_of-without key (x ∷ xs) =
-    elim (is_named key x) as (λ b. is_named key x ≡ b → item_of key (cond (not b) (x ∷ without key xs) (without key xs)) ≡ None) [
+    elim (is_named key x) as (λ b. is_named key x ≡ b → named_item_of key (cond (not b) (x ∷ without key xs) (without key xs)) ≡ None) [
       | true ↦ λ e. item_of-without key xs
       | false ↦ λ e. rw e (item_of-without key xs)
     ] refl
 
-pub item_of-without_other : (other key : List ℕ) (items : List CachedItem) → other ≢ key → item_of other (without key items) ≡ item_of other items
+pub item_of-without_other : (other key : List ℕ) (items : List NamedItem) → other ≢ key → named_item_of other (without key items) ≡ named_item_of other items
 item_of-without_other other key [] apart = refl
 item_of-without_other other key (x ∷ xs) apart =
-    elim (is_named key x) as (λ b. is_named key x ≡ b → item_of other (cond (not b) (x ∷ without key xs) (without key xs)) ≡ item_of other (x ∷ xs)) [
+    elim (is_named key x) as (λ b. is_named key x ≡ b → named_item_of other (cond (not b) (x ∷ without key xs) (without key xs)) ≡ named_item_of other (x ∷ xs)) [
       | true ↦ λ e. rw (named_once other key x apart e) (item_of-without_other other key xs apart)
       | false ↦ λ e. ap (λ o. cond (is_named other x) (Some x) o) (item_of-without_other other key xs apart)
     ] refl
 
-pub distinct-without : (key : List ℕ) (items : List CachedItem) → HasDistinctKeys items → HasDistinctKeys (without key items)
+pub distinct-without : (key : List ℕ) (items : List NamedItem) → HasDistinctKeys items → HasDistinctKeys (without key items)
 distinct-without key [] d = tt
 distinct-without key (x ∷ xs) d =
     elim (is_named key x) as (λ b. is_named key x ≡ b → HasDistinctKeys (cond (not b) (x ∷ without key xs) (without key xs))) [
       | true ↦ λ e. distinct-without key xs d.1
-      | false ↦ λ e. (item_of-without_other x.key key xs (named_apart key x e) ∙ d.0, distinct-without key xs d.1)
+      | false ↦ λ e. (item_of-without_other x.0 key xs (named_apart key x e) ∙ d.0, distinct-without key xs d.1)
     ] refl
 
-pub item_of-take_none : (n : ℕ) (key : List ℕ) (items : List CachedItem) → item_of key items ≡ None → item_of key (take n items) ≡ None
+pub item_of-take_none : (n : ℕ) (key : List ℕ) (items : List NamedItem) → named_item_of key items ≡ None → named_item_of key (take n items) ≡ None
 item_of-take_none zero key items h = refl
 item_of-take_none (suc n) key [] h = refl
 item_of-take_none (suc n) key (x ∷ xs) h =
-    elim (is_named key x) as (λ b. cond b (Some x) (item_of key xs) ≡ None → cond b (Some x) (item_of key (take n xs)) ≡ None) [
+    elim (is_named key x) as (λ b. cond b (Some x) (named_item_of key xs) ≡ None → cond b (Some x) (named_item_of key (take n xs)) ≡ None) [
       | true ↦ λ e. e
       | false ↦ λ e. item_of-take_none n key xs e
     ] h
 
-pub item_of-take : (n : ℕ) (key : List ℕ) (items : List CachedItem) (item : CachedItem) → item_of key (take n items) ≡ Some item → item_of key items ≡ Some item
+pub item_of-take : (n : ℕ) (key : List ℕ) (items : List NamedItem) (item : NamedItem) → named_item_of key (take n items) ≡ Some item → named_item_of key items ≡ Some item
 item_of-take zero key items item h = cc
 item_of-take (suc n) key [] item h = h
 item_of-take (suc n) key (x ∷ xs) item h =
-    elim (is_named key x) as (λ b. cond b (Some x) (item_of key (take n xs)) ≡ Some item → cond b (Some x) (item_of key xs) ≡ Some item) [
+    elim (is_named key x) as (λ b. cond b (Some x) (named_item_of key (take n xs)) ≡ Some item → cond b (Some x) (named_item_of key xs) ≡ Some item) [
       | true ↦ λ e. e
       | false ↦ λ e. item_of-take n key xs item e
     ] h
 
-pub distinct-take : (n : ℕ) (items : List CachedItem) → HasDistinctKeys items → HasDistinctKeys (take n items)
+pub distinct-take : (n : ℕ) (items : List NamedItem) → HasDistinctKeys items → HasDistinctKeys (take n items)
 distinct-take zero items d = tt
 distinct-take (suc n) [] d = tt
-distinct-take (suc n) (x ∷ xs) d = (item_of-take_none n x.key xs d.0, distinct-take n xs d.1)
+distinct-take (suc n) (x ∷ xs) d = (item_of-take_none n x.0 xs d.0, distinct-take n xs d.1)
 
-pub length-without : (key : List ℕ) (items : List CachedItem) → length (without key items) ≤ length items
+pub length-without : (key : List ℕ) (items : List NamedItem) → length (without key items) ≤ length items
 length-without key [] = omega arith
 length-without key (x ∷ xs) =
     elim (is_named key x) as (λ b. length (cond (not b) (x ∷ without key xs) (without key xs)) ≤ suc (length xs)) [
@@ -87,7 +98,7 @@ length-without key (x ∷ xs) =
     ]
 
 -- the list without the item that is found, by its place
-pub remove_found : (key : List ℕ) (items : List CachedItem) → HasDistinctKeys items → position_or_len (is_named key) items < length items
+pub remove_found : (key : List ℕ) (items : List NamedItem) → HasDistinctKeys items → position_or_len (is_named key) items < length items
     → remove items (position_or_len (is_named key) items) ≡ without key items
 remove_found key [] d h = absurd (omega arith)
 remove_found key (x ∷ xs) d h =
@@ -95,8 +106,8 @@ remove_found key (x ∷ xs) d h =
     → cond (not b) (1 + prefix_len (λ y. not (is_named key y)) xs) 0 < suc (length xs)
     → remove (x ∷ xs) (cond (not b) (1 + prefix_len (λ y. not (is_named key y)) xs) 0) ≡ cond (not b) (x ∷ without key xs) (without key xs)) [
       | true ↦ λ e l.
-          let same : x.key ≡ key = named_key key x e in
-          let absent : item_of key xs ≡ None = rw same at d.0 in
+          let same : x.0 ≡ key = named_key key x e in
+          let absent : named_item_of key xs ≡ None = rw same at d.0 in
           sym (without_absent key xs absent)
       | false ↦ λ e l.
           let next : 1 + prefix_len (λ y. not (is_named key y)) xs ≡ suc (prefix_len (λ y. not (is_named key y)) xs) = omega arith in
@@ -104,31 +115,31 @@ remove_found key (x ∷ xs) d h =
           rw next (ap (λ l. x ∷ l) (remove_found key xs d.1 below))
     ] refl h
 
-pub found_key : (key : List ℕ) (items : List CachedItem) (item : CachedItem) → item_of key items ≡ Some item → item.key ≡ key
+pub found_key : (key : List ℕ) (items : List NamedItem) (item : NamedItem) → named_item_of key items ≡ Some item → item.0 ≡ key
 found_key key [] item h = cc
 found_key key (x ∷ xs) item h =
-    elim (is_named key x) as (λ b. is_named key x ≡ b → cond b (Some x) (item_of key xs) ≡ Some item → item.key ≡ key) [
-      | true ↦ λ e f. let same : x ≡ item = cc in ap (λ i. i.key) (sym same) ∙ named_key key x e
+    elim (is_named key x) as (λ b. is_named key x ≡ b → cond b (Some x) (named_item_of key xs) ≡ Some item → item.0 ≡ key) [
+      | true ↦ λ e f. let same : x ≡ item = cc in ap (λ i. i.0) (sym same) ∙ named_key key x e
       | false ↦ λ e f. found_key key xs item f
     ] refl h
 
 -- what is found is taken out
-pub length-without_found : (key : List ℕ) (items : List CachedItem) (item : CachedItem) → item_of key items ≡ Some item
+pub length-without_found : (key : List ℕ) (items : List NamedItem) (item : NamedItem) → named_item_of key items ≡ Some item
     → length (without key items) + 1 ≤ length items
 length-without_found key [] item h = cc
 length-without_found key (x ∷ xs) item h =
-    elim (is_named key x) as (λ b. cond b (Some x) (item_of key xs) ≡ Some item → length (cond (not b) (x ∷ without key xs) (without key xs)) + 1 ≤ suc (length xs)) [
+    elim (is_named key x) as (λ b. cond b (Some x) (named_item_of key xs) ≡ Some item → length (cond (not b) (x ∷ without key xs) (without key xs)) + 1 ≤ suc (length xs)) [
       | true ↦ λ e. omega (arith, length-without key xs)
       | false ↦ λ e. omega (arith, length-without_found key xs item e)
     ] h
 
 -- a list with its item of that key in front has one item of each key
-pub distinct_in_front : (item : CachedItem) (n : ℕ) (items : List CachedItem) → HasDistinctKeys items → HasDistinctKeys (item ∷ take n (without item.key items))
+pub distinct_in_front : (item : NamedItem) (n : ℕ) (items : List NamedItem) → HasDistinctKeys items → HasDistinctKeys (item ∷ take n (without item.0 items))
 distinct_in_front item n items d =
-    (item_of-take_none n item.key (without item.key items) (item_of-without item.key items), distinct-take n (without item.key items) (distinct-without item.key items d))
+    (item_of-take_none n item.0 (without item.0 items) (item_of-without item.0 items), distinct-take n (without item.0 items) (distinct-without item.0 items d))
 
 -- the place of an item
-pub place_found : (key : List ℕ) (items : List CachedItem) (place : ℕ) → position (is_named key) items ≡ Some place
+pub place_found : (key : List ℕ) (items : List NamedItem) (place : ℕ) → position (is_named key) items ≡ Some place
     → (place ≡ position_or_len (is_named key) items) × (place < length items)
 place_found key items place h =
     elim (nat_lt (position_or_len (is_named key) items) (length items)) as (λ b. nat_lt (position_or_len (is_named key) items) (length items) ≡ b
@@ -140,22 +151,22 @@ place_found key items place h =
       | false ↦ λ e f. cc
     ] refl h
 
-pub absent_place : (key : List ℕ) (items : List CachedItem) → position (is_named key) items ≡ None → item_of key items ≡ None
+pub absent_place : (key : List ℕ) (items : List NamedItem) → position (is_named key) items ≡ None → named_item_of key items ≡ None
 absent_place key items h =
     elim (nat_lt (position_or_len (is_named key) items) (length items)) as (λ b. nat_lt (position_or_len (is_named key) items) (length items) ≡ b
-    → cond b (Some (position_or_len (is_named key) items)) None ≡ None → item_of key items ≡ None) [
+    → cond b (Some (position_or_len (is_named key) items)) None ≡ None → named_item_of key items ≡ None) [
       | true ↦ λ e f. cc
       | false ↦ λ e f. find_at (is_named key) items ∙ slice_get_past items (position_or_len (is_named key) items) (ltb-false _ _ e)
     ] refl h
 
 -- the item at that place
-pub found_at : (key : List ℕ) (items : List CachedItem) (place : ℕ) (item : CachedItem) → position (is_named key) items ≡ Some place
-    → item ≡ get_or items place item → item_of key items ≡ Some item
+pub found_at : (key : List ℕ) (items : List NamedItem) (place : ℕ) (item : NamedItem) → position (is_named key) items ≡ Some place
+    → item ≡ get_or items place item → named_item_of key items ≡ Some item
 found_at key items place item h read =
     let at = place_found key items place h in
     find_at (is_named key) items ∙ ap (slice_get items) (sym at.0) ∙ slice_get_read items (length items) place item refl at.1 read
 
-pub removed_at : (key : List ℕ) (items : List CachedItem) (place : ℕ) → HasDistinctKeys items → position (is_named key) items ≡ Some place
+pub removed_at : (key : List ℕ) (items : List NamedItem) (place : ℕ) → HasDistinctKeys items → position (is_named key) items ≡ Some place
     → remove items place ≡ without key items
 removed_at key items place distinct h =
     let at = place_found key items place h in

@@ -4,5 +4,6 @@ pub mod KeptLemmas
 pub mod StepLemmas
 pub mod ReadLemmas
 pub mod SessionLemmas
+pub mod FaultLemmas
 pub mod ServiceLemmas
 pub mod GetLemmas

@@ -1,5 +1,5 @@
 -- The room that reads are offered.
-use Rattle.std.proofs.Common.{◌≡◌, ℕ, ◌≤◌, min, Option, Some, None, sym, subst, arith}
+use Rattle.std.proofs.Common.{◌≡◌, ℕ, ◌≤◌, Option, Some, None, sym, subst, arith}
 use Rattle.mr_text.specs.Source.{AreOffered, least_with}
 
 -- one more read is offered as much

@@ -6,19 +6,19 @@ use Rattle.mr_text.specs.Stream.{ReaderView, BeginsWith, Becomes, NextIs, FaultA
 use Rattle.mr_text.specs.TextError.{number_of_refusal}
 use Rattle.mr_text.specs.declared.error.TextError.{TextError}
 use Rattle.mr_text.specs.declared.error.TextError.TheVariants.{LineTooLong, BadKey, BadNumber, WrongWords, DataTooLong, BadDataEnd, UnknownCommand, Truncated, Closed, OutOfMemory}
-use Rattle.mr_text.specs.declared.reply.Reply.{Reply}
 use Rattle.mr_text.specs.declared.request.Request.{Request}
 use Rattle.mr_text.specs.declared.request.Request.TheVariants.{Get, Set, Delete, Quit}
 use Rattle.mr_node.specs.declared.ended.Ended.{Ended}
 use Rattle.mr_node.specs.declared.ended.Ended.TheVariants as how
-use Rattle.mr_node.specs.declared.error.NodeError.{NodeError}
-use Rattle.mr_node.specs.declared.service.step.Step.{Step}
-use Rattle.mr_node.specs.declared.service.step.Step.TheVariants.{Served, Waits, Ends}
+use Rattle.mr_node.specs.declared.session.SessionFault.{SessionFault}
+use Rattle.mr_node.specs.declared.session.Step.{Step}
+use Rattle.mr_node.specs.declared.session.Step.TheVariants.{Served, Waits, Ends}
 use Rattle.mr_text.specs.Sink.{SinkView}
 use Rattle.mr_node.specs.Output.{IsServed}
-use Rattle.mr_node.specs.Session.{Station, station}
+use Rattle.mr_node.specs.Session.{Station, station, AnswersRefusal}
 use Rattle.mr_node.specs.Output.Exchange.{Asked, Unknown}
-use Rattle.mr_node.specs.Step.{RequestIs, RefusalIs, StepIs, EndIs}
+use Rattle.mr_node.specs.steps.Step.{RequestIs, StepIs, EndIs}
+use Rattle.mr_node.specs.Outcome.{Outcomes}
 
 pub line_not_empty : (bytes line : List ℕ) → IsLine bytes line → 1 ≤ length bytes
 line_not_empty bytes line is = omega (arith, length-append is.raw (10 ∷ []), ap length is.ends)
@@ -43,9 +43,9 @@ served_is_not_quit (Set key flags exptime block noreply) is = refl
 served_is_not_quit (Delete key noreply) is = refl
 served_is_not_quit Quit is = absurd is
 
-module _ {C P : Type 0} (Does : C → P → Request → Reply → C → P → Type 0) (rest : List ℕ) (old new : ReaderView) where
+module _ {C P : Type 0} (Does : Outcomes C P) (rest : List ℕ) (old new : ReaderView) where
   -- a request that was read is served
-  pub step_of_request : (before after : Station C P) (request : Request) (result : Result Step NodeError)
+  pub step_of_request : (before after : Station C P) (request : Request) (result : Result Step SessionFault)
       → NextIs SpellsRequest RefusesRequest SkipsLine is_quit old new rest (Ok (Some request))
       → RequestIs Does before after request result
       → StepIs Does before after old.ended rest new result
@@ -71,9 +71,9 @@ module _ {C P : Type 0} (Does : C → P → Request → Reply → C → P → Ty
 
   module _ (clock : C) (node : P) (written written' : SinkView) where
     -- a refusal that closes the reader ends the service
-    ends_refused : (refusal : TextError) (result : Result Step NodeError) → FaultAt SpellsRequest RefusesRequest refusal rest
+    ends_refused : (refusal : TextError) (result : Result Step SessionFault) → FaultAt SpellsRequest RefusesRequest refusal rest
         → skips_line refusal ≡ false → (refusal ≡ Truncated → old.ended ≡ true) → refusal ≢ OutOfMemory
-        → RefusalIs refusal written result written'
+        → AnswersRefusal refusal written result written'
         → StepIs Does (station clock node written) (station clock node written') old.ended rest new result
     ends_refused refusal (Ok step) fault closes cut other is =
         let ends : step ≡ Ends (how.Refused (number_of_refusal refusal)) =
@@ -83,8 +83,8 @@ module _ {C P : Type 0} (Does : C → P → Request → Reply → C → P → Ty
     ends_refused refusal (Err e) fault closes cut other (inl is) = absurd (other is.0)
     ends_refused refusal (Err e) fault closes cut other (inr is) = inr (is.0, inr (refusal, fault, closes, refl, refl, is.1))
 
-    skips_unknown : (result : Result Step NodeError) (after : List ℕ) → SkipsLine rest after → Becomes new after old.ended false
-        → RefusalIs (UnknownCommand false) written result written'
+    skips_unknown : (result : Result Step SessionFault) (after : List ℕ) → SkipsLine rest after → Becomes new after old.ended false
+        → AnswersRefusal (UnknownCommand false) written result written'
         → StepIs Does (station clock node written) (station clock node written') old.ended rest new result
     skips_unknown (Ok step) after skips becomes is =
         subst (λ (s : Step). StepIs Does (station clock node written) (station clock node written') old.ended rest new (Ok s)) (sym is.1) (
@@ -104,16 +104,16 @@ module _ {C P : Type 0} (Does : C → P → Request → Reply → C → P → Ty
       inl (Unknown, skips.line, after, skips.splits, (skips.words, skips.is_line, skips.unknown), (refl, refl), is.1),
     )
 
-    lacks_memory : (result : Result Step NodeError) → RefusalIs OutOfMemory written result written'
+    lacks_memory : (result : Result Step SessionFault) → AnswersRefusal OutOfMemory written result written'
         → StepIs Does (station clock node written) (station clock node written') old.ended rest new result
     lacks_memory (Ok step) is = absurd (is.0 refl)
     lacks_memory (Err e) (inl is) = inl (is.1, ap (station clock node) is.2)
     lacks_memory (Err e) (inr is) = absurd is.1
 
     -- a refusal is answered
-    pub step_of_refusal : (refusal : TextError) (result : Result Step NodeError) → old.closed ≡ false
+    pub step_of_refusal : (refusal : TextError) (result : Result Step SessionFault) → old.closed ≡ false
         → NextIs SpellsRequest RefusesRequest SkipsLine is_quit old new rest (Err refusal)
-        → RefusalIs refusal written result written'
+        → AnswersRefusal refusal written result written'
         → StepIs Does (station clock node written) (station clock node written') old.ended rest new result
     step_of_refusal LineTooLong result going next is = ends_refused LineTooLong result next.1 refl (λ e. cc) (λ e. cc) is
     step_of_refusal BadKey result going next is = ends_refused BadKey result next.1 refl (λ e. cc) (λ e. cc) is

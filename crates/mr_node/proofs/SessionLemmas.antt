@@ -1,24 +1,24 @@
 -- What a service has read, done and written so far.
-use Rattle.std.proofs.Common.{◌≡◌, ◌≢◌, ◌∙◌, ℕ, ◌+◌, ◌*◌, ◌<◌, ◌≤◌, List, [], ◌∷◌, ◌++◌, length, Bool, true, false, Option, Some, None, Result, Ok, Err, refl, sym, ap, subst, inl, inr, arith, append_assoc, length-append}
+use Rattle.std.proofs.Common.{◌≡◌, ◌≢◌, ◌∙◌, ℕ, ◌+◌, ◌<◌, ◌≤◌, List, [], ◌∷◌, ◌++◌, length, Bool, true, false, Option, Some, None, Result, Ok, Err, refl, sym, ap, subst, inl, inr, arith, append_assoc, length-append}
 use Rattle.std.specs.Io.KnownBytes.{Consumes, Keeps, IsAtEnd}
 use Rattle.std.proofs.KnownBytes.{Consumes-nil, Consumes-trans, Consumes-kept}
 use Rattle.std.proofs.lemmas.List.{append-nil}
 use Rattle.std.proofs.lemmas.Grind.{flat_map-append}
-use Rattle.mr_text.specs.Sink.{SinkView, HasWritten, HasStopped}
+use Rattle.mr_text.specs.Sink.{SinkView, HasWritten}
 use Rattle.mr_text.specs.Source.{SourceView}
 use Rattle.mr_text.specs.Stream.{ReaderView, Becomes}
 use Rattle.mr_text.specs.declared.reply.Reply.{Reply}
-use Rattle.mr_text.specs.declared.request.Request.{Request}
 use Rattle.mr_text.proofs.Writes.{written_none, written_then}
 use Rattle.mr_node.specs.declared.ended.Ended.{Ended}
 use Rattle.mr_node.specs.declared.ended.Ended.TheVariants as how
-use Rattle.mr_node.specs.declared.error.NodeError.{NodeError}
-use Rattle.mr_node.specs.declared.error.NodeError.TheVariants.{ZeroCapacity, OutOfMemory, ReadFault, WriteFault, TurnsSpent}
-use Rattle.mr_node.specs.declared.service.step.Step.{Step}
-use Rattle.mr_node.specs.declared.service.step.Step.TheVariants.{Served, Waits, Ends}
+use Rattle.mr_node.specs.declared.session.SessionFault.{SessionFault}
+use Rattle.mr_node.specs.declared.session.SessionFault.TheVariants.{OutOfMemory, ReadFault, WriteFault, TurnsSpent}
+use Rattle.mr_node.specs.declared.session.Step.{Step}
+use Rattle.mr_node.specs.declared.session.Step.TheVariants.{Served, Waits, Ends}
 use Rattle.mr_node.specs.Output.{Exchange, Reads, SpellsExchange, answer_of, output_of, text_of_answer, text_of_exchange}
-use Rattle.mr_node.specs.Session.{Station, Answers, StopsAnswering, Performs, DoesExchange, Serves, IsUnanswered, ServiceIs}
-use Rattle.mr_node.specs.Step.{StepIs, PieceIs}
+use Rattle.mr_node.specs.Session.{Station, Answers, StopsAnswering, Performs, DoesExchange, Serves, SessionIs, PieceIs}
+use Rattle.mr_node.specs.steps.Step.{StepIs}
+use Rattle.mr_node.specs.Outcome.{Outcomes}
 
 -- an answer is its text, all of it
 answered : (answer : Option Reply) (old new : SinkView) → Answers answer old new → HasWritten (text_of_answer answer) old new
@@ -32,7 +32,7 @@ stopped : (answer : Option Reply) (old new : SinkView) → StopsAnswering answer
 stopped None old new is = absurd is
 stopped (Some reply) old new is = (is.0.failed, is.0.last)
 
-module _ {C P : Type 0} (Does : C → P → Request → Reply → C → P → Type 0) (reader : SourceView) (old : Station C P) where
+module _ {C P : Type 0} (Does : Outcomes C P) (reader : SourceView) (old : Station C P) where
   serves_nothing : Serves Does reader reader old old []
   serves_nothing = record {
     exchanges = [];
@@ -110,11 +110,11 @@ module _ {C P : Type 0} (Does : C → P → Request → Reply → C → P → Ty
 
   module _ (reader' : SourceView) (now new : Station C P) (requests requests' : ReaderView) (ended : Bool) (so : UnderWay reader' now requests ended) where
     -- what a step says, where its result is known
-    pub stepped : (result result' : Result Step NodeError) → result ≡ result'
+    pub stepped : (result result' : Result Step SessionFault) → result ≡ result'
         → StepIs Does now new requests.ended so.rest requests' result → StepIs Does now new ended so.rest requests' result'
     stepped result result' is step =
         subst (λ (b : Bool). StepIs Does now new b so.rest requests' result') so.becomes.is_ended
-        (subst (λ (r : Result Step NodeError). StepIs Does now new requests.ended so.rest requests' r) is step)
+        (subst (λ (r : Result Step SessionFault). StepIs Does now new requests.ended so.rest requests' r) is step)
 
     -- a request was served
     pub goes_on : StepIs Does now new ended so.rest requests' (Ok Served) → UnderWay reader' new requests' ended
@@ -140,7 +140,7 @@ module _ {C P : Type 0} (Does : C → P → Request → Reply → C → P → Ty
     waits step = subst (λ (s : Station C P). Serves Does reader reader' old s so.rest) (sym step.0) so.serves
 
     -- the service ends
-    pub ends : (how : Ended) → StepIs Does now new ended so.rest requests' (Ok (Ends how)) → ServiceIs Does reader reader' old new (Ok how)
+    pub ends : (how : Ended) → StepIs Does now new ended so.rest requests' (Ok (Ends how)) → SessionIs Does reader reader' old new (Ok how)
     ends how.Quit step = (
       so.rest,
       None,
@@ -155,7 +155,7 @@ module _ {C P : Type 0} (Does : C → P → Request → Reply → C → P → Ty
     ends (how.Refused number) step =
         (so.rest, _, now, so.serves, (step.2, step.3, step.4, (λ e. so.at_end (step.5 e)), step.6, refl), step.0, step.1, step.7)
 
-    pub all_read : StepIs Does now new ended so.rest requests' (Ok Waits) → ended ≡ true → ServiceIs Does reader reader' old new (Ok how.Ended)
+    pub all_read : StepIs Does now new ended so.rest requests' (Ok Waits) → ended ≡ true → SessionIs Does reader reader' old new (Ok how.Ended)
     all_read step done = (
       so.rest,
       None,
@@ -167,21 +167,21 @@ module _ {C P : Type 0} (Does : C → P → Request → Reply → C → P → Ty
       ap (λ (s : Station C P). s.writer) step.0,
     )
 
-    pub spent : StepIs Does now new ended so.rest requests' (Ok Waits) → ServiceIs Does reader reader' old new (Err TurnsSpent)
+    pub spent : StepIs Does now new ended so.rest requests' (Ok Waits) → SessionIs Does reader reader' old new (Err TurnsSpent)
     spent step = (so.rest, waits step, step.1)
 
-    pub step_fails : (e : NodeError) → StepIs Does now new ended so.rest requests' (Err e) → ServiceIs Does reader reader' old new (Err e)
-    step_fails e (inl step) = subst (λ (x : NodeError). ServiceIs Does reader reader' old new (Err x)) (sym step.0)
+    pub step_fails : (e : SessionFault) → StepIs Does now new ended so.rest requests' (Err e) → SessionIs Does reader reader' old new (Err e)
+    step_fails e (inl step) = subst (λ (x : SessionFault). SessionIs Does reader reader' old new (Err x)) (sym step.0)
         (so.rest, subst (λ (s : Station C P). Serves Does reader reader' old s so.rest) (sym step.1) so.serves)
-    step_fails e (inr step) = subst (λ (x : NodeError). ServiceIs Does reader reader' old new (Err x)) (sym step.0)
+    step_fails e (inr step) = subst (λ (x : SessionFault). SessionIs Does reader reader' old new (Err x)) (sym step.0)
         (so.rest, now, so.serves, step.1)
 
     -- a step that fails is no fault of the reader
-    pub step_reads_well : (e : NodeError) → StepIs Does now new ended so.rest requests' (Err e) → e ≢ ReadFault
+    pub step_reads_well : (e : SessionFault) → StepIs Does now new ended so.rest requests' (Err e) → e ≢ ReadFault
     step_reads_well e (inl step) fault = (let memory = step.0 in let both : OutOfMemory ≡ ReadFault = sym memory ∙ fault in cc)
     step_reads_well e (inr step) fault = (let write = step.0 in let both : WriteFault ≡ ReadFault = sym write ∙ fault in cc)
 
-    pub step_not_spent : (e : NodeError) → StepIs Does now new ended so.rest requests' (Err e) → e ≢ TurnsSpent
+    pub step_not_spent : (e : SessionFault) → StepIs Does now new ended so.rest requests' (Err e) → e ≢ TurnsSpent
     step_not_spent e (inl step) fault = (let memory = step.0 in let both : OutOfMemory ≡ TurnsSpent = sym memory ∙ fault in cc)
     step_not_spent e (inr step) fault = (let write = step.0 in let both : WriteFault ≡ TurnsSpent = sym write ∙ fault in cc)
 
@@ -195,21 +195,21 @@ module _ {C P : Type 0} (Does : C → P → Request → Reply → C → P → Ty
       at_end = piece.5;
     }
 
-    pub read_fails : (room : ℕ) (reader'' : SourceView) (requests'' : ReaderView) (e : NodeError) → StepIs Does now new ended so.rest requests' (Ok Waits)
-        → PieceIs room so.rest requests'' reader' (Err e) reader'' → ServiceIs Does reader reader'' old new (Err e)
+    pub read_fails : (room : ℕ) (reader'' : SourceView) (requests'' : ReaderView) (e : SessionFault) → StepIs Does now new ended so.rest requests' (Ok Waits)
+        → PieceIs room so.rest requests'' reader' (Err e) reader'' → SessionIs Does reader reader'' old new (Err e)
     read_fails room reader'' requests'' e step (inl fault) =
-        subst (λ (x : NodeError). ServiceIs Does reader reader'' old new (Err x)) (sym fault.0)
+        subst (λ (x : SessionFault). SessionIs Does reader reader'' old new (Err x)) (sym fault.0)
         (so.rest, serves_unfed reader' reader'' new so.rest (waits step) fault.1 fault.2, step.1)
     read_fails room reader'' requests'' e step (inr lacks) =
-        subst (λ (x : NodeError). ServiceIs Does reader reader'' old new (Err x)) (sym lacks.0)
+        subst (λ (x : SessionFault). SessionIs Does reader reader'' old new (Err x)) (sym lacks.0)
         (so.rest ++ lacks.1.0, serves_fed reader' reader'' new so.rest lacks.1.0 (waits step) lacks.1.1 lacks.1.2)
 
   -- the writer failed once where a fault of it ends the service, and the call that failed was the last
-  pub write_fails : (reader' : SourceView) (new : Station C P) (result : Result Ended NodeError) → ServiceIs Does reader reader' old new result
+  pub write_fails : (reader' : SourceView) (new : Station C P) (result : Result Ended SessionFault) → SessionIs Does reader reader' old new result
       → result ≡ Err WriteFault → (new.writer.failures ≡ old.writer.failures + 1) × (new.writer.last_failed ≡ true)
-  write_fails reader' new result is fault = failed (subst (ServiceIs Does reader reader' old new) fault is)
+  write_fails reader' new result is fault = failed (subst (SessionIs Does reader reader' old new) fault is)
     where
-      failed : ServiceIs Does reader reader' old new (Err WriteFault) → (new.writer.failures ≡ old.writer.failures + 1) × (new.writer.last_failed ≡ true)
+      failed : SessionIs Does reader reader' old new (Err WriteFault) → (new.writer.failures ≡ old.writer.failures + 1) × (new.writer.last_failed ≡ true)
       failed (rest, between, so, inl next) =
           let stop = stopped (answer_of next.0) between.writer new.writer next.6 in
           (stop.0 ∙ ap (λ n. n + 1) so.writes.steady, stop.1)
@@ -218,33 +218,32 @@ module _ {C P : Type 0} (Does : C → P → Request → Reply → C → P → Ty
           (stop.0 ∙ ap (λ n. n + 1) so.writes.steady, stop.1)
 
   -- the writer failed nowhere else
-  pub writes_well : (reader' : SourceView) (new : Station C P) (result : Result Ended NodeError) → ServiceIs Does reader reader' old new result
+  pub writes_well : (reader' : SourceView) (new : Station C P) (result : Result Ended SessionFault) → SessionIs Does reader reader' old new result
       → result ≢ Err WriteFault → new.writer.failures ≡ old.writer.failures
   writes_well reader' new (Ok _) is other = answered_well is.1 is.2.writer new.writer is.7 ∙ is.3.writes.steady
-  writes_well reader' new (Err ZeroCapacity) is other = absurd is
   writes_well reader' new (Err OutOfMemory) is other = is.1.writes.steady
   writes_well reader' new (Err ReadFault) is other = is.1.writes.steady
   writes_well reader' new (Err WriteFault) is other = absurd (other refl)
   writes_well reader' new (Err TurnsSpent) is other = is.1.writes.steady
 
 -- a read that fails is a fault of the reader where it says so
-pub reader_fails : (room : ℕ) (rest : List ℕ) (requests : ReaderView) (old new : SourceView) (e : NodeError)
+pub reader_fails : (room : ℕ) (rest : List ℕ) (requests : ReaderView) (old new : SourceView) (e : SessionFault)
     → PieceIs room rest requests old (Err e) new → e ≡ ReadFault → new.failures ≡ old.failures + 1
 reader_fails room rest requests old new e (inl fault) is = fault.3
 reader_fails room rest requests old new e (inr lacks) is = (let memory = lacks.0 in let both : OutOfMemory ≡ ReadFault = sym memory ∙ is in cc)
 
-pub reader_well : (room : ℕ) (rest : List ℕ) (requests : ReaderView) (old new : SourceView) (e : NodeError)
+pub reader_well : (room : ℕ) (rest : List ℕ) (requests : ReaderView) (old new : SourceView) (e : SessionFault)
     → PieceIs room rest requests old (Err e) new → e ≢ ReadFault → new.failures ≡ old.failures
 reader_well room rest requests old new e (inl fault) other = absurd (other fault.0)
 reader_well room rest requests old new e (inr lacks) other = lacks.2
 
-pub read_not_spent : (room : ℕ) (rest : List ℕ) (requests : ReaderView) (old new : SourceView) (e : NodeError)
+pub read_not_spent : (room : ℕ) (rest : List ℕ) (requests : ReaderView) (old new : SourceView) (e : SessionFault)
     → PieceIs room rest requests old (Err e) new → e ≢ TurnsSpent
 read_not_spent room rest requests old new e (inl fault) spent = (let is = fault.0 in let both : ReadFault ≡ TurnsSpent = sym is ∙ spent in cc)
 read_not_spent room rest requests old new e (inr lacks) spent = (let is = lacks.0 in let both : OutOfMemory ≡ TurnsSpent = sym is ∙ spent in cc)
 
 -- a read that fails brings no more than it may
-pub failed_read_within : (room : ℕ) (rest : List ℕ) (requests : ReaderView) (old new : SourceView) (e : NodeError)
+pub failed_read_within : (room : ℕ) (rest : List ℕ) (requests : ReaderView) (old new : SourceView) (e : SessionFault)
     → PieceIs room rest requests old (Err e) new → length new.taken ≤ length old.taken + room
 failed_read_within room rest requests old new e (inl fault) = omega (arith, ap (λ (l : List ℕ). length l) fault.1)
 failed_read_within room rest requests old new e (inr lacks) =

@@ -3,10 +3,9 @@ use Rattle.std.specs.Prelude.{◌≡◌, ◌≢◌, ℕ, ◌⊎◌, List, Option
 use Rattle.std.specs.Option.{option_map}
 use Rattle.mr_join.specs.declared.leg_reply.LegReply.{LegReply}
 use Rattle.mr_join.specs.declared.leg_reply.LegReply.TheVariants.{Hit, Miss, Stored, Deleted, NotFound}
-use Rattle.mr_node.specs.declared.cached_item.CachedItem.{CachedItem}
 use Rattle.mr_node.specs.declared.command.NodeCommand.{NodeCommand}
 use Rattle.mr_node.specs.declared.command.NodeCommand.TheVariants.{Get, Set, Delete}
-use Rattle.mr_node.specs.Items.{item_of}
+use Rattle.mr_node.specs.Items.{NamedItem, named_item_of}
 
 -- what is kept under a key
 pub record Datum : Type 0 where
@@ -44,5 +43,5 @@ CacheStep old (Delete key) NotFound new = LosesKey key old new
 CacheStep old _ _ new = ⊥
 
 -- the map of a list of items
-abbrev pub contents_of : List CachedItem → Contents
-contents_of items key = option_map (λ item. record { flags = item.flags; block = item.block }) (item_of key items)
+abbrev pub contents_of : List NamedItem → Contents
+contents_of items key = option_map (λ named. record { flags = named.1.flags; block = named.1.block }) (named_item_of key items)

@@ -8,4 +8,5 @@ pub mod Outcome
 pub mod KindLaw
 pub mod Output
 pub mod Session
-pub mod Step
+pub mod Service
+pub mod steps

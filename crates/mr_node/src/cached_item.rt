@@ -1,13 +1,11 @@
 ghost use Rattle.std.specs.Prelude.{◌≡◌, IfOk};
 
-use mr_text::{Block, Key};
+use mr_text::Block;
 use std::alloc::AllocError;
 
-/// An item in a cache.
+/// What a cache keeps under a key.
 #[derive(Debug, Drop)]
 pub struct CachedItem {
-    /// The name.
-    pub key: Key,
     /// A number that the client chose, given back as it came.
     pub flags: u32,
     /// The data.
@@ -22,7 +20,6 @@ impl CachedItem {
         ensures { IfOk result (λ item. item ≡ self.now) }
     {
         Ok(CachedItem {
-            key: self.key.copy()?,
             flags: self.flags,
             block: self.block.copy()?,
             expires_at: self.expires_at,

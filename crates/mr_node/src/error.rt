@@ -1,5 +1,6 @@
 ghost use Rattle.std.specs.Prelude.{◌≡◌};
 
+use crate::session::SessionFault;
 use std::alloc::AllocError;
 use thiserror::Error;
 
@@ -24,11 +25,11 @@ pub enum NodeError {
 }
 
 impl NodeError {
-    ghost use Rattle.mr_node.specs.NodeError.{number_of_error};
+    ghost use Rattle.mr_node.specs.NodeError.{number_of_refusal};
 
-    /// The error's number.
+    /// The refusal's number.
     pub fn number(self) -> u8
-        ensures { result ≡ number_of_error self }
+        ensures { result ≡ number_of_refusal self }
     {
         match self {
             NodeError::ZeroCapacity => 1,
@@ -48,5 +49,21 @@ impl From<AllocError> for NodeError {
 
     fn from(_e: AllocError) -> NodeError {
         NodeError::OutOfMemory
+    }
+}
+
+impl From<SessionFault> for NodeError {
+    ghost use Rattle.std.specs.Prelude.{◌≡◌};
+    ghost use Rattle.mr_node.specs.Service.{error_of};
+
+    ghost from_gives = { λ fault e. e ≡ error_of fault };
+
+    fn from(fault: SessionFault) -> NodeError {
+        match fault {
+            SessionFault::ReadFault => NodeError::ReadFault,
+            SessionFault::WriteFault => NodeError::WriteFault,
+            SessionFault::TurnsSpent => NodeError::TurnsSpent,
+            SessionFault::OutOfMemory => NodeError::OutOfMemory,
+        }
     }
 }

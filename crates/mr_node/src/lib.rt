@@ -12,6 +12,7 @@ mod outcome;
 mod perform;
 mod recency;
 mod service;
+pub mod session;
 
 pub use cache_node::CacheNode;
 pub use cached_item::CachedItem;
@@ -20,4 +21,5 @@ pub use ended::Ended;
 pub use error::NodeError;
 pub use expiry::MAX_RELATIVE_EXPTIME;
 pub use perform::Perform;
-pub use service::{READ_LENGTH, serve};
+pub use service::serve;
+pub use session::READ_LENGTH;

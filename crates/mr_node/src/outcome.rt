@@ -1,8 +1,9 @@
 //! What a request comes to.
 ghost use Rattle.std.specs.Prelude.{MatchResult};
 ghost use Rattle.mr_text.specs.Key.{HasKey, FitLine};
-ghost use Rattle.mr_node.specs.Outcome.{LooksUp, FailsToLookUp, Gets, StopsAtKey, GetOutcome, CommandOutcome, OutcomeAt, Outcome, IsChange};
+ghost use Rattle.mr_node.specs.Outcome.{LooksUp, FailsToLookUp, Gets, StopsAtKey, GetOutcome, CommandOutcome, OutcomeAt, Outcome};
 ghost use Rattle.mr_node.specs.Output.{IsServed};
+ghost use Rattle.mr_node.specs.steps.Change.{IsChange};
 
 use crate::command::NodeCommand;
 use crate::perform::Perform;

@@ -1,4 +1,5 @@
 ghost use Rattle.std.specs.Prelude.{ℕ, MatchResult};
+ghost use Rattle.mr_node.specs.Outcome.{Did, Refused};
 ghost use Rattle.mr_join.specs.declared.leg_reply.LegReply.{LegReply};
 ghost use Rattle.mr_node.specs.Kinds.{IsOfKind};
 ghost use Rattle.mr_node.specs.declared.command.NodeCommand.{NodeCommand};
@@ -13,11 +14,11 @@ use std::alloc::AllocError;
 pub trait Perform {
     /// What a command does: the state before it, the reading of the clock in seconds since the epoch, the command, the
     /// reply, and the state after it.
-    ghost did: { Self → ℕ → NodeCommand → LegReply → Self → Type 0 };
+    ghost did: { Did Self };
 
     /// What a command leaves for which memory was refused: the state before it, the reading, the command, and the
     /// state after it.
-    ghost refused: { Self → ℕ → NodeCommand → Self → Type 0 };
+    ghost refused: { Refused Self };
 
     /// Performs a command at a reading of the clock, in seconds since the epoch.
     fn perform(&mut self, now: u64, command: NodeCommand) -> Result<LegReply, AllocError>

@@ -1,28 +1,22 @@
 //! The service of requests that come as text.
-ghost use Rattle.std.specs.Prelude.{◌≡◌, ◌≢◌, ◌+◌, ◌*◌, ◌<◌, ◌≤◌, length, true};
-ghost use Rattle.mr_node.specs.Outcome.{Outcome};
+ghost use Rattle.std.specs.Prelude.{◌≡◌, ◌≢◌, ◌+◌, ◌*◌, ◌<◌, ◌≤◌, ℕ, List, length, true, false, Some, None, if◌then◌else◌};
 ghost use Rattle.mr_text.specs.Source.{AreOffered};
-ghost use Rattle.mr_node.specs.Session.{ServiceIs, station, read_length};
+ghost use Rattle.mr_text.specs.Stream.{StandsFor};
+ghost use Rattle.mr_node.specs.Outcome.{Outcome};
+ghost use Rattle.mr_node.specs.Service.{ServiceIs};
+ghost use Rattle.mr_node.specs.Session.{station, read_length};
+ghost use Rattle.mr_node.specs.steps.Step.{RequestIs, StepIs};
 
 use crate::ended::Ended;
 use crate::error::NodeError;
+use crate::outcome::outcome;
 use crate::perform::Perform;
-use crate::service::next::serve_next;
-use crate::service::piece::read_piece;
-use crate::service::step::Step;
+use crate::session::{
+    READ_LENGTH, SessionFault, Step, answer_refusal, is_silent, read_piece, write_answer,
+};
 use mr_clock::Clock;
-use mr_text::{RequestReader, Sink, Source};
+use mr_text::{Reply, Request, RequestReader, Sink, Source};
 use std::alloc::Global;
-
-mod answer;
-mod next;
-mod piece;
-mod step;
-#[cfg(test)]
-mod tests;
-
-/// The most bytes that one read may bring.
-pub const READ_LENGTH: usize = 4096;
 
 /// Serves the requests that the reader gives, and writes their answers, until the client quits, the input ends, or a
 /// request is refused after which nothing more can be read; the answer to that refusal is written first. At most `turns`
@@ -76,4 +70,51 @@ pub fn serve<P: Perform, S: Source, W: Sink, C: Clock>(
             }
         }
     }
+}
+
+/// Serves the next request that is whole.
+fn serve_next<P: Perform, W: Sink, C: Clock>(
+    alloc: Global,
+    node: &mut P,
+    requests: &mut RequestReader,
+    writer: &mut W,
+    clock: &mut C,
+) -> Result<Step, SessionFault>
+    requires { requests.old.closed ≡ false }
+    ensures { (rest : List ℕ) → StandsFor requests.old rest
+        → StepIs (Outcome C.reads C.failures P.did P.refused) (station clock.old node.old (W.told writer.old)) (station clock.new node.new (W.told writer.new))
+        requests.old.ended rest requests.new result }
+{
+    match requests.next() {
+        Ok(None) => Ok(Step::Waits),
+        Ok(Some(request)) => serve_request(alloc, node, writer, clock, request),
+        Err(refusal) => answer_refusal(refusal, writer),
+    }
+}
+
+/// Serves a request and writes its answer, unless the client wants none. A quit ends the service.
+fn serve_request<P: Perform, W: Sink, C: Clock>(
+    alloc: Global,
+    node: &mut P,
+    writer: &mut W,
+    clock: &mut C,
+    request: Request,
+) -> Result<Step, SessionFault>
+    ensures { RequestIs (Outcome C.reads C.failures P.did P.refused) (station clock.old node.old (W.told writer.old))
+        (station clock.new node.new (W.told writer.new)) request result }
+{
+    if let Request::Quit = request {
+        return Ok(Step::Ends(Ended::Quit));
+    }
+    let silent = is_silent(&request);
+    let reply = outcome(alloc, node, clock, request);
+    write_answer(answer_to(silent, reply), writer)?;
+    Ok(Step::Served)
+}
+
+/// What a client is answered, where it wants an answer.
+fn answer_to(silent: bool, reply: Reply) -> Option<Reply>
+    ensures { result ≡ (if silent then None else Some reply) }
+{
+    if silent { None } else { Some(reply) }
 }

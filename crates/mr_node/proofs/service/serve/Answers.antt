@@ -1,13 +1,11 @@
-use Rattle.std.proofs.Common.{◌≡◌, ◌≢◌, ◌∙◌, ◌+◌, ◌<◌, ℕ, List, length, length-append, Ok, Err, refl, ap, arith}
+use Rattle.std.proofs.Common.{◌∙◌, ℕ, List, length, length-append, Ok, Err, refl, ap, arith}
 use Rattle.std.proofs.lemmas.Result.{err_from_is_err_and}
-use Rattle.mr_text.specs.Source.{AreOffered}
-use Rattle.mr_node.specs.declared.error.NodeError.{NodeError}
-use Rattle.mr_node.specs.declared.error.NodeError.TheVariants.{ReadFault, WriteFault}
-use Rattle.mr_node.specs.declared.service.step.Step.{Step}
-use Rattle.mr_node.specs.declared.service.step.Step.TheVariants.{Served, Waits, Ends}
+use Rattle.mr_node.specs.declared.session.Step.{Step}
+use Rattle.mr_node.specs.declared.session.Step.TheVariants.{Served, Waits, Ends}
 use Rattle.mr_node.specs.Session.{station, read_length}
 use Rattle.mr_node.proofs.ReadLemmas.{still_offered}
-use Rattle.mr_node.proofs.SessionLemmas.{begins_so, stepped, goes_on, waits_for, shrinks, ends, all_read, spent, step_fails, fed, read_fails, reader_fails, reader_well, failed_read_within, write_fails, writes_well}
+use Rattle.mr_node.proofs.SessionLemmas.{begins_so, stepped, goes_on, waits_for, shrinks, ends, all_read, spent, step_fails, fed, read_fails, failed_read_within}
+use Rattle.mr_node.proofs.FaultLemmas.{told}
 use Rattle.mr_node.proofs.service.serve.Goals as goal
 
 pub session-init : goal.session-init
@@ -23,8 +21,8 @@ session-init g c = record {
 pub returns-in_err-serve_next-clause-service : goal.returns-in_err-serve_next-clause-service
 returns-in_err-serve_next-clause-service g c =
     let p = err_from_is_err_and c.from_residual.result c.from_residual.ensures.1 in
-    rw (p.1, p.2) (step_fails _ _ _ _ _ (station c.serve_next.new.clock c.serve_next.new.node (g.W.Sink.told c.serve_next.new.writer)) _ c.serve_next.new.requests _ c.session.invariant.so c.in_err-serve_next.field-0.0
-    (stepped _ _ _ _ _ (station c.serve_next.new.clock c.serve_next.new.node (g.W.Sink.told c.serve_next.new.writer)) _ c.serve_next.new.requests _ c.session.invariant.so (Err c.in_err-serve_next.field-0.0) (Err c.in_err-serve_next.field-0.0) refl (c.in_err-serve_next.ensures c.session.invariant.so.rest c.session.invariant.so.becomes.stands)))
+    rw (p.1, p.2) (told _ _ _ _ _ c.in_err-serve_next.field-0.0 (step_fails _ _ _ _ _ (station c.serve_next.new.clock c.serve_next.new.node (g.W.Sink.told c.serve_next.new.writer)) _ c.serve_next.new.requests _ c.session.invariant.so c.in_err-serve_next.field-0.0
+    (stepped _ _ _ _ _ (station c.serve_next.new.clock c.serve_next.new.node (g.W.Sink.told c.serve_next.new.writer)) _ c.serve_next.new.requests _ c.session.invariant.so (Err c.in_err-serve_next.field-0.0) (Err c.in_err-serve_next.field-0.0) refl (c.in_err-serve_next.ensures c.session.invariant.so.rest c.session.invariant.so.becomes.stands))))
 
 pub session-smaller-in-Served : goal.session-smaller-in-Served
 session-smaller-in-Served g c =
@@ -65,8 +63,8 @@ pub returns-in_err-ended-in-Waits-clause-service : goal.returns-in_err-ended-in-
 returns-in_err-ended-in-Waits-clause-service g c =
     let step = stepped _ _ _ _ _ (station c.serve_next.new.clock c.serve_next.new.node (g.W.Sink.told c.serve_next.new.writer)) _ c.serve_next.new.requests _ c.session.invariant.so (Ok c.in_ok-serve_next.field-0) (Ok Waits) (ap (λ (s : Step). Ok s) c.in-Waits.is) (c.in_ok-serve_next.ensures c.session.invariant.so.rest c.session.invariant.so.becomes.stands) in
     let p = err_from_is_err_and c.from_residual-in_err-ended-in-Waits.result c.from_residual-in_err-ended-in-Waits.ensures.1 in
-    rw (p.1, p.2) (read_fails _ _ _ _ _ (station c.serve_next.new.clock c.serve_next.new.node (g.W.Sink.told c.serve_next.new.writer)) _ c.serve_next.new.requests _ c.session.invariant.so (length c.session.buffer) (g.S.Source.told c.read_piece.new.reader) c.read_piece.new.requests c.in_err-ended-in-Waits.field-0.0 step
-    (c.in_err-ended-in-Waits.ensures.piece c.session.invariant.so.rest (waits_for _ _ _ _ _ (station c.serve_next.new.clock c.serve_next.new.node (g.W.Sink.told c.serve_next.new.writer)) _ c.serve_next.new.requests _ c.session.invariant.so step).stands))
+    rw (p.1, p.2) (told _ _ _ _ _ c.in_err-ended-in-Waits.field-0.0 (read_fails _ _ _ _ _ (station c.serve_next.new.clock c.serve_next.new.node (g.W.Sink.told c.serve_next.new.writer)) _ c.serve_next.new.requests _ c.session.invariant.so (length c.session.buffer) (g.S.Source.told c.read_piece.new.reader) c.read_piece.new.requests c.in_err-ended-in-Waits.field-0.0 step
+    (c.in_err-ended-in-Waits.ensures.piece c.session.invariant.so.rest (waits_for _ _ _ _ _ (station c.serve_next.new.clock c.serve_next.new.node (g.W.Sink.told c.serve_next.new.writer)) _ c.serve_next.new.requests _ c.session.invariant.so step).stands)))
 
 pub returns-in_err-ended-in-Waits-clause-bytes : goal.returns-in_err-ended-in-Waits-clause-bytes
 returns-in_err-ended-in-Waits-clause-bytes g c =

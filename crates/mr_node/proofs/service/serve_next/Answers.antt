@@ -6,7 +6,7 @@ use Rattle.mr_text.specs.declared.request.Request.{Request}
 use Rattle.mr_node.specs.Outcome.{Outcome}
 use Rattle.mr_node.specs.Session.{station}
 use Rattle.mr_node.proofs.ServiceLemmas.{step_of_request, step_of_refusal}
-use Rattle.mr_node.proofs.service.next.serve_next.Goals as goal
+use Rattle.mr_node.proofs.service.serve_next.Goals as goal
 
 pub returns-in-Ok-None : goal.returns-in-Ok-None
 returns-in-Ok-None g c rest stands =
@@ -31,5 +31,5 @@ returns-in-Err g c rest stands =
     subst (λ (r : Result (Option Request) TextError). NextIs SpellsRequest RefusesRequest SkipsLine is_quit c.args.requests.now c.next.new.self rest r)
     c.in-Err.is (c.next.ensures rest stands) in
     step_of_refusal (Outcome g.C.Clock.reads g.C.Clock.failures g.P.Perform.did g.P.Perform.refused) rest c.args.requests.now c.next.new.self
-    c.args.clock.now c.args.node.now (g.W.Sink.told c.args.writer.now) (g.W.Sink.told c.serve_refusal.new.writer)
-    c.in-Err.refusal c.serve_refusal.result c.requires next c.serve_refusal.ensures
+    c.args.clock.now c.args.node.now (g.W.Sink.told c.args.writer.now) (g.W.Sink.told c.answer_refusal.new.writer)
+    c.in-Err.refusal c.answer_refusal.result c.requires next c.answer_refusal.ensures

@@ -5,7 +5,7 @@ use Rattle.mr_text.specs.declared.reply.Reply.{Reply}
 use Rattle.mr_node.specs.Output.{IsServed, answer_of}
 use Rattle.mr_node.specs.Output.Exchange.{Asked}
 use Rattle.mr_node.specs.Session.{Answers, StopsAnswering}
-use Rattle.mr_node.proofs.service.answer.serve_request.Goals as goal
+use Rattle.mr_node.proofs.service.serve_request.Goals as goal
 
 pub returns : goal.returns
 returns g c =

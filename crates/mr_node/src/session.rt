@@ -1,0 +1,140 @@
+//! One session over a stream of requests, whatever performs them: how it ends, what gets no answer, the answer to a
+//! refusal, reading a piece, and writing an answer.
+ghost use Rattle.std.specs.Prelude.{◌≡◌, ◌+◌, ◌<◌, ℕ, List, length, false};
+ghost use Rattle.mr_text.specs.Source.{least_with};
+ghost use Rattle.mr_text.specs.Stream.{StandsFor, skips_line};
+ghost use Rattle.mr_node.specs.Output.{is_silent, reply_to_refusal};
+ghost use Rattle.mr_node.specs.Session.{PieceIs, WritesAnswer, AnswersRefusal};
+
+use crate::ended::Ended;
+use mr_text::{
+    Cause, Reply, Request, RequestReader, Sink, Source, TextError, WriteFault, write_reply,
+};
+use thiserror::Error;
+
+/// The most bytes that one read may bring.
+pub const READ_LENGTH: usize = 4096;
+
+/// Why a session ended early.
+#[derive(Clone, Copy, Debug, PartialEq, Eq, Error)]
+pub enum SessionFault {
+    /// The source of requests failed.
+    #[error("reading requests failed")]
+    ReadFault,
+    /// The sink of answers failed.
+    #[error("writing an answer failed")]
+    WriteFault,
+    /// All the reads that were allowed were made.
+    #[error("all allowed reads were made")]
+    TurnsSpent,
+    /// Memory for reading was refused.
+    #[error("out of memory")]
+    OutOfMemory,
+}
+
+/// What one step of a session came to.
+#[derive(Clone, Copy, Debug, PartialEq, Eq)]
+pub enum Step {
+    /// A request was read, and what it asked for was done and answered.
+    Served,
+    /// No request is whole.
+    Waits,
+    /// The session ends so.
+    Ends(Ended),
+}
+
+/// Reads once and hands what came to the reader of requests. Whether it was the end of the input.
+///
+/// ReadFault where the source failed. OutOfMemory where there was none for what came, which is lost then.
+pub fn read_piece<S: Source>(
+    reader: &mut S,
+    requests: &mut RequestReader,
+    buffer: &mut [u8],
+) -> Result<bool, SessionFault>
+    requires room { 0 < length buffer.old }
+    requires not_ended { requests.old.ended ≡ false }
+    requires not_closed { requests.old.closed ≡ false }
+    ensures once { (S.told reader.new).reads ≡ (S.told reader.old).reads + 1 }
+    ensures offered { (S.told reader.new).least_room ≡ least_with (S.told reader.old).least_room (length buffer.old) }
+    ensures piece { (rest : List ℕ) → StandsFor requests.old rest
+        → PieceIs (length buffer.old) rest requests.new (S.told reader.old) result (S.told reader.new) }
+{
+    let Ok(count) = reader.read(buffer) else {
+        return Err(SessionFault::ReadFault);
+    };
+    if count == 0 {
+        requests.end();
+        return Ok(true);
+    }
+    match requests.feed(&buffer[..count]) {
+        Ok(()) => Ok(false),
+        Err(_) => Err(SessionFault::OutOfMemory),
+    }
+}
+
+/// Whether the client wants no answer.
+pub fn is_silent(request: &Request) -> bool
+    ensures { result ≡ is_silent request.now }
+{
+    match request {
+        Request::Get { .. } => false,
+        Request::Set { noreply, .. } | Request::Delete { noreply, .. } => *noreply,
+        Request::Quit => true,
+    }
+}
+
+/// The answer to a refused request, if it gets one.
+pub fn reply_to_refusal(refusal: TextError) -> Option<Reply>
+    ensures { result ≡ reply_to_refusal refusal }
+{
+    match refusal {
+        TextError::LineTooLong => Some(Reply::ClientError(Cause::LineTooLong)),
+        TextError::BadKey => Some(Reply::ClientError(Cause::BadKey)),
+        TextError::BadNumber => Some(Reply::ClientError(Cause::BadNumber)),
+        TextError::WrongWords => Some(Reply::ClientError(Cause::WrongWords)),
+        TextError::DataTooLong => Some(Reply::ClientError(Cause::DataTooLong)),
+        TextError::BadDataEnd => Some(Reply::ClientError(Cause::BadDataEnd)),
+        TextError::UnknownCommand { .. } => Some(Reply::Error),
+        TextError::Truncated | TextError::Closed | TextError::OutOfMemory => None,
+    }
+}
+
+/// Whether reading goes on behind what was refused.
+pub fn skips_line(refusal: TextError) -> bool
+    ensures { result ≡ skips_line refusal }
+{
+    match refusal {
+        TextError::UnknownCommand { closes } => !closes,
+        _ => false,
+    }
+}
+
+/// Answers a refused request, if it gets an answer. Unless reading goes on behind it, it ends the session.
+///
+/// OutOfMemory, without an answer, where memory for the request was refused. WriteFault where the sink failed.
+pub fn answer_refusal<W: Sink>(refusal: TextError, writer: &mut W) -> Result<Step, SessionFault>
+    ensures { AnswersRefusal refusal (W.told writer.old) result (W.told writer.new) }
+{
+    if refusal == TextError::OutOfMemory {
+        return Err(SessionFault::OutOfMemory);
+    }
+    write_answer(reply_to_refusal(refusal), writer)?;
+    if skips_line(refusal) {
+        Ok(Step::Served)
+    } else {
+        Ok(Step::Ends(Ended::Refused(refusal.number())))
+    }
+}
+
+/// Writes an answer. Where there is none the sink isn't touched. WriteFault where the sink failed.
+pub fn write_answer<W: Sink>(answer: Option<Reply>, writer: &mut W) -> Result<(), SessionFault>
+    ensures { WritesAnswer answer (W.told writer.old) result (W.told writer.new) }
+{
+    let Some(reply) = answer else {
+        return Ok(());
+    };
+    match write_reply(&reply, writer) {
+        Ok(()) => Ok(()),
+        Err(WriteFault) => Err(SessionFault::WriteFault),
+    }
+}
