@@ -24,6 +24,7 @@ use Rattle.mr_phases.specs.declared.side.Side.{Side}
 use Rattle.mr_phases.specs.declared.side.Side.TheVariants.{Old, New}
 use Rattle.mr_pools.specs.Routing.{RoutingView, IsRouting, pool_of}
 use Rattle.mr_pools.specs.Hash.{spot_by}
+use Rattle.mr_node.specs.Command.{key_of}
 use Rattle.mr_node.specs.declared.command.NodeCommand.{NodeCommand}
 use Rattle.mr_node.specs.declared.command.NodeCommand.TheVariants.{Get, Set, Delete}
 use Rattle.mr_proxy.specs.declared.sheet.LegId.{LegId}
@@ -34,7 +35,7 @@ use Rattle.mr_proxy.specs.Slots.{open_slot, is_open, outcome_of, is_of_kind, is_
 use Rattle.mr_proxy.specs.Pending.{PendingView, is_complete, with_reply, with_reply_in}
 use Rattle.mr_proxy.specs.Answer.{AnswerView, answer_of, reply_of}
 use Rattle.mr_proxy.specs.ProxyView.{ProxyView, fresh_proxy}
-use Rattle.mr_proxy.specs.Issue.{key_of, pool_number, next_op, used_reading, sheets_by, sheets_of, sheets_from, targets_of, pending_of, after_issue}
+use Rattle.mr_proxy.specs.Issue.{pool_number, next_op, used_reading, sheets_by, sheets_of, sheets_from, targets_of, pending_of, after_issue}
 use Rattle.mr_proxy.specs.Steps.{place_of_op, pending_with, settled, taken_by, taken_of, left_by, given_up_in, given_up_of}
 use Rattle.mr_proxy.specs.Sheets.{pool_at}
 use Rattle.mr_proxy.specs.Whole.{IsCommandAt, IsLegAt, IsOfItsKind, IsWhole}

@@ -11,6 +11,7 @@ use Rattle.mr_phases.specs.Schedule.{Hop}
 use Rattle.mr_phases.specs.Sides.{sides_at}
 use Rattle.mr_phases.specs.Pools as pools
 use Rattle.mr_pools.specs.Routing.{RoutingView, pool_of, place_of}
+use Rattle.mr_node.specs.Command.{key_of}
 use Rattle.mr_node.specs.declared.command.NodeCommand.{NodeCommand}
 use Rattle.mr_node.specs.declared.command.NodeCommand.TheVariants.{Get, Set, Delete}
 use Rattle.mr_proxy.specs.declared.sheet.LegSheet.{LegSheet}
@@ -41,11 +42,6 @@ commands_of (request.Get keys) = map Get keys
 commands_of (request.Set key flags exptime block noreply) = Set key flags exptime block ∷ []
 commands_of (request.Delete key noreply) = Delete key ∷ []
 commands_of request.Quit = []
-
-abbrev pub key_of : NodeCommand → List ℕ
-key_of (Get key) = key
-key_of (Set key flags exptime block) = key
-key_of (Delete key) = key
 
 -- a command, and the side that is told it
 pub record Target : Type 0 where

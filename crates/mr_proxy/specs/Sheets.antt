@@ -6,10 +6,11 @@ use Rattle.mr_phases.specs.Schedule.{Hop}
 use Rattle.mr_phases.specs.Sides.{sides_at}
 use Rattle.mr_phases.specs.Pools.{read_pool, delete_pools}
 use Rattle.mr_pools.specs.Routing.{RoutingView, pool_of, place_of}
+use Rattle.mr_node.specs.Command.{key_of}
 use Rattle.mr_node.specs.declared.command.NodeCommand.{NodeCommand}
 use Rattle.mr_node.specs.declared.command.NodeCommand.TheVariants.{Get, Set, Delete}
 use Rattle.mr_proxy.specs.declared.sheet.LegSheet.{LegSheet}
-use Rattle.mr_proxy.specs.Issue.{key_of, kind_of, commands_of, pool_number}
+use Rattle.mr_proxy.specs.Issue.{kind_of, commands_of, pool_number}
 
 -- the pool whose node is told: 0 is the old one
 abbrev pub pool_at : LegSheet → ℕ

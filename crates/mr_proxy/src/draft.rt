@@ -6,7 +6,7 @@ ghost use Rattle.mr_pools.specs.Routing.{pool_of, place_of};
 ghost use Rattle.mr_node.specs.declared.command.NodeCommand.TheVariants.{Get, Delete};
 ghost use Rattle.mr_proxy.specs.Slots.{open_slot};
 ghost use Rattle.mr_proxy.specs.Sound.{HasLegs};
-ghost use Rattle.mr_proxy.specs.Issue.{key_of, pool_number, sheet_at, sheets_from, sheets_by, targets_of};
+ghost use Rattle.mr_proxy.specs.Issue.{pool_number, sheet_at, sheets_from, sheets_by, targets_of};
 
 use crate::leg::Leg;
 use crate::sheet::{LegId, LegSheet};
@@ -37,15 +37,6 @@ impl Model for Draft {
     ghost view = { λ d. d.legs.items };
 
     ghost invariant = { λ d. d.slots.items ≡ map open_slot d.legs.items };
-}
-
-/// The key that a command names.
-fn key_of_command(command: &NodeCommand) -> &Key
-    ensures { result.now ≡ key_of command.now }
-{
-    match command {
-        NodeCommand::Get(key) | NodeCommand::Set { key, .. } | NodeCommand::Delete(key) => key,
-    }
 }
 
 /// The index, in that side's pool, of the node that keeps a key.
@@ -91,7 +82,7 @@ impl Draft {
                 place: self.legs.len() as u32,
             },
             side,
-            node: node_of(routing, side, key_of_command(&command)),
+            node: node_of(routing, side, command.key()),
             command,
         };
         let leg = Leg::of(sheet.copy()?);

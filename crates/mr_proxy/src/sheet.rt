@@ -29,36 +29,6 @@ pub struct LegSheet {
     pub command: NodeCommand,
 }
 
-/// Whether both commands are equal.
-fn same_command(command: &NodeCommand, other: &NodeCommand) -> bool
-    ensures { IsTrue result ↔ (command.now ≡ other.now) }
-{
-    match (command, other) {
-        (NodeCommand::Get(key), NodeCommand::Get(other_key))
-        | (NodeCommand::Delete(key), NodeCommand::Delete(other_key)) => key.same_as(other_key),
-        (
-            NodeCommand::Set {
-                key,
-                flags,
-                exptime,
-                block,
-            },
-            NodeCommand::Set {
-                key: other_key,
-                flags: other_flags,
-                exptime: other_exptime,
-                block: other_block,
-            },
-        ) => {
-            key.same_as(other_key)
-                && flags == other_flags
-                && exptime == other_exptime
-                && block.same_as(other_block)
-        }
-        _ => false,
-    }
-}
-
 impl LegSheet {
     /// Whether the other sheet is equal. It takes no memory.
     pub fn same_as(&self, other: &LegSheet) -> bool
@@ -67,7 +37,7 @@ impl LegSheet {
         self.id == other.id
             && self.side == other.side
             && self.node == other.node
-            && same_command(&self.command, &other.command)
+            && self.command.same_as(&other.command)
     }
 
     /// An equal sheet.
