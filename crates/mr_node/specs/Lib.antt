@@ -1,3 +1,4 @@
+pub mod Command
 pub mod NodeError
 pub mod Expiry
 pub mod Items

@@ -1,4 +1,5 @@
-ghost use Rattle.std.specs.Prelude.{◌≡◌, IfOk};
+ghost use Rattle.std.specs.Prelude.{◌≡◌, ◌↔◌, IsTrue, IfOk};
+ghost use Rattle.mr_node.specs.Command.{key_of};
 
 use mr_text::{Block, Key};
 use std::alloc::AllocError;
@@ -25,6 +26,45 @@ pub enum NodeCommand {
 }
 
 impl NodeCommand {
+    /// The key that the command names.
+    pub fn key(&self) -> &Key
+        ensures { result.now ≡ key_of self.now }
+    {
+        match self {
+            NodeCommand::Get(key) | NodeCommand::Set { key, .. } | NodeCommand::Delete(key) => key,
+        }
+    }
+
+    /// Whether the other command is equal. It takes no memory.
+    pub fn same_as(&self, other: &NodeCommand) -> bool
+        ensures { IsTrue result ↔ (self.now ≡ other.now) }
+    {
+        match (self, other) {
+            (NodeCommand::Get(key), NodeCommand::Get(other_key))
+            | (NodeCommand::Delete(key), NodeCommand::Delete(other_key)) => key.same_as(other_key),
+            (
+                NodeCommand::Set {
+                    key,
+                    flags,
+                    exptime,
+                    block,
+                },
+                NodeCommand::Set {
+                    key: other_key,
+                    flags: other_flags,
+                    exptime: other_exptime,
+                    block: other_block,
+                },
+            ) => {
+                key.same_as(other_key)
+                    && flags == other_flags
+                    && exptime == other_exptime
+                    && block.same_as(other_block)
+            }
+            _ => false,
+        }
+    }
+
     /// An equal command.
     pub fn copy(&self) -> Result<NodeCommand, AllocError>
         ensures { IfOk result (λ command. command ≡ self.now) }

@@ -9,7 +9,7 @@ use Rattle.mr_pools.specs.Routing.{RoutingView}
 use Rattle.mr_node.specs.declared.command.NodeCommand.{NodeCommand}
 use Rattle.mr_node.specs.declared.command.NodeCommand.TheVariants.{Get}
 use Rattle.mr_proxy.specs.declared.sheet.LegSheet.{LegSheet}
-use Rattle.mr_proxy.specs.Issue.{Target, targets_of, sheet_at, sheets_from}
+use Rattle.mr_proxy.specs.Sheets.{Target, targets_of, sheet_at, sheets_from}
 
 pub length-sheets_from : (routing : RoutingView) (op : OpId) (place : ℕ) (targets : List Target) → length (sheets_from routing op place targets) ≡ length targets
 length-sheets_from routing op place [] = refl

@@ -7,13 +7,12 @@ use Rattle.mr_history.specs.declared.op_id.OpId.{OpId}
 use Rattle.mr_phases.specs.declared.side.Side.{Side}
 use Rattle.mr_phases.specs.Schedule.{Hop, phase_of, hop_of}
 use Rattle.mr_phases.specs.Sides.{sides_at, read_side_of, delete_sides_of}
-use Rattle.mr_phases.specs.Pools.{read_pool, delete_pools, pool_number as phase_pool}
+use Rattle.mr_phases.specs.Pools.{read_pool, delete_pools, pool_number}
 use Rattle.mr_pools.specs.Routing.{RoutingView}
 use Rattle.mr_node.specs.declared.command.NodeCommand.{NodeCommand}
 use Rattle.mr_node.specs.declared.command.NodeCommand.TheVariants.{Get, Set, Delete}
 use Rattle.mr_proxy.specs.declared.sheet.LegSheet.{LegSheet}
-use Rattle.mr_proxy.specs.Issue.{Target, targets_of, sheet_at, sheets_from, sheets_by, kind_of, commands_of, pool_number}
-use Rattle.mr_proxy.specs.Sheets.{pool_at, IsSheetOf, GoesBy, DeletesIn, AsksFor}
+use Rattle.mr_proxy.specs.Sheets.{pool_at, Target, targets_of, sheet_at, sheets_from, sheets_by, kind_of, commands_of, IsSheetOf, GoesBy, DeletesIn, AsksFor}
 
 -- a place in a list
 pub record Has {X : Type 0} (list : List X) (x : X) : Type 0 where
@@ -118,8 +117,8 @@ sheets_say_lem routing hops op u q place sheet e =
     subst (IsSheetOf routing hops op u q place) (sym (h.is ∙ ap (λ n. sheet_at routing op n h.target) zero_first))
     (record { named = refl; node = refl; side = contains sides h.target.side t.side; command = contains (commands_of q) h.target.command t.command })
 
--- with one hop the pool of a side is its number
-first_hop : (hops : List Hop) (u : ℕ) (side : Side) → length hops ≡ 1 → phase_pool (hop_of hops u) side ≡ pool_number side
+-- with one hop the pools are those of the hop 0
+first_hop : (hops : List Hop) (u : ℕ) (side : Side) → length hops ≡ 1 → pool_number (hop_of hops u) side ≡ pool_number 0 side
 first_hop [] u side one = cc
 first_hop (h ∷ []) u side one = refl
 first_hop (h ∷ g ∷ gs) u side one = absurd (omega arith)
@@ -135,21 +134,21 @@ mapped_in : {X Y : Type 0} (f : X → Y) (xs : List X) (x : X) → Contains xs x
 mapped_in f xs x h = let there = has xs x h in contains (map f xs) (f x) (record { place = there.place; there = get_map f xs there.place x there.there })
 
 read_side_goes : (hops : List Hop) (u : ℕ) (side : Side) → length hops ≡ 1 → Contains (read_side_of (phase_of hops u) ∷ []) side
-    → pool_number side ≡ read_pool hops u
-read_side_goes hops u side one s = sym (first_hop hops u side one) ∙ ap (phase_pool (hop_of hops u)) (only (read_side_of (phase_of hops u)) side s)
+    → pool_number 0 side ≡ read_pool hops u
+read_side_goes hops u side one s = sym (first_hop hops u side one) ∙ ap (pool_number (hop_of hops u)) (only (read_side_of (phase_of hops u)) side s)
 
 goes : (hops : List Hop) (u : ℕ) (q : Request) (side : Side) (command : NodeCommand) → length hops ≡ 1
-    → Contains (sides_at hops (kind_of q) u) side → Contains (commands_of q) command → GoesBy hops u (pool_number side) command
+    → Contains (sides_at hops (kind_of q) u) side → Contains (commands_of q) command → GoesBy hops u (pool_number 0 side) command
 goes hops u (request.Get keys) side command one s c =
     let h = has (map Get keys) command c in
     let m = mapped Get keys h.place command h.there in
-    subst (GoesBy hops u (pool_number side)) (sym m.is) (read_side_goes hops u side one s)
+    subst (GoesBy hops u (pool_number 0 side)) (sym m.is) (read_side_goes hops u side one s)
 goes hops u (request.Set key flags exptime block noreply) side command one s c =
-    subst (GoesBy hops u (pool_number side)) (sym (only (Set key flags exptime block) command c)) (read_side_goes hops u side one s)
+    subst (GoesBy hops u (pool_number 0 side)) (sym (only (Set key flags exptime block) command c)) (read_side_goes hops u side one s)
 goes hops u (request.Delete key noreply) side command one s c =
-    subst (GoesBy hops u (pool_number side)) (sym (only (Delete key) command c))
+    subst (GoesBy hops u (pool_number 0 side)) (sym (only (Delete key) command c))
     (subst (Contains (delete_pools hops u)) (first_hop hops u side one)
-    (mapped_in (phase_pool (hop_of hops u)) (delete_sides_of (phase_of hops u)) side s))
+    (mapped_in (pool_number (hop_of hops u)) (delete_sides_of (phase_of hops u)) side s))
 goes hops u request.Quit side command one s c = let below = c.1 in absurd (omega arith)
 
 pub pools_by_reading_lem : (routing : RoutingView) (hops : List Hop) (op : OpId) (u : ℕ) (q : Request) (place : ℕ) (sheet : LegSheet)
@@ -163,7 +162,7 @@ pub delete_goes_lem : (routing : RoutingView) (hops : List Hop) (op : OpId) (u :
 delete_goes_lem routing hops op u key noreply pool one c =
     let sides = delete_sides_of (phase_of hops u) in
     let h = has (delete_pools hops u) pool c in
-    let m = mapped (phase_pool (hop_of hops u)) sides h.place pool h.there in
+    let m = mapped (pool_number (hop_of hops u)) sides h.place pool h.there in
     let to : Side → Target = λ side. record { side = side; command = Delete key } in
     let target = get_left (map to sides) [] h.place (to m.from) (get_map to sides h.place m.from m.there) in
     record {

@@ -20,10 +20,12 @@ use Rattle.mr_phases.specs.declared.phase_name.PhaseName.{PhaseName}
 use Rattle.mr_phases.specs.declared.phase_name.PhaseName.TheVariants.{OldOnly, BothReadOld, BothReadNew, NewOnly}
 use Rattle.mr_phases.specs.Schedule.{Hop, IsSchedule, phase_of}
 use Rattle.mr_phases.specs.Sides.{delete_sides_of}
+use Rattle.mr_phases.specs.Pools.{pool_number}
 use Rattle.mr_phases.specs.declared.side.Side.{Side}
 use Rattle.mr_phases.specs.declared.side.Side.TheVariants.{Old, New}
 use Rattle.mr_pools.specs.Routing.{RoutingView, IsRouting, pool_of}
 use Rattle.mr_pools.specs.Hash.{spot_by}
+use Rattle.mr_node.specs.Command.{key_of}
 use Rattle.mr_node.specs.declared.command.NodeCommand.{NodeCommand}
 use Rattle.mr_node.specs.declared.command.NodeCommand.TheVariants.{Get, Set, Delete}
 use Rattle.mr_proxy.specs.declared.sheet.LegId.{LegId}
@@ -34,11 +36,11 @@ use Rattle.mr_proxy.specs.Slots.{open_slot, is_open, outcome_of, is_of_kind, is_
 use Rattle.mr_proxy.specs.Pending.{PendingView, is_complete, with_reply, with_reply_in}
 use Rattle.mr_proxy.specs.Answer.{AnswerView, answer_of, reply_of}
 use Rattle.mr_proxy.specs.ProxyView.{ProxyView, fresh_proxy}
-use Rattle.mr_proxy.specs.Issue.{key_of, pool_number, next_op, used_reading, sheets_by, sheets_of, sheets_from, targets_of, pending_of, after_issue}
+use Rattle.mr_proxy.specs.Issue.{next_op, used_reading, sheets_of, pending_of, after_issue}
 use Rattle.mr_proxy.specs.Steps.{place_of_op, pending_with, settled, taken_by, taken_of, left_by, given_up_in, given_up_of}
-use Rattle.mr_proxy.specs.Sheets.{pool_at}
+use Rattle.mr_proxy.specs.Sheets.{pool_at, IsPlaced, sheets_by, sheets_from, targets_of}
 use Rattle.mr_proxy.specs.Whole.{IsCommandAt, IsLegAt, IsOfItsKind, IsWhole}
-use Rattle.mr_proxy.specs.Sound.{HasLegs, ProxyStep, sheet_of, IsSoundPending, IsSoundAnswer, IsPlaced, IsSound, HasFound, WasDeleted}
+use Rattle.mr_proxy.specs.Sound.{HasLegs, ProxyStep, sheet_of, IsSoundPending, IsSoundAnswer, IsSound, HasFound, WasDeleted}
 use Rattle.mr_proxy.specs.Sound.ProxyStep.{issues, takes, gives_up, restarts}
 use Rattle.mr_proxy.proofs.SheetLemmas.{get_map, mapped, only, sheets_say_lem, gets_ask_in_order_lem}
 
@@ -410,9 +412,9 @@ opened_some (sheet ∷ sheets) e = omega arith
 pub issued_some : (p : ProxyView) (t : ℕ) (q : Request) → HasLegs q → 1 ≤ length (sheets_of p t q)
 issued_some p t q legs = opened_some (sheets_of p t q) (issued_waits p t q legs)
 
-pool_within : (routing : RoutingView) (side : Side) → IsRouting routing → 0 < length (pool_of routing (pool_number side))
-pool_within routing Old r = let pairs = r.migrates in let sized = r.sized 0 (omega arith) in let some = sized.not_empty in omega arith
-pool_within routing New r = let pairs = r.migrates in let sized = r.sized 1 (omega arith) in let some = sized.not_empty in omega arith
+pool_there : (routing : RoutingView) (side : Side) → IsRouting routing → pool_number 0 side < length routing.pools
+pool_there routing Old r = let pairs = r.migrates in omega arith
+pool_there routing New r = let pairs = r.migrates in omega arith
 
 -- each node of a request's sheets is one of its pool
 pub nodes_within : (routing : RoutingView) (hops : List Hop) (op : OpId) (u : ℕ) (q : Request) → IsRouting routing
@@ -422,6 +424,8 @@ nodes_within routing hops op u q r k d below =
     let sheet = get_or sheets k d in
     let says = sheets_say_lem routing hops op u q k sheet (slice_get-get_or sheets k d below) in
     let node = says.node in
-    let some = pool_within routing sheet.side r in
-    let least = mod_below (spot_by routing.hash (key_of sheet.command)) (length (pool_of routing (pool_at sheet))) some in
-    omega arith
+    let there = pool_there routing sheet.side r in
+    let sized = r.sized (pool_at sheet) there in
+    let some = sized.not_empty in
+    let least = mod_below (spot_by routing.hash (key_of sheet.command)) (length (pool_of routing (pool_at sheet))) (omega arith) in
+    record { pool = there; within = omega arith }

@@ -19,7 +19,8 @@ use Rattle.mr_proxy.specs.Answer.{AnswerView, answer_of}
 use Rattle.mr_proxy.specs.ProxyView.{ProxyView}
 use Rattle.mr_proxy.specs.Issue.{next_op, used_reading, sheets_of, after_issue}
 use Rattle.mr_proxy.specs.Steps.{place_of_op, noted_by, settled, after_take, taken_by, taken_of, left_by, after_give_up, given_up_in, given_up_of}
-use Rattle.mr_proxy.specs.Sound.{HasLegs, IsPlaced, IsSound, IsSoundAnswer}
+use Rattle.mr_proxy.specs.Sheets.{IsPlaced}
+use Rattle.mr_proxy.specs.Sound.{HasLegs, IsSound, IsSoundAnswer}
 use Rattle.mr_proxy.specs.Sound.ProxyStep.{takes}
 use Rattle.mr_proxy.proofs.StepLemmas.{noted_at, remove_written, settled_complete}
 use Rattle.mr_proxy.proofs.OpenLemmas.{all_open}

@@ -6,7 +6,7 @@ pub mod Room
 pub mod Answer
 pub mod Whole
 pub mod ProxyView
+pub mod Sheets
 pub mod Issue
 pub mod Steps
-pub mod Sheets
 pub mod Sound

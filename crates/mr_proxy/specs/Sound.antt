@@ -7,7 +7,7 @@ use Rattle.mr_history.specs.declared.op_id.OpId.{OpId}
 use Rattle.mr_join.specs.declared.leg_reply.LegReply.{LegReply}
 use Rattle.mr_join.specs.declared.leg_reply.LegReply.TheVariants.{Hit, Deleted, NotFound}
 use Rattle.mr_phases.specs.Schedule.{IsSchedule}
-use Rattle.mr_pools.specs.Routing.{RoutingView, IsRouting, pool_of}
+use Rattle.mr_pools.specs.Routing.{IsRouting}
 use Rattle.mr_node.specs.declared.command.NodeCommand.TheVariants as command
 use Rattle.mr_proxy.specs.declared.sheet.LegId.{LegId}
 use Rattle.mr_proxy.specs.declared.sheet.LegSheet.{LegSheet}
@@ -15,9 +15,9 @@ use Rattle.mr_proxy.specs.declared.slot.Slot.{Slot}
 use Rattle.mr_proxy.specs.Pending.{PendingView, is_complete}
 use Rattle.mr_proxy.specs.Answer.{AnswerView}
 use Rattle.mr_proxy.specs.Whole.{IsOfItsKind, IsWhole}
-use Rattle.mr_proxy.specs.Sheets.{pool_at}
+use Rattle.mr_proxy.specs.Sheets.{sheets_by}
 use Rattle.mr_proxy.specs.ProxyView.{ProxyView}
-use Rattle.mr_proxy.specs.Issue.{sheets_by, refusal_of, after_issue}
+use Rattle.mr_proxy.specs.Issue.{refusal_of, after_issue}
 use Rattle.mr_proxy.specs.Steps.{after_take, after_give_up, after_restart}
 
 -- a request that has at least one leg: no Quit, and no get without a key
@@ -62,10 +62,6 @@ pub record IsSoundAnswer (p : ProxyView) (answer : AnswerView) : Type 0 where
   pub number : answer.op.number < p.next
   pub sheets : map sheet_of answer.slots ≡ sheets_by p.routing p.schedule answer.op answer.reading answer.request
   pub whole : IsWhole answer
-
--- the node of a sheet is one of its pool
-abbrev pub IsPlaced : RoutingView → LegSheet → Type 0
-IsPlaced routing sheet = sheet.node < length (pool_of routing (pool_at sheet))
 
 -- the op was given out: by an earlier incarnation, or by this one
 pub record WasGivenOut (p : ProxyView) (op : OpId) : Type 0 where

@@ -1,12 +1,10 @@
 //! The legs of a request, made before the proxy changes.
 ghost use Rattle.std.specs.Prelude.{◌≡◌, ◌≢◌, ◌+◌, ◌<◌, ◌^◌, [], ◌∷◌, ◌++◌, length, map, IfOk, OnOk};
-ghost use Rattle.mr_phases.specs.declared.side.Side.{Side};
 ghost use Rattle.mr_phases.specs.Sides.{sides_in};
-ghost use Rattle.mr_pools.specs.Routing.{pool_of, place_of};
 ghost use Rattle.mr_node.specs.declared.command.NodeCommand.TheVariants.{Get, Delete};
 ghost use Rattle.mr_proxy.specs.Slots.{open_slot};
 ghost use Rattle.mr_proxy.specs.Sound.{HasLegs};
-ghost use Rattle.mr_proxy.specs.Issue.{key_of, pool_number, sheet_at, sheets_from, sheets_by, targets_of};
+ghost use Rattle.mr_proxy.specs.Sheets.{sheet_at, sheets_from, sheets_by, targets_of};
 
 use crate::leg::Leg;
 use crate::sheet::{LegId, LegSheet};
@@ -39,27 +37,6 @@ impl Model for Draft {
     ghost invariant = { λ d. d.slots.items ≡ map open_slot d.legs.items };
 }
 
-/// The key that a command names.
-fn key_of_command(command: &NodeCommand) -> &Key
-    ensures { result.now ≡ key_of command.now }
-{
-    match command {
-        NodeCommand::Get(key) | NodeCommand::Set { key, .. } | NodeCommand::Delete(key) => key,
-    }
-}
-
-/// The index, in that side's pool, of the node that keeps a key.
-fn node_of(routing: &Routing, side: Side, key: &Key) -> u32
-    ensures { result ≡ place_of routing.now.hash (pool_of routing.now (pool_number side)) key.now }
-{
-    let pool = match side {
-        Side::Old => routing.old_pool(),
-        Side::New => routing.new_pool(),
-    };
-    let _at_most_1024 = pool.len();
-    pool.pick(&routing.hash(), key) as u32
-}
-
 impl Draft {
     /// No legs yet, and room for so many.
     fn new(alloc: Global, legs: usize) -> Result<Draft, AllocError>
@@ -85,15 +62,8 @@ impl Draft {
     {
         self.legs.reserve(1)?;
         self.slots.reserve(1)?;
-        let sheet = LegSheet {
-            id: LegId {
-                op,
-                place: self.legs.len() as u32,
-            },
-            side,
-            node: node_of(routing, side, key_of_command(&command)),
-            command,
-        };
+        let place = self.legs.len() as u32;
+        let sheet = LegSheet::placed(routing, LegId { op, place }, side, command);
         let leg = Leg::of(sheet.copy()?);
         self.legs.push_reserved(leg);
         self.slots.push_reserved(Slot::open(sheet));

@@ -24,6 +24,3 @@ pub use proxy_core::ProxyCore;
 pub use sheet::{LegBack, LegId, LegSheet};
 pub use slot::{Slot, is_of_kind};
 pub use taken::Taken;
-
-#[cfg(test)]
-mod tests;

@@ -94,7 +94,8 @@ impl ProxyCore {
     ghost use Rattle.mr_proxy.specs.Issue.{next_op, used_reading, sheets_of, refusal_of, IsRefusal, after_issue};
     ghost use Rattle.mr_proxy.specs.Steps.{open_sheet, open_legs_of, taken_of, after_take, given_up_of, after_give_up, after_restart};
     ghost use Rattle.mr_proxy.specs.Answer.{AnswerView};
-    ghost use Rattle.mr_proxy.specs.Sound.{IsSound, IsSoundAnswer, IsPlaced};
+    ghost use Rattle.mr_proxy.specs.Sheets.{IsPlaced};
+    ghost use Rattle.mr_proxy.specs.Sound.{IsSound, IsSoundAnswer};
 
     /// A proxy that accepted no request yet. It takes no memory before the first one.
     pub fn new(

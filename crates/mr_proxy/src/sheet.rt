@@ -1,11 +1,15 @@
 //! What is sent to a node for one leg of a request, and what comes back.
-ghost use Rattle.std.specs.Prelude.{◌≡◌, ◌↔◌, IsTrue, IfOk};
+ghost use Rattle.std.specs.Prelude.{◌≡◌, ◌↔◌, IsTrue, IfOk, MatchOption};
 
 use mr_history::OpId;
 use mr_join::LegReply;
 use mr_node::NodeCommand;
 use mr_phases::Side;
+use mr_pools::{NodeName, Routing};
 use std::alloc::AllocError;
+
+/// The hop of each leg: a migration has one.
+const HOP: u32 = 0;
 
 /// The name of a leg.
 #[derive(Clone, Copy, Debug, PartialEq, Eq)]
@@ -29,37 +33,41 @@ pub struct LegSheet {
     pub command: NodeCommand,
 }
 
-/// Whether both commands are equal.
-fn same_command(command: &NodeCommand, other: &NodeCommand) -> bool
-    ensures { IsTrue result ↔ (command.now ≡ other.now) }
-{
-    match (command, other) {
-        (NodeCommand::Get(key), NodeCommand::Get(other_key))
-        | (NodeCommand::Delete(key), NodeCommand::Delete(other_key)) => key.same_as(other_key),
-        (
-            NodeCommand::Set {
-                key,
-                flags,
-                exptime,
-                block,
-            },
-            NodeCommand::Set {
-                key: other_key,
-                flags: other_flags,
-                exptime: other_exptime,
-                block: other_block,
-            },
-        ) => {
-            key.same_as(other_key)
-                && flags == other_flags
-                && exptime == other_exptime
-                && block.same_as(other_block)
-        }
-        _ => false,
-    }
-}
-
 impl LegSheet {
+    ghost use Rattle.mr_proxy.specs.Sheets.{pool_at, placed, node_name, IsPlaced};
+
+    /// The sheet of a leg to the node, in that side's pool, that keeps the command's key.
+    pub(crate) fn placed(routing: &Routing, id: LegId, side: Side, command: NodeCommand) -> LegSheet
+        ensures { result ≡ placed routing.now (record { id = id; side = side; node = 0; command = command }) }
+    {
+        let hash = routing.hash();
+        let pool = routing.pool(side.pool_number(HOP));
+        let node = pool.pick(&hash, command.key()) as u32;
+        LegSheet {
+            id,
+            side,
+            node,
+            command,
+        }
+    }
+
+    /// The number of the pool that has the node: 0 is the old one.
+    pub fn pool_number(&self) -> usize
+        ensures { result ≡ pool_at self.now }
+    {
+        self.side.pool_number(HOP)
+    }
+
+    /// The name of the node; None where the routing has no such node.
+    pub fn node_name<'a>(&self, routing: &'a Routing) -> Option<&'a NodeName>
+        ensures { MatchOption result
+            (¬ IsPlaced routing.now self.now)
+            (λ name. IsPlaced routing.now self.now × (name.now ≡ node_name routing.now self.now)) }
+    {
+        let pool = routing.pools().get(self.pool_number())?;
+        pool.names().get(self.node as usize)
+    }
+
     /// Whether the other sheet is equal. It takes no memory.
     pub fn same_as(&self, other: &LegSheet) -> bool
         ensures { IsTrue result ↔ (self.now ≡ other.now) }
@@ -67,7 +75,7 @@ impl LegSheet {
         self.id == other.id
             && self.side == other.side
             && self.node == other.node
-            && same_command(&self.command, &other.command)
+            && self.command.same_as(&other.command)
     }
 
     /// An equal sheet.

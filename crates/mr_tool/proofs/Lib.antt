@@ -1,4 +1,3 @@
-pub mod LegLemmas
 pub mod NameLemmas
 pub mod PlainWords
 pub mod ReadLemmas

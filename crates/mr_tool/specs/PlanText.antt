@@ -1,35 +1,23 @@
 -- What a plan prints.
-use Rattle.std.specs.Prelude.{◌≡◌, ℕ, ◌<◌, List, [], ◌∷◌, ◌++◌, length, codes, decimal, slice_index_or, Result, Ok, Err}
-use Rattle.mr_pools.specs.Routing.{RoutingView, pool_of}
+use Rattle.std.specs.Prelude.{◌≡◌, ℕ, List, [], ◌∷◌, ◌++◌, codes, decimal, Result, Ok, Err}
+use Rattle.mr_pools.specs.Routing.{RoutingView}
 use Rattle.mr_phases.specs.declared.phase_name.PhaseName.{PhaseName}
 use Rattle.mr_phases.specs.PhaseText.{phase_text}
 use Rattle.mr_phases.specs.SideText.{side_text}
-use Rattle.mr_phases.specs.declared.side.Side.{Side}
 use Rattle.mr_phases.specs.Schedule.{Hop, phase_of}
 use Rattle.mr_text.specs.Sink.{SinkView, IsOneWrite}
 use Rattle.mr_text.specs.declared.error.WriteFault.{WriteFault}
 use Rattle.mr_text.specs.declared.request.Request.{Request}
 use Rattle.mr_proxy.specs.declared.sheet.LegSheet.{LegSheet}
 use Rattle.mr_proxy.specs.ProxyView.{ProxyView, fresh_proxy}
-use Rattle.mr_proxy.specs.Issue.{pool_number, sheets_of}
+use Rattle.mr_proxy.specs.Sheets.{node_name}
+use Rattle.mr_proxy.specs.Issue.{sheets_of}
 use Rattle.mr_tool.specs.declared.plan.PlanError.{PlanError}
 use Rattle.mr_tool.specs.declared.plan.PlanError.TheVariants.{Memory, Write}
 
 -- the line of the phase, at a reading
 abbrev pub phase_line : PhaseName → ℕ → List ℕ
 phase_line phase at = codes "phase " ++ (phase_text phase ++ (codes " at " ++ (decimal at ++ codes "\n")))
-
--- the pool of a side
-abbrev pub side_pool : RoutingView → Side → List (List ℕ)
-side_pool routing side = pool_of routing (pool_number side)
-
--- the node of the sheet is one of its side's pool
-abbrev pub IsSheetWithin : RoutingView → LegSheet → Type 0
-IsSheetWithin routing sheet = sheet.node < length (side_pool routing sheet.side)
-
--- the name of the node that a leg goes to
-abbrev pub node_name : RoutingView → LegSheet → List ℕ
-node_name routing sheet = slice_index_or (side_pool routing sheet.side) sheet.node []
 
 -- the line of a leg: its place, its side and its node
 abbrev pub leg_line : RoutingView → LegSheet → List ℕ

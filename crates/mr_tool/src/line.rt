@@ -1,11 +1,12 @@
 //! The lines of a plan.
 ghost use Rattle.std.specs.Prelude.{◌≡◌, ◌++◌, OnOk, decimal};
 ghost use Rattle.mr_phases.specs.Judged.{name_of, reading_of};
-ghost use Rattle.mr_tool.specs.PlanText.{phase_line, side_pool, IsSheetWithin, node_name, leg_line};
+ghost use Rattle.mr_proxy.specs.Sheets.{IsPlaced};
+ghost use Rattle.mr_tool.specs.PlanText.{phase_line, leg_line};
 
 use itoa::Buffer;
-use mr_phases::{Judged, Side};
-use mr_pools::{NodeName, Pool, Routing};
+use mr_phases::Judged;
+use mr_pools::Routing;
 use mr_proxy::LegSheet;
 use std::alloc::AllocError;
 
@@ -30,39 +31,24 @@ pub fn push_phase_line(text: &mut Vec<u8>, judged: &Judged) -> Result<(), AllocE
     Ok(())
 }
 
-/// The pool of a side.
-fn pool_of_side(routing: &Routing, side: Side) -> &Pool
-    ensures { result.now ≡ side_pool routing.now side }
-{
-    match side {
-        Side::Old => routing.old_pool(),
-        Side::New => routing.new_pool(),
-    }
-}
-
-/// The name of the node that a leg goes to.
-fn name_of_node<'a>(routing: &'a Routing, sheet: &LegSheet) -> &'a NodeName
-    requires { IsSheetWithin routing.now sheet.now }
-    ensures { result.now ≡ node_name routing.now sheet.now }
-{
-    pool_of_side(routing, sheet.side).name(sheet.node as usize)
-}
-
-/// Adds the line of a leg.
+/// Adds the line of a leg, whose node the routing has.
 pub fn push_leg_line(
     text: &mut Vec<u8>,
     routing: &Routing,
     sheet: &LegSheet,
 ) -> Result<(), AllocError>
-    requires { IsSheetWithin routing.now sheet.now }
+    requires { IsPlaced routing.now sheet.now }
     ensures { OnOk result (text.new.items ≡ text.old.items ++ leg_line routing.now sheet.now) }
 {
+    let Some(name) = sheet.node_name(routing) else {
+        unreachable!()
+    };
     text.extend_from_slice(b"leg ")?;
     push_number(text, u64::from(sheet.id.place))?;
     text.extend_from_slice(b" ")?;
     text.extend_from_slice(sheet.side.as_str().as_bytes())?;
     text.extend_from_slice(b" ")?;
-    text.extend_from_slice(name_of_node(routing, sheet).as_bytes())?;
+    text.extend_from_slice(name.as_bytes())?;
     text.extend_from_slice(b"\n")?;
     Ok(())
 }

@@ -1,7 +1,8 @@
 //! The plan of one request.
 ghost use Rattle.std.specs.Prelude.{◌≡◌, ◌++◌, IfOk, OnOk, IsErrOf};
 ghost use Rattle.std.specs.List.{All};
-ghost use Rattle.mr_tool.specs.PlanText.{IsSheetWithin, leg_lines, plan_text, WritesAtOnce};
+ghost use Rattle.mr_proxy.specs.Sheets.{IsPlaced};
+ghost use Rattle.mr_tool.specs.PlanText.{leg_lines, plan_text, WritesAtOnce};
 
 use crate::line::{push_leg_line, push_phase_line};
 use mr_phases::{Schedule, judge};
@@ -35,7 +36,7 @@ impl From<AllocError> for PlanError {
 
 /// Adds the lines of the legs, in order.
 fn push_leg_lines(text: &mut Vec<u8>, routing: &Routing, legs: &[Leg]) -> Result<(), AllocError>
-    requires { All (IsSheetWithin routing.now) legs.now }
+    requires { All (IsPlaced routing.now) legs.now }
     ensures { OnOk result (text.new.items ≡ text.old.items ++ leg_lines routing.now legs.now) }
 {
     for leg in legs {
@@ -54,7 +55,6 @@ fn text_of_plan(
 ) -> Result<Vec<u8>, AllocError>
     ensures { IfOk result (λ text. text.items ≡ plan_text routing schedule at request) }
 {
-    let _ = routing.hash(); // each pool of the routing has a node
     let mut text = Vec::new(alloc);
     push_phase_line(&mut text, &judge(schedule, at))?;
     if let Request::Quit = request {

@@ -1,7 +1,7 @@
 use Rattle.std.proofs.Common.{◌∷◌, [], ◌++◌, length, get_or, ap, ◌∙◌, arith}
 use Rattle.mr_phases.specs.declared.side.Side.TheVariants.{Old}
 use Rattle.mr_node.specs.declared.command.NodeCommand.TheVariants.{Delete}
-use Rattle.mr_proxy.specs.Issue.{sheet_at}
+use Rattle.mr_proxy.specs.Sheets.{sheet_at}
 use Rattle.mr_proxy.proofs.DraftLemmas.{delete_added}
 use Rattle.mr_proxy.proofs.draft.Draft.add_deletes.Goals as goal
 

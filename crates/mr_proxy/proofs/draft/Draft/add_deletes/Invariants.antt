@@ -1,6 +1,6 @@
 use Rattle.std.proofs.Common.{◌≡◌, ◌∷◌, [], ◌++◌, length, take}
 use Rattle.mr_node.specs.declared.command.NodeCommand.TheVariants.{Delete}
-use Rattle.mr_proxy.specs.Issue.{sheets_from, targets_of}
+use Rattle.mr_proxy.specs.Sheets.{sheets_from, targets_of}
 use Rattle.mr_proxy.proofs.draft.Draft.add_deletes.Given as goal
 
 -- the sides so far have their legs

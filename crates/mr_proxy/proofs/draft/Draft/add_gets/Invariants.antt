@@ -1,6 +1,6 @@
 use Rattle.std.proofs.Common.{◌≡◌, ◌∷◌, [], ◌++◌, length, map, take}
 use Rattle.mr_node.specs.declared.command.NodeCommand.TheVariants.{Get}
-use Rattle.mr_proxy.specs.Issue.{sheets_from, targets_of}
+use Rattle.mr_proxy.specs.Sheets.{sheets_from, targets_of}
 use Rattle.mr_proxy.proofs.draft.Draft.add_gets.Given as goal
 
 -- the keys so far have their legs
