@@ -1,11 +1,12 @@
 -- What one step of a service does.
-use Rattle.std.proofs.Common.{◌≡◌, ◌≢◌, ◌∙◌, ℕ, ◌≤◌, List, [], ◌∷◌, ◌++◌, length, Bool, true, false, cond, Some, Result, Ok, Err, refl, sym, ap, subst, inl, inr, arith, length-append}
+use Rattle.std.proofs.Common.{◌≡◌, ◌≢◌, ◌∙◌, ℕ, ◌≤◌, List, [], ◌∷◌, ◌++◌, length, Bool, true, false, cond, Option, Some, None, Result, Ok, Err, refl, sym, ap, subst, inl, inr, arith, length-append}
 use Rattle.mr_text.specs.Text.{IsLine}
 use Rattle.mr_text.specs.Requests.{SpellsRequest, RefusesRequest, SkipsLine, is_quit, block_end}
 use Rattle.mr_text.specs.Stream.{ReaderView, BeginsWith, Becomes, NextIs, FaultAt, skips_line}
 use Rattle.mr_text.specs.TextError.{number_of_refusal}
 use Rattle.mr_text.specs.declared.error.TextError.{TextError}
 use Rattle.mr_text.specs.declared.error.TextError.TheVariants.{LineTooLong, BadKey, BadNumber, WrongWords, DataTooLong, BadDataEnd, UnknownCommand, Truncated, Closed, OutOfMemory}
+use Rattle.mr_text.specs.declared.reply.Reply.{Reply}
 use Rattle.mr_text.specs.declared.request.Request.{Request}
 use Rattle.mr_text.specs.declared.request.Request.TheVariants.{Get, Set, Delete, Quit}
 use Rattle.mr_node.specs.declared.ended.Ended.{Ended}
@@ -14,8 +15,8 @@ use Rattle.mr_node.specs.declared.session.SessionFault.{SessionFault}
 use Rattle.mr_node.specs.declared.session.Step.{Step}
 use Rattle.mr_node.specs.declared.session.Step.TheVariants.{Served, Waits, Ends}
 use Rattle.mr_text.specs.Sink.{SinkView}
-use Rattle.mr_node.specs.Output.{IsServed}
-use Rattle.mr_node.specs.Session.{Station, station, AnswersRefusal}
+use Rattle.mr_node.specs.Output.{IsServed, is_silent, answer_of}
+use Rattle.mr_node.specs.Session.{Station, station, Answers, AnswersRefusal}
 use Rattle.mr_node.specs.Output.Exchange.{Asked, Unknown}
 use Rattle.mr_node.specs.steps.Step.{RequestIs, StepIs, EndIs}
 use Rattle.mr_node.specs.Outcome.{Outcomes}
@@ -42,6 +43,12 @@ served_is_not_quit (Get keys) is = refl
 served_is_not_quit (Set key flags exptime block noreply) is = refl
 served_is_not_quit (Delete key noreply) is = refl
 served_is_not_quit Quit is = absurd is
+
+-- what is written is the answer of the exchange
+pub answers_exchange : (request : Request) (outcome : Reply) (silent : Bool) (answer : Option Reply) (old new : SinkView) → Answers answer old new
+    → answer ≡ cond silent None (Some outcome) → silent ≡ is_silent request → Answers (answer_of (Asked request outcome)) old new
+answers_exchange request outcome silent answer old new answers is quiet =
+    subst (λ (a : Option Reply). Answers a old new) (is ∙ ap (λ b. cond b None (Some outcome)) quiet) answers
 
 module _ {C P : Type 0} (Does : Outcomes C P) (rest : List ℕ) (old new : ReaderView) where
   -- a request that was read is served

@@ -35,8 +35,7 @@ IsAnswerOf (Hit flags block) reply = ⊥
 IsAnswerOf Miss reply = ⊥
 
 -- a set or a delete is performed, or lacks memory
-abbrev pub CommandOutcome : {P : Type 0} → Did P → (P → ℕ → NodeCommand → P → Type 0)
-    → P → ℕ → NodeCommand → Reply → P → Type 0
+abbrev pub CommandOutcome : {P : Type 0} → Did P → Refused P → P → ℕ → NodeCommand → Reply → P → Type 0
 CommandOutcome did refused old now command reply new =
     ((leg : LegReply) × did old now command leg new × IsAnswerOf leg reply) ⊎
     (refused old now command new × (reply ≡ ServerError OutOfMemory))
@@ -54,8 +53,7 @@ pub data Gets {P : Type 0} (did : Did P) (now : ℕ) (old : P) : List (List ℕ)
       → Gets did now old (keys ++ key ∷ []) (items ++ option_to_list found) new
 
 -- a get of one key failed with this cause, or lacked memory before it was performed or in it
-abbrev pub FailsToLookUp : {P : Type 0} → Did P → (P → ℕ → NodeCommand → P → Type 0)
-    → P → ℕ → List ℕ → Cause → P → Type 0
+abbrev pub FailsToLookUp : {P : Type 0} → Did P → Refused P → P → ℕ → List ℕ → Cause → P → Type 0
 FailsToLookUp did refused old now key cause new =
     did old now (GetOf key) (Failed cause) new ⊎
     ((cause ≡ OutOfMemory) × ((new ≡ old) ⊎ refused old now (GetOf key) new))
@@ -73,15 +71,13 @@ pub record StopsAtKey {P : Type 0} (did : Did P) (refused : Refused P)
   pub fails : FailsToLookUp did refused between now key cause new
 
 -- all items that were found, or the cause of the first failure; what the gets before it did stays
-abbrev pub GetOutcome : {P : Type 0} → Did P → (P → ℕ → NodeCommand → P → Type 0)
-    → P → ℕ → List (List ℕ) → Reply → P → Type 0
+abbrev pub GetOutcome : {P : Type 0} → Did P → Refused P → P → ℕ → List (List ℕ) → Reply → P → Type 0
 GetOutcome did refused old now keys reply new =
     ((items : List Item) × Gets did now old keys items new × (reply ≡ Items items)) ⊎
     ((cause : Cause) × StopsAtKey did refused old now keys cause new × (reply ≡ ServerError cause))
 
 -- the request at a reading of the clock
-abbrev pub OutcomeAt : {P : Type 0} → Did P → (P → ℕ → NodeCommand → P → Type 0)
-    → P → ℕ → Request → Reply → P → Type 0
+abbrev pub OutcomeAt : {P : Type 0} → Did P → Refused P → P → ℕ → Request → Reply → P → Type 0
 OutcomeAt did refused old now (Get keys) reply new = GetOutcome did refused old now keys reply new
 OutcomeAt did refused old now (Set key flags exptime block noreply) reply new =
     CommandOutcome did refused old now (SetOf key flags exptime block) reply new
@@ -90,8 +86,7 @@ OutcomeAt did refused old now Quit reply new = ⊥
 
 -- One reading of the clock is taken for the request, and what it gives is used for all its commands. Where the clock
 -- fails nothing is performed.
-abbrev pub Outcome : {C P : Type 0} → (C → Option ℕ → C → Type 0) → (C → ℕ)
-    → Did P → (P → ℕ → NodeCommand → P → Type 0)
+abbrev pub Outcome : {C P : Type 0} → (C → Option ℕ → C → Type 0) → (C → ℕ) → Did P → Refused P
     → C → P → Request → Reply → C → P → Type 0
 Outcome reads failures did refused clock old request reply clock' new =
     ((now : ℕ) × reads clock (Some now) clock' × OutcomeAt did refused old now request reply new) ⊎

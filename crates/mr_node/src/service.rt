@@ -93,6 +93,7 @@ fn serve_next<P: Perform, W: Sink, C: Clock>(
 }
 
 /// Serves a request and writes its answer, unless the client wants none. A quit ends the service.
+#[tactic(auto, using(crate::proofs::ServiceLemmas::served_unless_quit))]
 fn serve_request<P: Perform, W: Sink, C: Clock>(
     alloc: Global,
     node: &mut P,
