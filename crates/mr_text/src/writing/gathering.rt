@@ -78,8 +78,8 @@ impl FixedBuffer {
         Ok(())
     }
 
-    #[tactic(auto, using(crate::proofs::Gathered::line_costs))]
     /// Puts the pieces of a line, one behind the other.
+    #[tactic(auto, using(crate::proofs::Gathered::line_costs))]
     pub(crate) fn put_line<W: Sink>(
         &mut self,
         pieces: &[&[u8]],
