@@ -5,9 +5,9 @@ use std::alloc::Global;
 use std::process::Abort;
 use std::test::Fail;
 
-/// What a command comes to, through the bound.
-fn perform<P: Perform>(node: &mut P, now: u64, command: NodeCommand) -> Result<Came, Fail> {
-    Ok(Came::of(&node.perform(now, command)?))
+/// What a copy of a command comes to, through the bound.
+fn perform<P: Perform>(node: &mut P, now: u64, command: &NodeCommand) -> Result<Came, Fail> {
+    Ok(Came::of(&node.perform(now, command.copy()?)?))
 }
 
 /// A command at a moment, what it has to come to, and how many items have to be kept then.
@@ -16,7 +16,7 @@ type Step<'a> = (u64, Told, &'a [u8], Came, usize);
 /// Asserts what a command comes to and how many items it leaves.
 fn is_step(rt: &impl Abort, alloc: Global, node: &mut CacheNode, step: &Step) -> Result<(), Fail> {
     let (now, told, name, came, kept) = *step;
-    let answered = perform(node, now, told.of(alloc, name)?)?;
+    let answered = perform(node, now, &told.of(alloc, name)?)?;
     assert_eq!(rt;
         (answered, node.len()),
         (came, kept),

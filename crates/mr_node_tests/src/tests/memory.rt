@@ -94,10 +94,12 @@ fn answers_want_of_memory_in_a_command_and_goes_on(rt: HostRuntime) -> Result<()
         input,
         AMPLE,
     )?;
-    assert_eq!(rt; left.how, Ok(Ended::Quit));
     assert_eq!(rt;
-        left.writer.kept.as_slice(),
-        b"SERVER_ERROR out of memory\r\nSERVER_ERROR out of memory\r\n".as_slice()
+        (left.how, left.writer.kept.as_slice()),
+        (
+            Ok(Ended::Quit),
+            b"SERVER_ERROR out of memory\r\nSERVER_ERROR out of memory\r\n".as_slice()
+        )
     );
     Ok(())
 }

@@ -1,27 +1,8 @@
-//! Copies, and the numbers of errors.
-use super::{Came, Told, key};
+//! Copies of items, and the numbers of errors.
+use super::{Told, key};
 use mr_node::{CacheNode, CachedItem, NodeError, Perform};
 use std::alloc::Global;
 use std::test::Fail;
-
-/// What a copy of a command comes to.
-fn copy_comes_to(alloc: Global, node: &mut CacheNode, told: Told) -> Result<Came, Fail> {
-    let copy = told.of(alloc, b"k")?.copy()?;
-    Ok(Came::of(&node.perform(100, copy)?))
-}
-
-#[test]
-fn a_copied_command_does_the_same(rt: HostRuntime) -> Result<(), Fail> {
-    let mut node = CacheNode::new(rt.alloc(), 4)?;
-    for (told, came) in [
-        (Told::Set(0), Came::Stored),
-        (Told::Get, Came::Hit),
-        (Told::Delete, Came::Deleted),
-    ] {
-        assert_eq!(rt; copy_comes_to(rt.alloc(), &mut node, told)?, came);
-    }
-    Ok(())
-}
 
 /// A copy of the item that is kept under `k`, if there is one.
 fn copied(alloc: Global, node: &CacheNode) -> Result<Option<CachedItem>, Fail> {
@@ -38,7 +19,7 @@ fn is_wanted(item: &CachedItem) -> bool {
 #[test]
 fn a_copied_item_is_equal(rt: HostRuntime) -> Result<(), Fail> {
     let mut node = CacheNode::new(rt.alloc(), 1)?;
-    copy_comes_to(rt.alloc(), &mut node, Told::Set(10))?;
+    node.perform(100, Told::Set(10).of(rt.alloc(), b"k")?)?;
     let copy = copied(rt.alloc(), &node)?;
     node.restart();
     assert!(rt; copy.is_some_and(|item| is_wanted(&item)));
