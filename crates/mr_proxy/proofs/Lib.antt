@@ -1,4 +1,4 @@
-pub mod SlotLemmas
+pub mod JoinLemmas
 pub mod DraftLemmas
 pub mod StepLemmas
 pub mod SheetLemmas

@@ -1,62 +1,17 @@
 -- What is written of an answer, leg by leg.
-use Rattle.std.proofs.Common.{◌≡◌, ℕ, zero, suc, ◌+◌, ◌<◌, ◌≤◌, Bool, true, false, ◌||◌, List, [], ◌∷◌, ◌++◌, length, map, take, drop, fold, get_or, flat_map, length-append, Some, Err, refl, sym, ap, subst, ◌∙◌, arith}
-use Rattle.std.specs.List.{list_any}
+use Rattle.std.proofs.Common.{◌≡◌, ℕ, zero, suc, ◌+◌, ◌<◌, ◌≤◌, List, [], ◌∷◌, ◌++◌, length, map, take, drop, get_or, length-append, Err, refl, sym, ap, subst, ◌∙◌, arith}
 use Rattle.std.proofs.lemmas.Grind.{flat_map-append}
 use Rattle.mr_text.specs.Canonical.{item_text, items_text}
 use Rattle.mr_text.specs.Gathering.{HasGathered, Gathers, parts_of_reply}
 use Rattle.mr_text.specs.Sink.{SinkView}
 use Rattle.mr_text.specs.declared.error.WriteFault.{WriteFault}
 use Rattle.mr_text.specs.declared.item.Item.{Item}
-use Rattle.mr_text.specs.declared.request.Request.TheVariants.{Get}
-use Rattle.mr_text.specs.declared.reply.Reply.TheVariants as reply
 use Rattle.mr_join.specs.declared.leg_reply.LegReply.{LegReply}
 use Rattle.mr_join.specs.declared.leg_reply.LegReply.TheVariants.{Hit, Miss, Stored, Deleted, NotFound, Failed}
-use Rattle.mr_join.specs.Join.{worse_of, worst_of, first_cause, with_hit, hits_of, items_unless, reply_by, joined_reply}
+use Rattle.mr_join.specs.Join.{with_hit, hits_of, reply_by}
 use Rattle.mr_proxy.specs.declared.slot.Slot.{Slot}
-use Rattle.mr_proxy.specs.Slots.{is_failed, has_failed, outcome_of}
+use Rattle.mr_proxy.specs.Slots.{outcome_of}
 use Rattle.mr_text.proofs.Gathered.{gathered_then, gathers_behind, gathers_before}
-use Rattle.mr_proxy.proofs.SlotLemmas.{no_cause_of, hits_reply}
-
--- a failed leg tells its cause, whichever request it is of
-failed_head : (outcome : LegReply) (rest : List LegReply) (keys : List (List ℕ)) (all : List LegReply) → is_failed outcome ≡ true
-    → items_unless (first_cause (outcome ∷ rest)) (hits_of keys all) ≡ reply_by outcome
-failed_head (Hit flags block) rest keys all e = cc
-failed_head Miss rest keys all e = cc
-failed_head Stored rest keys all e = cc
-failed_head Deleted rest keys all e = cc
-failed_head NotFound rest keys all e = cc
-failed_head (Failed cause) rest keys all e = refl
-
-or_false : (a b : Bool) → (a || b) ≡ false → (a ≡ false) × (b ≡ false)
-or_false true b e = cc
-or_false false b e = (refl, e)
-
-failed_in : (slots : List Slot) (i : ℕ) (d : Slot) (keys : List (List ℕ)) (all : List LegReply) → i < length slots → list_any has_failed (take i slots) ≡ false
-    → has_failed (get_or slots i d) ≡ true
-    → items_unless (first_cause (map outcome_of slots)) (hits_of keys all) ≡ reply_by (outcome_of (get_or slots i d))
-failed_in [] i d keys all within before here = absurd (omega arith)
-failed_in (slot ∷ slots) zero d keys all within before here = failed_head (outcome_of slot) (map outcome_of slots) keys all here
-failed_in (slot ∷ slots) (suc i) d keys all within before here =
-    let (first, rest) = or_false (has_failed slot) (list_any has_failed (take i slots)) before in
-    ap (λ cause. items_unless cause (hits_of keys all)) (no_cause_of (outcome_of slot) (map outcome_of slots) first)
-    ∙ failed_in slots i d keys all (omega arith) rest here
-
--- the first leg that failed tells why the get did
-pub failed_first : (keys : List (List ℕ)) (slots : List Slot) (i : ℕ) (slot : Slot) → i < length slots → slot ≡ get_or slots i slot
-    → list_any has_failed (take i slots) ≡ false → has_failed slot ≡ true
-    → joined_reply (Get keys) (map outcome_of slots) ≡ reply_by (outcome_of slot)
-failed_first keys slots i slot within read before here =
-    failed_in slots i slot keys (map outcome_of slots) within before (ap has_failed (sym read) ∙ here) ∙ ap (λ s. reply_by (outcome_of s)) (sym read)
-
-pub found_all : (keys : List (List ℕ)) (slots : List Slot) → list_any has_failed slots ≡ false
-    → joined_reply (Get keys) (map outcome_of slots) ≡ reply.Items (hits_of keys (map outcome_of slots))
-found_all keys slots e = hits_reply keys slots e
-
--- the worst of the first leg and of the others
-pub worst_of_split : (slots : List Slot) (first : Slot) → 0 < length slots → first ≡ get_or slots 0 first
-    → worst_of (map outcome_of slots) ≡ Some (fold worse_of (outcome_of first) (map outcome_of (drop 1 slots)))
-worst_of_split [] first some read = absurd (omega arith)
-worst_of_split (slot ∷ slots) first some read = ap (λ s. Some (fold worse_of (outcome_of s) (map outcome_of slots))) (sym read)
 
 with_more : (key : List ℕ) (outcome : LegReply) (items more : List Item) → with_hit key outcome (items ++ more) ≡ with_hit key outcome items ++ more
 with_more key (Hit flags block) items more = refl

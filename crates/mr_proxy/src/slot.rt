@@ -1,6 +1,8 @@
 //! A leg of a request as the proxy keeps it.
-ghost use Rattle.std.specs.Prelude.{◌≡◌, ◌↔◌, [], ◌∷◌, IsTrue, IfOk};
-ghost use Rattle.mr_join.specs.Join.{badness_of, first_cause};
+ghost use Rattle.std.specs.Prelude.{◌≡◌, ◌↔◌, nat_lt, IsTrue, IfOk};
+ghost use Rattle.mr_text.specs.declared.cause.Cause.TheVariants.{LegLost};
+ghost use Rattle.mr_join.specs.declared.leg_reply.LegReply.TheVariants.{Failed};
+ghost use Rattle.mr_join.specs.Join.{badness_of};
 ghost use Rattle.mr_proxy.specs.Slots.{open_slot, is_open, is_awaiting, has_failed, outcome_of, is_of_kind};
 
 use crate::sheet::LegSheet;
@@ -8,6 +10,9 @@ use mr_join::LegReply;
 use mr_node::NodeCommand;
 use mr_text::Cause;
 use std::alloc::AllocError;
+
+/// What a leg came to of which no reply came.
+pub(crate) const LOST: LegReply = LegReply::Failed(Cause::LegLost);
 
 /// What was sent for a leg, and what came back.
 #[derive(Debug, Drop)]
@@ -53,45 +58,35 @@ impl Slot {
         self.is_open() && is_of_kind(&self.sheet.command, reply)
     }
 
-    /// Whether the leg failed, or no reply came.
-    pub fn has_failed(&self) -> bool
-        ensures { result ≡ has_failed self.now }
+    /// What the leg came to: the reply, or that the leg was lost where none came. What is lent then is the caller's,
+    /// since no constant that has something to drop can be lent.
+    pub(crate) fn outcome<'a>(&'a self, lost: &'a LegReply) -> &'a LegReply
+        requires { lost.now ≡ Failed LegLost }
+        ensures { result.now ≡ outcome_of self.now }
     {
-        match &self.reply {
-            None | Some(LegReply::Failed(_)) => true,
-            Some(_) => false,
-        }
+        self.reply.as_ref().unwrap_or(lost)
     }
 
-    /// How bad what the leg came to is.
-    pub(crate) fn badness(&self) -> u8
-        ensures { result ≡ badness_of (outcome_of self.now) }
-    {
-        match &self.reply {
-            Some(reply) => reply.badness(),
-            None => 2,
-        }
-    }
-
-    /// Gives the reply, or that the leg was lost where none came.
+    /// The same, taken out.
     pub fn into_outcome(self) -> LegReply
         ensures { result ≡ outcome_of self }
     {
         let Slot { sheet: _, reply } = self;
-        match reply {
-            Some(reply) => reply,
-            None => LegReply::Failed(Cause::LegLost),
-        }
+        reply.unwrap_or(LOST)
     }
 
-    /// Gives why the leg failed, if it did.
-    pub(crate) fn into_cause(self) -> Option<Cause>
-        ensures { result ≡ first_cause (outcome_of self ∷ []) }
+    /// Whether the leg failed, or no reply came.
+    pub fn has_failed(&self) -> bool
+        ensures { result ≡ has_failed self.now }
     {
-        match self.into_outcome() {
-            LegReply::Failed(cause) => Some(cause),
-            _ => None,
-        }
+        matches!(self.outcome(&LOST), LegReply::Failed(_))
+    }
+
+    /// Whether the leg came to what is worse than what the other one came to.
+    pub(crate) fn is_worse_than(&self, other: &Slot) -> bool
+        ensures { result ≡ nat_lt (badness_of (outcome_of other.now)) (badness_of (outcome_of self.now)) }
+    {
+        other.outcome(&LOST).badness() < self.outcome(&LOST).badness()
     }
 
     /// Whether the other slot is equal. It takes no memory.

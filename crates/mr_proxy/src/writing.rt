@@ -3,47 +3,37 @@ ghost use Rattle.std.specs.Prelude.{◌≡◌, ◌≤◌, ◌+◌, ◌*◌, [], 
 ghost use Rattle.mr_text.specs.Canonical.{canonical_reply, items_text};
 ghost use Rattle.mr_text.specs.Gathering.{Gathers, Costs, TakesFewCalls, parts_of_reply, owes};
 ghost use Rattle.mr_text.specs.Sink.{Writes};
-ghost use Rattle.mr_text.specs.declared.request.Request.TheVariants.{Get};
 ghost use Rattle.mr_text.specs.declared.reply.Reply.TheVariants.{Items};
-ghost use Rattle.mr_join.specs.Join.{reply_by, reply_by_worst, worse_of, worst_of, hits_of, joined_reply};
+ghost use Rattle.mr_join.specs.Join.{reply_by, hits_of, joined_reply};
 ghost use Rattle.mr_proxy.specs.Slots.{outcome_of};
 
-use crate::slot::Slot;
+use crate::join::place_of_worst;
+use crate::slot::{LOST, Slot};
 use mr_join::LegReply;
 use mr_text::{
     Cause, FixedBuffer, Key, Reply, Request, Sink, WriteFault, put_end, put_item, write_reply,
     write_server_error,
 };
 
+#[tactic(auto, using(crate::proofs::JoinLemmas::found_by_worst, crate::proofs::JoinLemmas::failed_by_worst))]
 /// Writes the joined reply of the legs of a request.
 pub(crate) fn write_joined<W: Sink>(
     request: &Request,
     slots: &[Slot],
     writer: &mut W,
 ) -> Result<(), WriteFault>
+    requires { 1 ≤ length slots.now }
     ensures text { Writes (canonical_reply (joined_reply request.now (map outcome_of slots.now))) (W.told writer.old) result (W.told writer.new) }
     ensures calls { TakesFewCalls (canonical_reply (joined_reply request.now (map outcome_of slots.now)))
         (parts_of_reply (joined_reply request.now (map outcome_of slots.now))) (W.told writer.old) (W.told writer.new) }
 {
+    let worst = &slots[place_of_worst(slots)];
     match request {
-        Request::Get { keys } => write_get(keys.as_slice(), slots, writer),
-        Request::Set { .. } | Request::Delete { .. } | Request::Quit => write_worst(slots, writer),
-    }
-}
-
-#[tactic(auto, using(crate::proofs::WritingLemmas::failed_first, crate::proofs::WritingLemmas::found_all))]
-/// A get's items, or why its first failed leg did.
-fn write_get<W: Sink>(keys: &[Key], slots: &[Slot], writer: &mut W) -> Result<(), WriteFault>
-    ensures text { Writes (canonical_reply (joined_reply (Get keys.now) (map outcome_of slots.now))) (W.told writer.old) result (W.told writer.new) }
-    ensures calls { TakesFewCalls (canonical_reply (joined_reply (Get keys.now) (map outcome_of slots.now)))
-        (parts_of_reply (joined_reply (Get keys.now) (map outcome_of slots.now))) (W.told writer.old) (W.told writer.new) }
-{
-    for slot in slots {
-        if slot.has_failed() {
-            return write_outcome(slot, writer);
+        Request::Get { keys } if !worst.has_failed() => {
+            write_found(keys.as_slice(), slots, writer)
         }
+        _ => write_outcome(worst.outcome(&LOST), writer),
     }
-    write_found(keys, slots, writer)
 }
 
 /// The items that the legs of these keys found.
@@ -101,49 +91,23 @@ fn put_hit<W: Sink>(
     ensures text { Gathers (items_text (hits_of (key.now ∷ []) (outcome_of slot.now ∷ []))) buffer.old (W.told writer.old) result buffer.new (W.told writer.new) }
     ensures calls { Costs (2 * length (hits_of (key.now ∷ []) (outcome_of slot.now ∷ []))) buffer.old (W.told writer.old) result buffer.new (W.told writer.new) }
 {
-    match &slot.reply {
-        Some(LegReply::Hit { flags, block }) => put_item(key, *flags, block, buffer, writer),
+    match slot.outcome(&LOST) {
+        LegReply::Hit { flags, block } => put_item(key, *flags, block, buffer, writer),
         _ => Ok(()),
     }
 }
 
-#[tactic(auto, using(crate::proofs::WritingLemmas::worst_of_split, crate::proofs::WritingLemmas::parts_by))]
-/// The reply to a set or a delete, by the worst of its legs.
-fn write_worst<W: Sink>(slots: &[Slot], writer: &mut W) -> Result<(), WriteFault>
-    ensures text { Writes (canonical_reply (reply_by_worst (worst_of (map outcome_of slots.now)))) (W.told writer.old) result (W.told writer.new) }
-    ensures calls { TakesFewCalls (canonical_reply (reply_by_worst (worst_of (map outcome_of slots.now))))
-        (parts_of_reply (reply_by_worst (worst_of (map outcome_of slots.now)))) (W.told writer.old) (W.told writer.new) }
+#[tactic(auto, using(crate::proofs::WritingLemmas::parts_by))]
+/// The reply to a set or a delete whose worst leg came to this, or to a get that failed by it.
+fn write_outcome<W: Sink>(outcome: &LegReply, writer: &mut W) -> Result<(), WriteFault>
+    ensures text { Writes (canonical_reply (reply_by outcome.now)) (W.told writer.old) result (W.told writer.new) }
+    ensures calls { TakesFewCalls (canonical_reply (reply_by outcome.now)) (parts_of_reply (reply_by outcome.now)) (W.told writer.old) (W.told writer.new) }
 {
-    if slots.is_empty() {
-        return write_server_error(&Cause::LegLost, writer);
-    }
-    let mut worst = &slots[0];
-    for slot in &slots[1..] {
-        worst = worse_slot(worst, slot);
-    }
-    write_outcome(worst, writer)
-}
-
-/// The leg that came to what is worse, and `a` on a tie.
-fn worse_slot<'a>(a: &'a Slot, b: &'a Slot) -> &'a Slot
-    ensures { outcome_of result.now ≡ worse_of (outcome_of a.now) (outcome_of b.now) }
-{
-    if a.badness() < b.badness() { b } else { a }
-}
-
-/// The reply to a set or a delete whose worst leg this is, or to a get whose first failed leg it is.
-fn write_outcome<W: Sink>(slot: &Slot, writer: &mut W) -> Result<(), WriteFault>
-    ensures text { Writes (canonical_reply (reply_by (outcome_of slot.now))) (W.told writer.old) result (W.told writer.new) }
-    ensures calls { TakesFewCalls (canonical_reply (reply_by (outcome_of slot.now))) (parts_of_reply (reply_by (outcome_of slot.now))) (W.told writer.old) (W.told writer.new) }
-{
-    match &slot.reply {
-        Some(LegReply::Stored) => write_reply(&Reply::Stored, writer),
-        Some(LegReply::Deleted) => write_reply(&Reply::Deleted, writer),
-        Some(LegReply::NotFound) => write_reply(&Reply::NotFound, writer),
-        Some(LegReply::Failed(cause)) => write_server_error(cause, writer),
-        Some(LegReply::Hit { .. } | LegReply::Miss) | None => write_server_error(
-            &Cause::LegLost,
-            writer,
-        ),
+    match outcome {
+        LegReply::Stored => write_reply(&Reply::Stored, writer),
+        LegReply::Deleted => write_reply(&Reply::Deleted, writer),
+        LegReply::NotFound => write_reply(&Reply::NotFound, writer),
+        LegReply::Failed(cause) => write_server_error(cause, writer),
+        LegReply::Hit { .. } | LegReply::Miss => write_server_error(&Cause::LegLost, writer),
     }
 }

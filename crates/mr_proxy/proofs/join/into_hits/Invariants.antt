@@ -1,4 +1,4 @@
-use Rattle.std.proofs.Common.{◌≡◌, ◌+◌, ◌*◌, sum_by, ◌≤◌, ◌++◌, map, length, vec_len, vec_capacity}
+use Rattle.std.proofs.Common.{◌≡◌, ◌+◌, ◌≤◌, ◌++◌, map, length, vec_len, vec_capacity}
 use Rattle.std.specs.Vec.Iter.{into_iter_items}
 use Rattle.mr_join.specs.Join.{hits_of}
 use Rattle.mr_proxy.specs.Slots.{outcome_of}
@@ -12,5 +12,4 @@ invariant-loop-key l =
     (hits_of l.fn.keys.items (map outcome_of l.fn.slots.items)
     ≡ l.items.items ++ hits_of (into_iter_items l.key-iterator) (map outcome_of (into_iter_items l.slots))) ×
     (vec_len l.items + length (into_iter_items l.key-iterator) ≤ vec_capacity l.items) ×
-    (2 * vec_len l.items + sum_by (λ key. length key + 1) (into_iter_items l.key-iterator)
-    ≤ sum_by (λ key. length key + 1) l.fn.keys.items)
+    (vec_len l.items + length (into_iter_items l.key-iterator) ≤ vec_len l.fn.keys)

@@ -1,4 +1,4 @@
-use Rattle.std.proofs.Common.{◌≡◌, ◌+◌, ◌*◌, ◌≤◌, map, take, length}
+use Rattle.std.proofs.Common.{◌+◌, ◌*◌, ◌≤◌, map, take, length}
 use Rattle.mr_text.specs.Canonical.{items_text}
 use Rattle.mr_text.specs.Gathering.{HasGathered, owes}
 use Rattle.mr_join.specs.Join.{hits_of}

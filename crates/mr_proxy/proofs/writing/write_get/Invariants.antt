@@ -1,8 +1,0 @@
-use Rattle.std.proofs.Common.{◌≡◌, take, false}
-use Rattle.std.specs.List.{list_any}
-use Rattle.mr_proxy.specs.Slots.{has_failed}
-use Rattle.mr_proxy.proofs.writing.write_get.Given as goal
-
--- no leg so far failed, and nothing is written yet
-abbrev pub invariant-loop-slot : goal.invariant-loop-slot
-invariant-loop-slot g l = (list_any has_failed (take l.slot-index l.slots) ≡ false) × (l.writer ≡ l.initial.writer)
