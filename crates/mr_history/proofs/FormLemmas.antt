@@ -11,7 +11,7 @@ use Rattle.mr_history.specs.declared.entry.Entry.{Entry}
 use Rattle.mr_history.specs.declared.entry.Entry.TheVariants.{Answered}
 use Rattle.mr_history.specs.Places.{At}
 use Rattle.mr_history.specs.History.{IsIssued, WasIssued, WasAnswered, Fits, IsWellFormed}
-use Rattle.mr_history.specs.Tests.{is_issued, is_answered}
+use Rattle.mr_history.specs.steps.Tests.{is_issued, is_answered}
 use Rattle.mr_history.proofs.Lists.{at_within, at_taken, at_take, at_last}
 use Rattle.mr_history.proofs.TestLemmas.{issued_if, issued_then, answered_if, answered_then}
 

@@ -13,7 +13,7 @@ use Rattle.mr_history.specs.declared.entry.Entry.TheVariants.{Issued, Answered}
 use Rattle.mr_history.specs.Places.{At}
 use Rattle.mr_history.specs.History.{IsIssued, IsAcknowledged, IsHit, IsFresh, IsSafe, IsWellFormed}
 use Rattle.mr_history.specs.Judgement.{IsFirstBadHit, IsInvented, IsLastStored, Convicts, IsFirstConvict, ShowsInvented, ShowsStale, AreFreshBefore, AreFreshUpTo}
-use Rattle.mr_history.specs.Tests.{is_stored, is_issued_get, is_acknowledged, delete_of, NonePasses, LastPasses, NoConvict, FirstConvict}
+use Rattle.mr_history.specs.steps.Tests.{is_stored, is_issued_get, is_acknowledged, delete_of, NonePasses, LastPasses, NoConvict, FirstConvict}
 use Rattle.mr_history.proofs.Lists.{at_within, at_one, at_taken, at_take, at_dropped, at_drop, any_place, position_none}
 use Rattle.mr_history.proofs.TestLemmas.{place_any, same_op_true, stored_entry, stored_passes, acknowledged_entry, acknowledged_passes, issued_get_entry, deleting_entry, deleting_passes}
 use Rattle.mr_history.proofs.FormLemmas.{issued_once, answered_after}

@@ -1,7 +1,7 @@
 //! Searches in a list of entries. None of them takes memory.
 ghost use Rattle.std.specs.Prelude.{◌≡◌, length, position, MatchOption};
 ghost use Rattle.std.specs.List.{list_any};
-ghost use Rattle.mr_history.specs.Tests.{is_same_op, is_issued, is_answered, is_get, is_issued_get, is_stored, acknowledges, is_acknowledged, delete_of, NonePasses, LastPasses, NoConvict, FirstConvict};
+ghost use Rattle.mr_history.specs.steps.Tests.{is_same_op, is_issued, is_answered, is_get, is_issued_get, is_stored, acknowledges, is_acknowledged, delete_of, NonePasses, LastPasses, NoConvict, FirstConvict};
 
 use crate::entry::Entry;
 use crate::op_id::OpId;

@@ -1,4 +1,4 @@
-use Rattle.mr_history.specs.Tests.{NoConvict}
+use Rattle.mr_history.specs.steps.Tests.{NoConvict}
 use Rattle.mr_history.proofs.search.first_convict.Given as goal
 
 -- none so far

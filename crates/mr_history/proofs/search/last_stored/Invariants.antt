@@ -1,5 +1,5 @@
 use Rattle.std.proofs.Common.{◌≤◌, length}
-use Rattle.mr_history.specs.Tests.{is_stored, NonePasses}
+use Rattle.mr_history.specs.steps.Tests.{is_stored, NonePasses}
 use Rattle.mr_history.proofs.search.last_stored.Given as goal
 
 -- none from here on
