@@ -16,7 +16,7 @@ use Rattle.mr_proxy.specs.Pending.{PendingView, is_complete, with_reply}
 use Rattle.mr_proxy.specs.Answer.{AnswerView}
 use Rattle.mr_proxy.specs.ProxyView.{ProxyView}
 use Rattle.mr_proxy.specs.Issue.{sheets_of, pending_of, after_issue}
-use Rattle.mr_proxy.specs.Steps.{place_of_op, pending_with, open_legs_of, noted_by, settled, after_take, given_up_in, given_up_of, left_by, after_give_up}
+use Rattle.mr_proxy.specs.Transitions.{place_of_op, pending_with, open_legs_of, noted_by, settled, after_take, given_up_in, given_up_of, left_by, after_give_up}
 use Rattle.mr_proxy.specs.Sound.{IsSound}
 use Rattle.mr_proxy.proofs.SoundLemmas.{IsNoting, noting_in}
 

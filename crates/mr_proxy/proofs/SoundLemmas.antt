@@ -37,7 +37,7 @@ use Rattle.mr_proxy.specs.Pending.{PendingView, is_complete, with_reply, with_re
 use Rattle.mr_proxy.specs.Answer.{AnswerView, answer_of, reply_of}
 use Rattle.mr_proxy.specs.ProxyView.{ProxyView, fresh_proxy}
 use Rattle.mr_proxy.specs.Issue.{next_op, used_reading, sheets_of, pending_of, after_issue}
-use Rattle.mr_proxy.specs.Steps.{place_of_op, pending_with, settled, taken_by, taken_of, left_by, given_up_in, given_up_of}
+use Rattle.mr_proxy.specs.Transitions.{place_of_op, pending_with, settled, taken_by, taken_of, left_by, given_up_in, given_up_of}
 use Rattle.mr_proxy.specs.Sheets.{pool_at, IsPlaced, sheets_by, sheets_from, targets_of}
 use Rattle.mr_proxy.specs.Whole.{IsCommandAt, IsLegAt, IsOfItsKind, IsWhole}
 use Rattle.mr_proxy.specs.Sound.{HasLegs, ProxyStep, sheet_of, IsSoundPending, IsSoundAnswer, IsSound, HasFound, WasDeleted}

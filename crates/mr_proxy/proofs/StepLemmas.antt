@@ -6,7 +6,7 @@ use Rattle.mr_join.specs.declared.leg_reply.LegReply.{LegReply}
 use Rattle.mr_proxy.specs.declared.sheet.LegId.{LegId}
 use Rattle.mr_proxy.specs.Pending.{PendingView, is_complete, with_reply}
 use Rattle.mr_proxy.specs.ProxyView.{ProxyView}
-use Rattle.mr_proxy.specs.Steps.{place_of_op, noted_by, settled}
+use Rattle.mr_proxy.specs.Transitions.{place_of_op, noted_by, settled}
 
 pub remove_written : {X : Type 0} (list : List X) (place : ℕ) (x : X) → remove (slice_set list place x) place ≡ remove list place
 remove_written [] zero x = refl

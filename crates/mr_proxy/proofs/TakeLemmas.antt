@@ -14,11 +14,11 @@ use Rattle.mr_proxy.specs.declared.taken.Taken.{Taken}
 use Rattle.mr_proxy.specs.declared.taken.Taken.TheVariants as taken
 use Rattle.mr_proxy.specs.Slots.{open_slot, is_open}
 use Rattle.mr_proxy.specs.Pending.{PendingView, is_complete, with_reply}
-use Rattle.mr_proxy.specs.Noted.{noted_as}
+use Rattle.mr_proxy.specs.steps.Noted.{noted_as}
 use Rattle.mr_proxy.specs.Answer.{AnswerView, answer_of}
 use Rattle.mr_proxy.specs.ProxyView.{ProxyView}
 use Rattle.mr_proxy.specs.Issue.{next_op, used_reading, sheets_of, after_issue}
-use Rattle.mr_proxy.specs.Steps.{place_of_op, noted_by, settled, after_take, taken_by, taken_of, left_by, after_give_up, given_up_in, given_up_of}
+use Rattle.mr_proxy.specs.Transitions.{place_of_op, noted_by, settled, after_take, taken_by, taken_of, left_by, after_give_up, given_up_in, given_up_of}
 use Rattle.mr_proxy.specs.Sheets.{IsPlaced}
 use Rattle.mr_proxy.specs.Sound.{HasLegs, IsSound, IsSoundAnswer}
 use Rattle.mr_proxy.specs.Sound.ProxyStep.{takes}

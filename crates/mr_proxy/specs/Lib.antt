@@ -1,12 +1,11 @@
 pub mod ProxyError
 pub mod Slots
 pub mod Pending
-pub mod Noted
-pub mod Room
 pub mod Answer
 pub mod Whole
 pub mod ProxyView
 pub mod Sheets
 pub mod Issue
-pub mod Steps
+pub mod Transitions
 pub mod Sound
+pub mod steps

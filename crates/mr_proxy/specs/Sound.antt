@@ -18,7 +18,7 @@ use Rattle.mr_proxy.specs.Whole.{IsOfItsKind, IsWhole}
 use Rattle.mr_proxy.specs.Sheets.{sheets_by}
 use Rattle.mr_proxy.specs.ProxyView.{ProxyView}
 use Rattle.mr_proxy.specs.Issue.{refusal_of, after_issue}
-use Rattle.mr_proxy.specs.Steps.{after_take, after_give_up, after_restart}
+use Rattle.mr_proxy.specs.Transitions.{after_take, after_give_up, after_restart}
 
 -- a request that has at least one leg: no Quit, and no get without a key
 abbrev pub HasLegs : Request → Type 0

@@ -1,7 +1,7 @@
 //! The one reply to a request, by what its legs came to.
 ghost use Rattle.std.specs.Prelude.{◌≡◌, ◌≤◌, ◌<◌, [], map, length, slice_get, vec_len, vec_capacity};
 ghost use Rattle.mr_proxy.specs.Slots.{outcome_of};
-ghost use Rattle.mr_proxy.specs.Room.{HasRoomFor, most_items};
+ghost use Rattle.mr_proxy.specs.steps.Room.{HasRoomFor, most_items};
 ghost use Rattle.mr_join.specs.Join.{joined_reply, hits_of, worst_of, reply_by};
 
 use crate::slot::Slot;

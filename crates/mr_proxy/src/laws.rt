@@ -18,7 +18,7 @@ ghost use Rattle.mr_proxy.specs.declared.taken.Taken.TheVariants.{Answered};
 ghost use Rattle.mr_proxy.specs.Answer.{AnswerView, reply_of};
 ghost use Rattle.mr_proxy.specs.ProxyView.{ProxyView, fresh_proxy};
 ghost use Rattle.mr_proxy.specs.Issue.{next_op, sheets_of, after_issue};
-ghost use Rattle.mr_proxy.specs.Steps.{open_legs_of, noted_by, taken_of, after_take, given_up_of, after_give_up};
+ghost use Rattle.mr_proxy.specs.Transitions.{open_legs_of, noted_by, taken_of, after_take, given_up_of, after_give_up};
 ghost use Rattle.mr_proxy.specs.Sheets.{pool_at, sheets_by, IsSheetOf, GoesBy, DeletesIn, AsksFor};
 ghost use Rattle.mr_proxy.specs.Whole.{IsWhole};
 ghost use Rattle.mr_proxy.specs.Sound.{ProxyStep, IsSound, IsSoundAnswer, WasGivenOut, HasFound, WasDeleted};

@@ -37,7 +37,7 @@ impl Model for Pending {
     ghost use Rattle.std.specs.Prelude.{◌≡◌, count_by, vec_capacity};
     ghost use Rattle.mr_proxy.specs.Slots.{is_open};
     ghost use Rattle.mr_proxy.specs.Pending.{PendingView};
-    ghost use Rattle.mr_proxy.specs.Room.{HasRoomFor};
+    ghost use Rattle.mr_proxy.specs.steps.Room.{HasRoomFor};
 
     ghost Value = { PendingView };
 
@@ -48,8 +48,8 @@ impl Model for Pending {
 
 impl Pending {
     ghost use Rattle.mr_proxy.specs.Pending.{is_same_op, with_reply};
-    ghost use Rattle.mr_proxy.specs.Room.{HasRoomFor};
-    ghost use Rattle.mr_proxy.specs.Noted.{noted_as};
+    ghost use Rattle.mr_proxy.specs.steps.Room.{HasRoomFor};
+    ghost use Rattle.mr_proxy.specs.steps.Noted.{noted_as};
 
     /// A request whose legs were just sent. The room is made by the caller.
     pub(crate) fn new(

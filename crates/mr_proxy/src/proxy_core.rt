@@ -4,7 +4,7 @@ ghost use Rattle.std.specs.Option.{option_copied};
 ghost use Rattle.mr_text.specs.declared.request.Request.{Request};
 ghost use Rattle.mr_phases.specs.Schedule.{IsSchedule};
 ghost use Rattle.mr_pools.specs.Routing.{IsRouting};
-ghost use Rattle.mr_proxy.specs.Steps.{place_of_op};
+ghost use Rattle.mr_proxy.specs.Transitions.{place_of_op};
 
 use crate::answer::Answer;
 use crate::draft::Draft;
@@ -80,7 +80,8 @@ fn position_of(outstanding: &[Pending], op: OpId) -> Option<usize>
     None
 }
 
-/// No node stands in two pools of a routing, and the phases of a schedule follow one another.
+/// Does nothing but tell the prover what the types of both keep: no node stands in two pools of a routing, and the
+/// phases of a schedule follow one another.
 fn are_sound(routing: &Routing, schedule: &Schedule)
     ensures routing { IsRouting routing.now }
     ensures schedule { IsSchedule schedule.now }
@@ -92,7 +93,7 @@ fn are_sound(routing: &Routing, schedule: &Schedule)
 impl ProxyCore {
     ghost use Rattle.mr_proxy.specs.ProxyView.{fresh_proxy, opening_of, IsFresh, AreAlike};
     ghost use Rattle.mr_proxy.specs.Issue.{next_op, used_reading, sheets_of, refusal_of, IsRefusal, after_issue};
-    ghost use Rattle.mr_proxy.specs.Steps.{open_sheet, open_legs_of, taken_of, after_take, given_up_of, after_give_up, after_restart};
+    ghost use Rattle.mr_proxy.specs.Transitions.{open_sheet, open_legs_of, taken_of, after_take, given_up_of, after_give_up, after_restart};
     ghost use Rattle.mr_proxy.specs.Answer.{AnswerView};
     ghost use Rattle.mr_proxy.specs.Sheets.{IsPlaced};
     ghost use Rattle.mr_proxy.specs.Sound.{IsSound, IsSoundAnswer};

@@ -1,6 +1,6 @@
 //! The room that an answer needs, made before anything changes.
 ghost use Rattle.std.specs.Prelude.{IfOk, vec_capacity};
-ghost use Rattle.mr_proxy.specs.Room.{HasRoomFor};
+ghost use Rattle.mr_proxy.specs.steps.Room.{HasRoomFor};
 
 use mr_text::{Item, Request};
 use std::alloc::{AllocError, Global};

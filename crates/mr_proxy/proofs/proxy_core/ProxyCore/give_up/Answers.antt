@@ -1,7 +1,7 @@
 use Rattle.std.proofs.Common.{◌≡◌, ◌<◌, length, refl, ap, ◌∙◌, arith, ◌≤◌}
 use Rattle.std.proofs.lemmas.Option.{slice_get_read}
 use Rattle.mr_proxy.specs.contracts.proxy_core.ProxyCore.{the_view}
-use Rattle.mr_proxy.specs.Steps.{place_of_op}
+use Rattle.mr_proxy.specs.Transitions.{place_of_op}
 use Rattle.mr_proxy.proofs.TakeLemmas.{given_up_at, given_up_none}
 use Rattle.mr_proxy.proofs.proxy_core.ProxyCore.give_up.Goals as goal
 

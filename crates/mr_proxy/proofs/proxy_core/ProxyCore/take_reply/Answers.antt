@@ -4,7 +4,7 @@ use Rattle.mr_proxy.specs.contracts.proxy_core.ProxyCore.{the_view}
 use Rattle.mr_proxy.specs.Pending.{with_reply}
 use Rattle.mr_proxy.specs.Answer.{answer_of}
 use Rattle.mr_proxy.specs.declared.taken.Taken.TheVariants.{Answered}
-use Rattle.mr_proxy.specs.Steps.{place_of_op}
+use Rattle.mr_proxy.specs.Transitions.{place_of_op}
 use Rattle.mr_proxy.proofs.TakeLemmas.{stranger_taken, waiting_taken, last_taken}
 use Rattle.mr_proxy.proofs.proxy_core.ProxyCore.take_reply.Goals as goal
 
