@@ -76,15 +76,15 @@ fn back_of(leg: Leg) -> Result<LegBack, Fail> {
     Ok(leg.returned(LegReply::Stored).copy()?)
 }
 
-/// Whether the reply that comes back is the answer to its request.
-fn is_answered(core: &mut ProxyCore, back: LegBack) -> bool {
-    let taken = core.take_reply(back.sheet.id, back.reply);
-    matches!(taken, Taken::Answered(_))
+/// Whether a reply to a leg answers its request.
+fn is_answered(core: &mut ProxyCore, sheet: &LegSheet, reply: LegReply) -> bool {
+    matches!(core.take_reply(sheet.id, reply), Taken::Answered(_))
 }
 
 fn come_back(rt: &impl Abort, alloc: Global, core: &mut ProxyCore) -> Result<(), Fail> {
     for leg in issue(alloc, core, 1200, Asked::Set(b'a'))?.legs {
-        holds(rt, is_answered(core, back_of(leg)?));
+        let LegBack { sheet, reply } = back_of(leg)?;
+        holds(rt, is_answered(core, &sheet, reply));
     }
     number_is(rt, core.outstanding() as u64, 0);
     Ok(())
