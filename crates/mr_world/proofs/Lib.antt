@@ -1,3 +1,7 @@
 pub mod Lists
 pub mod ProxyLemmas
 pub mod TrackedLemmas
+pub mod StartLemmas
+pub mod PremiseLemmas
+pub mod NetworkLemmas
+pub mod ReadyLemmas

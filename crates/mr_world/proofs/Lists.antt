@@ -1,6 +1,6 @@
 -- Places in lists that only grow, and in lists of which one element changes.
-use Rattle.std.proofs.Common.{◌≡◌, ℕ, zero, suc, ◌+◌, ◌<◌, ◌≤◌, ◌⊎◌, List, [], ◌∷◌, ◌++◌, length, take, drop, slice_get, slice_set, remove, Some, map, refl, ap, sym, ◌∙◌, subst, inl, inr, arith}
-use Rattle.std.proofs.lemmas.Option.{slice_get_within, none-some}
+use Rattle.std.proofs.Common.{◌≡◌, ℕ, zero, suc, ◌+◌, ◌<◌, ◌≤◌, ◌⊎◌, List, [], ◌∷◌, ◌++◌, length, take, drop, get_or, slice_get, slice_set, remove, Some, map, refl, ap, sym, ◌∙◌, subst, inl, inr, arith}
+use Rattle.std.proofs.lemmas.Option.{slice_get_within, slice_get_read, none-some}
 use Rattle.std.proofs.lemmas.Bool.{cases_order}
 use Rattle.mr_history.specs.Places.{At}
 use Rattle.mr_world.specs.Lists.{Has}
@@ -147,7 +147,7 @@ has_map f xs {y = y} h =
     let (x, e, s) = get_map f xs h.place y h.there.gets in
     (x, record { place = h.place; there = record { gets = e } }, s)
 
-get_mapped : {X Y : Type 0} (f : X → Y) (xs : List X) (i : ℕ) (x : X) → slice_get xs i ≡ Some x → slice_get (map f xs) i ≡ Some (f x)
+pub get_mapped : {X Y : Type 0} (f : X → Y) (xs : List X) (i : ℕ) (x : X) → slice_get xs i ≡ Some x → slice_get (map f xs) i ≡ Some (f x)
 get_mapped f [] i x e = cc
 get_mapped f (z ∷ xs) zero x e = let s : z ≡ x = cc in rw s refl
 get_mapped f (z ∷ xs) (suc i) x e = get_mapped f xs i x e
@@ -156,14 +156,14 @@ pub has_mapped : {X Y : Type 0} (f : X → Y) (xs : List X) {x : X} → Has xs x
 has_mapped f xs {x = x} h = record { place = h.place; there = record { gets = get_mapped f xs h.place x h.there.gets } }
 
 get_other : {X : Type 0} (xs : List X) (k : ℕ) (v : X) (i : ℕ) (x : X) → (i ≡ k → ⊥) → slice_get xs i ≡ Some x → slice_get (slice_set xs k v) i ≡ Some x
-get_other [] k v i x no e = e
-get_other (z ∷ xs) zero v zero x no e = absurd (no refl)
-get_other (z ∷ xs) zero v (suc i) x no e = e
-get_other (z ∷ xs) (suc k) v zero x no e = e
-get_other (z ∷ xs) (suc k) v (suc i) x no e = get_other xs k v i x (λ same. no (ap suc same)) e
+get_other [] k v i x apart e = e
+get_other (z ∷ xs) zero v zero x apart e = absurd (apart refl)
+get_other (z ∷ xs) zero v (suc i) x apart e = e
+get_other (z ∷ xs) (suc k) v zero x apart e = e
+get_other (z ∷ xs) (suc k) v (suc i) x apart e = get_other xs k v i x (λ same. apart (ap suc same)) e
 
 pub at_other : {X : Type 0} {xs : List X} (k : ℕ) (v : X) {i : ℕ} {x : X} → (i ≡ k → ⊥) → At xs i x → At (slice_set xs k v) i x
-at_other {xs = xs} k v {i = i} {x = x} no h = record { gets = get_other xs k v i x no h.gets }
+at_other {xs = xs} k v {i = i} {x = x} apart h = record { gets = get_other xs k v i x apart h.gets }
 
 pub at_written : {X : Type 0} {xs : List X} {k : ℕ} {w : X} (v : X) → At xs k w → At (slice_set xs k v) k v
 at_written {xs = xs} {k = k} {w = w} v h = record { gets = get_written xs k v w h.gets }
@@ -205,14 +205,14 @@ get_removed_other [] (suc k) i x e = cc
 get_removed_other (z ∷ xs) zero i x e = (suc i, λ (same : suc i ≡ 0). absurd (omega arith), e)
 get_removed_other (z ∷ xs) (suc k) zero x e = (0, λ (same : 0 ≡ suc k). absurd (omega arith), e)
 get_removed_other (z ∷ xs) (suc k) (suc i) x e =
-    let (j, no, there) = get_removed_other xs k i x e in
-    (suc j, λ (same : suc j ≡ suc k). no (omega arith), there)
+    let (j, apart, there) = get_removed_other xs k i x e in
+    (suc j, λ (same : suc j ≡ suc k). apart (omega arith), there)
 
 -- what is left after one element went stood at another place
 pub at_removed : {X : Type 0} (xs : List X) (k : ℕ) {i : ℕ} {x : X} → At (remove xs k) i x → (j : ℕ) × (j ≡ k → ⊥) × At xs j x
 at_removed xs k {i = i} {x = x} h =
-    let (j, no, e) = get_removed_other xs k i x h.gets in
-    (j, no, record { gets = e })
+    let (j, apart, e) = get_removed_other xs k i x h.gets in
+    (j, apart, record { gets = e })
 
 pub length_left : {X : Type 0} (xs ys : List X) → length xs ≤ length (xs ++ ys)
 length_left [] ys = omega arith
@@ -226,3 +226,7 @@ get_taken (suc n) (y ∷ ys) (suc i) x e = let h = get_taken n ys i x e in (let 
 
 pub at_taken : {X : Type 0} (n : ℕ) (xs : List X) {i : ℕ} {x : X} → At (take n xs) i x → (i < n) × At xs i x
 at_taken n xs {i = i} {x = x} h = let g = get_taken n xs i x h.gets in (g.0, record { gets = g.1 })
+
+-- what a list gave at an index
+pub at_read : {X : Type 0} (xs : List X) (i : ℕ) (x : X) → i < length xs → x ≡ get_or xs i x → At xs i x
+at_read xs i x below read = record { gets = slice_get_read xs (length xs) i x refl below read }

@@ -1,11 +1,12 @@
 -- Each step keeps what holds of every fleet.
-use Rattle.std.proofs.Common.{◌≡◌, ℕ, zero, suc, ◌+◌, ◌<◌, ◌≤◌, ◌%◌, ◌⊎◌, inl, inr, Bool, true, false, List, [], ◌∷◌, ◌++◌, length, map, bytes_eq, slice_get, slice_set, slice_index_or, Option, Some, None, if◌then◌else◌, refl, sym, ap, subst, ◌∙◌, not, cond, arith}
+use Rattle.std.proofs.Common.{◌≡◌, ◌↔◌, max, ℕ, zero, suc, ◌+◌, ◌<◌, ◌≤◌, ◌%◌, ◌⊎◌, inl, inr, Bool, true, false, List, [], ◌∷◌, ◌++◌, length, map, bytes_eq, slice_get, slice_set, slice_index_or, Option, Some, None, if◌then◌else◌, refl, sym, ap, subst, ◌∙◌, not, cond, arith}
 use Rattle.std.proofs.lemmas.List.{append-nil}
 use Rattle.std.proofs.lemmas.Nat.{mod_below}
 use Rattle.std.proofs.lemmas.Option.{get_or_from_slice_get}
 use Rattle.std.specs.List.{position_or_len, prefix_len}
 use Rattle.mr_text.specs.declared.request.Request.{Request}
 use Rattle.mr_text.specs.declared.request.Request.TheVariants as request
+use Rattle.mr_clock.specs.Readings.{AreWithin, spread_of}
 use Rattle.mr_history.specs.declared.op_id.OpId.{OpId}
 use Rattle.mr_history.specs.declared.entry.Entry.{Entry}
 use Rattle.mr_history.specs.declared.entry.Entry.TheVariants as entry
@@ -40,7 +41,8 @@ use Rattle.mr_world.specs.declared.message.Delivery.{Delivery}
 use Rattle.mr_world.specs.declared.node.Node.{Node}
 use Rattle.mr_world.specs.declared.note.Note.{Note}
 use Rattle.mr_world.specs.Lists.{Has}
-use Rattle.mr_world.specs.Steps.{number_of, message_of, performed, is_noreply, answered, answered_by, Ticks, Quits, Issues, Asks, Delivers, Returns, GivesUp, Empties, Restarts, WorldStep}
+use Rattle.mr_world.specs.Steps.{message_of, performed, is_noreply, answered, answered_by, Ticks, Quits, Issues, Asks, Delivers, Returns, GivesUp, Empties, Restarts, WorldStep}
+use Rattle.mr_world.specs.Positions.{number_of}
 use Rattle.mr_world.specs.Tracked.{IsAtHome, IsUnanswered, IsWaiting, IsSent, IsGivenOut, IsTracked}
 use Rattle.mr_world.specs.WorldView.{WorldView}
 use Rattle.mr_world.proofs.Lists.{at_within, at_one, at_left, at_cases, at_last, at_new, has_one, has_none, has_map, at_set, at_kept, at_written, length_set, length_left, at_taken, at_none}
@@ -48,6 +50,7 @@ use Rattle.mr_world.proofs.ProxyLemmas.{Keeps, step_keeps, StaysUnderWay, Answer
 
 -- the laws of the layers below
 pub record Laws : Type 0 where
+  pub within : (most : ℕ) (readings : List ℕ) → (spread_of readings ≤ most) ↔ AreWithin most readings
   pub keep_sound : (old new : ProxyView) → IsSound old → ProxyStep old new → IsSound new
   pub next_is_new : (p : ProxyView) → WasGivenOut p (next_op p) → ⊥
   pub gives_next : (p : ProxyView) (t : ℕ) (request : Request) → WasGivenOut (after_issue p t request) (next_op p)
@@ -205,7 +208,7 @@ answered_issued {H = H} {op = op} formed was =
 
 -- nodes keep their names
 
-number_written : (nodes : List Node) (k : ℕ) (old new : Node) (name : List ℕ) → slice_get nodes k ≡ Some old → new.name ≡ old.name
+pub number_written : (nodes : List Node) (k : ℕ) (old new : Node) (name : List ℕ) → slice_get nodes k ≡ Some old → new.name ≡ old.name
     → number_of (slice_set nodes k new) name ≡ number_of nodes name
 number_written [] k old new name e same = refl
 number_written (x ∷ nodes) zero old new name e same =
@@ -232,7 +235,7 @@ sent_nodes nodes H K k new m s = record { node = (let below = s.node in let coun
 
 -- a leg goes to a node of its pool
 
-pool_there : (routing : RoutingView) (side : Side) → IsRouting routing → pool_number side < length routing.pools
+pub pool_there : (routing : RoutingView) (side : Side) → IsRouting routing → pool_number side < length routing.pools
 pool_there routing Old r = let two = r.migrates in omega arith
 pool_there routing New r = let two = r.migrates in omega arith
 
@@ -247,23 +250,21 @@ node_there routing sheet spot r is =
 pub sheet_there : Laws → (p : ProxyView) (t : ℕ) (request : Request) (sheet : LegSheet) → IsSound p → Has (sheets_of p t request) sheet
     → HasNode p.routing (pool_at sheet) sheet.node × (sheet.id.op ≡ next_op p)
 sheet_there L p t request sheet s h =
-    let says = L.says p.routing p.schedule (next_op p) (used_reading p.last t) request h.place sheet h.there.gets in
-    (
+    let says = L.says p.routing p.schedule (next_op p) (used_reading p.last t) request h.place sheet h.there.gets in (
       node_there p.routing sheet (spot_by p.routing.hash (key_of sheet.command)) s.routing says.node,
-      ap (λ (id : LegId). id.op) says.named
+      ap (λ (id : LegId). id.op) says.named,
     )
 
 -- the entries that are pushed fit
 
-pub issue_fits : Laws → (w : WorldView) (n : ℕ) (p : ProxyView) (q : Request) → IsTracked w → At w.proxies n p → Fits w.history (entry.Issued (next_op p) n q)
-issue_fits L w n p q t at =
-    let home = t.proxies n p at in
-    (
+pub issue_fits : ((p : ProxyView) → WasGivenOut p (next_op p) → ⊥) → (w : WorldView) (n : ℕ) (p : ProxyView) (q : Request) → IsTracked w → At w.proxies n p → Fits w.history (entry.Issued (next_op p) n q)
+issue_fits new w n p q t at =
+    let home = t.proxies n p at in (
       home.number,
       λ was.
           let g = t.given_out (next_op p) was in
           let same : g.proxy ≡ p = at_one g.home (subst (λ i. At w.proxies i p) (sym home.number) at) in
-          L.next_is_new p (subst (λ (z : ProxyView). WasGivenOut z (next_op p)) same g.given_out)
+          new p (subst (λ (z : ProxyView). WasGivenOut z (next_op p)) same g.given_out),
     )
 
 pub answer_waits : (w : WorldView) (n : ℕ) (p : ProxyView) (answer : AnswerView) → IsTracked w → At w.proxies n p → AnswersPending p answer → IsUnanswered w.history answer.op
@@ -272,10 +273,14 @@ answer_waits w n p answer t at a =
 
 -- what each event keeps
 
-ticks_tracked : (w : WorldView) (number reading : ℕ) (note : Note) (new : WorldView) → Ticks w number reading note new → IsTracked w → IsTracked new
-ticks_tracked w number reading note new step t =
+ticks_tracked : Laws → (w : WorldView) (number reading : ℕ) (note : Note) (new : WorldView) → Ticks w number reading note new → IsTracked w → IsTracked new
+ticks_tracked L w number reading note new step t =
+    let standing = slice_set w.readings.standing number reading in
+    let spread = max w.readings.spread (spread_of standing) in
+    let bound : spread_of standing ≤ spread = omega arith in
     subst IsTracked (sym step.becomes) (record {
       clocks = length_set w.readings.standing number reading ∙ t.clocks;
+      within = (L.within spread standing).0 bound;
       proxies = t.proxies;
       sent = t.sent;
       replies = t.replies;
@@ -293,12 +298,13 @@ module _ (L : Laws) where
       let after = after_issue p u q in
       let e : Entry = entry.Issued op n q in
       let home = t.proxies n p step.home in
-      let fits = issue_fits L w n p q t step.home in
+      let fits = issue_fits L.next_is_new w n p q t step.home in
       let pstep : ProxyStep p after = issues u q step.has_legs step.accepted in
       let was : WasIssued (w.history ++ e ∷ []) op = record { place = length w.history; request = q; issued = record { proxy = n; there = at_new w.history e } } in
       let none : (op' : OpId) (reply : _) → Has (e ∷ []) (entry.Answered op' reply) → ⊥ = λ op' reply h. (let is = has_one h in cc) in
       subst IsTracked (sym step.becomes) (record {
         clocks = t.clocks ∙ sym (length_set w.proxies n after);
+        within = t.within;
         proxies = home_set L w.nodes w.proxies n p after step.home pstep t.proxies;
         sent = λ k m there. elim (at_cases w.sent (map (message_of w.nodes p.routing) (sheets_of p u q)) there) [
           | inl old ↦ let s = t.sent k m old in record { node = s.node; issued = was_left (e ∷ []) s.issued }
@@ -346,6 +352,7 @@ module _ (L : Laws) where
       let delivery : Delivery = record { message = n; reply = step.reply } in
       subst IsTracked (sym step.becomes) (record {
         clocks = t.clocks;
+        within = t.within;
         proxies = λ k p there. home_nodes w.nodes m.node step.node node k p step.there refl (t.proxies k p there);
         sent = λ k x there. sent_nodes w.nodes w.history K m.node node x (t.sent k x there);
         replies = λ k d there. elim (at_last w.replies delivery there) [
@@ -369,6 +376,7 @@ module _ (L : Laws) where
       let quiet = answered_by_quiet w.history took (λ answer is. answer_waits w step.sender p answer t step.home (taken_answers p id step.reply answer is)) in
       subst IsTracked (sym step.becomes) (record {
         clocks = t.clocks ∙ sym (length_set w.proxies step.sender after);
+        within = t.within;
         proxies = home_set L w.nodes w.proxies step.sender p after step.home pstep t.proxies;
         sent = λ k x there. (let s = t.sent k x there in record { node = s.node; issued = was_left K s.issued });
         replies = t.replies;
@@ -376,20 +384,20 @@ module _ (L : Laws) where
         given_out = λ op was. given_set L w.proxies step.sender p after step.home pstep op (t.given_out op (quiet_issued quiet was));
         waiting = waiting_set w.nodes w.history K w.proxies step.sender p after step.home t.proxies t.waiting
             (λ pending h.
-              let stays = stays_after_take p id step.reply pending home.sound h in
-              subst (IsUnanswered (w.history ++ K)) stays.same_op
-              (unanswered_grows
-              (t.waiting stays.pending (record { number = step.sender; proxy = p; place = stays.place; home = step.home; there = stays.there }))
-              (λ reply k.
-                let (answer, is, same) = answered_by_one took _ k in
-                let named : stays.pending.op ≡ answer.op = cc in
-                stays.stays (answer, is, sym named ∙ stays.same_op))))
+            let stays = stays_after_take p id step.reply pending home.sound h in
+            subst (IsUnanswered (w.history ++ K)) stays.same_op
+            (unanswered_grows
+            (t.waiting stays.pending (record { number = step.sender; proxy = p; place = stays.place; home = step.home; there = stays.there }))
+            (λ reply k.
+            let (answer, is, same) = answered_by_one took _ k in
+            let named : stays.pending.op ≡ answer.op = cc in
+            stays.stays (answer, is, sym named ∙ stays.same_op))))
             (λ op reply k.
-              let (answer, is, same) = answered_by_one took _ k in
-              let a = taken_answers p id step.reply answer is in
-              let named : op ≡ answer.op = cc in
-              let number = pending_home p a.place a.pending home.sound a.there in
-              ap (λ (o : OpId). o.proxy) (named ∙ a.same_op) ∙ number ∙ home.number);
+            let (answer, is, same) = answered_by_one took _ k in
+            let a = taken_answers p id step.reply answer is in
+            let named : op ≡ answer.op = cc in
+            let number = pending_home p a.place a.pending home.sound a.there in
+            ap (λ (o : OpId). o.proxy) (named ∙ a.same_op) ∙ number ∙ home.number);
       })
 
   gives_up_tracked : (w : WorldView) (op : OpId) (note : Note) (new : WorldView) → GivesUp w op note new → IsTracked w → IsTracked new
@@ -403,6 +411,7 @@ module _ (L : Laws) where
       let quiet = answered_quiet w.history step.answer (answer_waits w op.proxy p step.answer t step.home a) in
       subst IsTracked (sym step.becomes) (record {
         clocks = t.clocks ∙ sym (length_set w.proxies op.proxy after);
+        within = t.within;
         proxies = home_set L w.nodes w.proxies op.proxy p after step.home pstep t.proxies;
         sent = λ k x there. (let s = t.sent k x there in record { node = s.node; issued = was_left K s.issued });
         replies = t.replies;
@@ -410,19 +419,19 @@ module _ (L : Laws) where
         given_out = λ other was. given_set L w.proxies op.proxy p after step.home pstep other (t.given_out other (quiet_issued quiet was));
         waiting = waiting_set w.nodes w.history K w.proxies op.proxy p after step.home t.proxies t.waiting
             (λ pending h.
-              let stays = stays_after_give_up p op step.answer pending home.sound step.gives h in
-              subst (IsUnanswered (w.history ++ K)) stays.same_op
-              (unanswered_grows
-              (t.waiting stays.pending (record { number = op.proxy; proxy = p; place = stays.place; home = step.home; there = stays.there }))
-              (λ reply k.
-                let same = answered_one step.answer _ k in
-                let named : stays.pending.op ≡ step.answer.op = cc in
-                stays.stays (sym named ∙ stays.same_op))))
+            let stays = stays_after_give_up p op step.answer pending home.sound step.gives h in
+            subst (IsUnanswered (w.history ++ K)) stays.same_op
+            (unanswered_grows
+            (t.waiting stays.pending (record { number = op.proxy; proxy = p; place = stays.place; home = step.home; there = stays.there }))
+            (λ reply k.
+            let same = answered_one step.answer _ k in
+            let named : stays.pending.op ≡ step.answer.op = cc in
+            stays.stays (sym named ∙ stays.same_op))))
             (λ other reply k.
-              let same = answered_one step.answer _ k in
-              let named : other ≡ step.answer.op = cc in
-              let number = pending_home p a.place a.pending home.sound a.there in
-              ap (λ (o : OpId). o.proxy) (named ∙ a.same_op) ∙ number ∙ home.number);
+            let same = answered_one step.answer _ k in
+            let named : other ≡ step.answer.op = cc in
+            let number = pending_home p a.place a.pending home.sound a.there in
+            ap (λ (o : OpId). o.proxy) (named ∙ a.same_op) ∙ number ∙ home.number);
       })
 
   empties_tracked : (w : WorldView) (name : List ℕ) (note : Note) (new : WorldView) → Empties w name note new → IsTracked w → IsTracked new
@@ -431,6 +440,7 @@ module _ (L : Laws) where
       let k = number_of w.nodes name in
       subst IsTracked (sym step.becomes) (record {
         clocks = t.clocks;
+        within = t.within;
         proxies = λ i p there. home_nodes w.nodes k step.node node i p step.there refl (t.proxies i p there);
         sent = λ i m there. (let s = t.sent i m there in record { node = (let below = s.node in let count = length_set w.nodes k node in omega arith); issued = s.issued });
         replies = t.replies;
@@ -446,6 +456,7 @@ module _ (L : Laws) where
       let pstep : ProxyStep p after = restarts in
       subst IsTracked (sym step.becomes) (record {
         clocks = t.clocks ∙ sym (length_set w.proxies n after);
+        within = t.within;
         proxies = home_set L w.nodes w.proxies n p after step.home pstep t.proxies;
         sent = t.sent;
         replies = t.replies;
@@ -464,7 +475,7 @@ module _ (L : Laws) where
   asks_tracked w n request.Quit note new step t = subst IsTracked (sym step.becomes) t
 
   pub step_tracked : (w : WorldView) (event : Event) (note : Note) (new : WorldView) → WorldStep w event note new → IsTracked w → IsTracked new
-  step_tracked w (Clock proxy reading) note new step t = ticks_tracked w proxy reading note new step t
+  step_tracked w (Clock proxy reading) note new step t = ticks_tracked L w proxy reading note new step t
   step_tracked w (Client proxy request) note new step t = asks_tracked w proxy request note new step t
   step_tracked w (Deliver message now) note new step t = delivers_tracked w message now note new step t
   step_tracked w (Return reply) note new step t = returns_tracked w reply note new step t

@@ -1,5 +1,6 @@
 pub mod WorldError
 pub mod Lists
+pub mod Positions
 pub mod WorldView
 pub mod Steps
 pub mod Refusals

@@ -14,7 +14,8 @@ use Rattle.mr_world.specs.declared.error.WorldError.{WorldError}
 use Rattle.mr_world.specs.declared.error.WorldError.TheVariants.{NoSuchProxy, NoSuchNode, NoSuchMessage, IssueRefused, OutOfMemory, NoSuchOp}
 use Rattle.mr_world.specs.declared.event.Event.{Event}
 use Rattle.mr_world.specs.declared.event.Event.TheVariants.{Clock, Client, Deliver, Return, GiveUp, NodeRestart, ProxyRestart}
-use Rattle.mr_world.specs.Steps.{number_of, WorldRun}
+use Rattle.mr_world.specs.Steps.{WorldRun}
+use Rattle.mr_world.specs.Positions.{number_of}
 use Rattle.mr_world.specs.WorldView.{WorldView}
 
 -- a list has nothing at this number

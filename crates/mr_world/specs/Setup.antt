@@ -1,6 +1,5 @@
 -- What a fleet is made of, and how it is at the beginning.
-use Rattle.std.specs.Prelude.{◌≡◌, ◌↔◌, ◌⊎◌, ℕ, ◌+◌, ◌<◌, ◌≤◌, pos, min, Bool, IsTrue, List, [], ◌∷◌, ◌++◌, All, AllPairs, Contains, length, map, fold, bytes_eq, slice_get, slice_set, Option, Some, None, if◌then◌else◌}
-use Rattle.std.specs.List.{list_any}
+use Rattle.std.specs.Prelude.{◌≡◌, ◌↔◌, ◌⊎◌, ℕ, ◌+◌, ◌<◌, ◌≤◌, pos, min, Bool, IsTrue, List, [], ◌∷◌, ◌++◌, All, AllPairs, Contains, length, map, fold, nat_lt, slice_get, slice_set, Option, Some, None, if◌then◌else◌}
 use Rattle.mr_clock.specs.Readings.{readings_at_first}
 use Rattle.mr_history.specs.declared.entry.Author.TheVariants.{Beginning}
 use Rattle.mr_history.specs.declared.entry.Entry.{Entry}
@@ -12,7 +11,7 @@ use Rattle.mr_node.specs.Recency.{items_after}
 use Rattle.mr_proxy.specs.ProxyView.{ProxyView, fresh_proxy}
 use Rattle.mr_world.specs.declared.setup.ProxySetup.{ProxySetup}
 use Rattle.mr_world.specs.declared.setup.HeldItem.{HeldItem}
-use Rattle.mr_world.specs.Steps.{number_of}
+use Rattle.mr_world.specs.Positions.{number_of}
 use Rattle.mr_world.specs.declared.node.Node.{Node}
 use Rattle.mr_world.specs.WorldView.{WorldView}
 
@@ -55,7 +54,7 @@ empty_node capacity name = record { name = name; cache = record { capacity = cap
 
 -- a name that has no node yet gets the next one
 abbrev pub with_name : ℕ → List Node → List ℕ → List Node
-with_name capacity nodes name = if list_any (λ node. bytes_eq node.name name) nodes then nodes else nodes ++ empty_node capacity name ∷ []
+with_name capacity nodes name = if nat_lt (number_of nodes name) (length nodes) then nodes else nodes ++ empty_node capacity name ∷ []
 
 abbrev pub with_pool : ℕ → List Node → List (List ℕ) → List Node
 with_pool capacity nodes pool = fold (with_name capacity) nodes pool

@@ -1,6 +1,5 @@
 -- What each event does to a fleet: a record for each kind.
-use Rattle.std.specs.Prelude.{◌≡◌, ◌≢◌, ℕ, ◌-◌, ◌^◌, ◌<◌, Bool, false, List, [], ◌∷◌, ◌++◌, length, map, bytes_eq, slice_set, Some, None, if◌then◌else◌}
-use Rattle.std.specs.List.{position_or_len}
+use Rattle.std.specs.Prelude.{◌≡◌, ◌≢◌, ℕ, ◌-◌, ◌^◌, ◌<◌, Bool, false, List, [], ◌∷◌, ◌++◌, length, map, slice_set, Some, None, if◌then◌else◌}
 use Rattle.mr_text.specs.declared.request.Request.{Request}
 use Rattle.mr_text.specs.declared.request.Request.TheVariants as request
 use Rattle.mr_clock.specs.Readings.{readings_after}
@@ -30,11 +29,8 @@ use Rattle.mr_world.specs.declared.message.Message.{Message}
 use Rattle.mr_world.specs.declared.note.Note.{Note}
 use Rattle.mr_world.specs.declared.note.Note.TheVariants.{Nothing, Issued, Performed, Waiting, Answered, Stranger}
 use Rattle.mr_world.specs.declared.node.Node.{Node}
+use Rattle.mr_world.specs.Positions.{number_of}
 use Rattle.mr_world.specs.WorldView.{WorldView}
-
--- the number of the node of this name
-abbrev pub number_of : List Node → List ℕ → ℕ
-number_of nodes name = position_or_len (λ node. bytes_eq node.name name) nodes
 
 -- a leg goes to the node that its proxy's routing names
 abbrev pub message_of : List Node → RoutingView → LegSheet → Message

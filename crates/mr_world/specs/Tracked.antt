@@ -1,5 +1,6 @@
 -- What holds of every fleet, whatever happened.
 use Rattle.std.specs.Prelude.{◌≡◌, ℕ, ◌<◌, List, [], length, map, get_or}
+use Rattle.mr_clock.specs.Readings.{AreWithin}
 use Rattle.mr_history.specs.declared.entry.Entry.{Entry}
 use Rattle.mr_history.specs.declared.op_id.OpId.{OpId}
 use Rattle.mr_history.specs.History.{IsWellFormed, WasIssued, WasAnswered}
@@ -11,7 +12,7 @@ use Rattle.mr_proxy.specs.Sound.{IsSound, WasGivenOut}
 use Rattle.mr_world.specs.declared.message.Message.{Message}
 use Rattle.mr_world.specs.declared.message.Delivery.{Delivery}
 use Rattle.mr_world.specs.declared.node.Node.{Node}
-use Rattle.mr_world.specs.Steps.{number_of}
+use Rattle.mr_world.specs.Positions.{number_of}
 use Rattle.mr_world.specs.WorldView.{WorldView}
 
 -- a proxy knows its number and is sound, and there is a node of each name in its pools
@@ -46,6 +47,7 @@ pub record IsGivenOut (proxies : List ProxyView) (op : OpId) : Type 0 where
 
 pub record IsTracked (w : WorldView) : Type 0 where
   pub clocks : length w.readings.standing ≡ length w.proxies
+  pub within : AreWithin w.readings.spread w.readings.standing
   pub proxies : (number : ℕ) (proxy : ProxyView) → At w.proxies number proxy → IsAtHome w.nodes number proxy
   pub sent : (number : ℕ) (message : Message) → At w.sent number message → IsSent w.nodes w.history message
   pub replies : (number : ℕ) (delivery : Delivery) → At w.replies number delivery → delivery.message < length w.sent

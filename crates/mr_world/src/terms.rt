@@ -59,6 +59,13 @@ fn is_new_empty(setup: &Setup) -> bool
     true
 }
 
+/// Whether two proxies have one routing and one schedule.
+fn is_like(one: &ProxySetup, other: &ProxySetup) -> bool
+    ensures { IsTrue result ↔ ((one.now.routing ≡ other.now.routing) × (one.now.schedule ≡ other.now.schedule)) }
+{
+    one.routing.same_as(&other.routing) && one.schedule.same_as(&other.schedule)
+}
+
 /// Whether all proxies have the routing and the schedule of the first.
 fn are_alike(proxies: &[ProxySetup]) -> bool
     ensures { IsTrue result ↔ AllAlike proxies.now }
@@ -67,7 +74,7 @@ fn are_alike(proxies: &[ProxySetup]) -> bool
         return true;
     };
     for proxy in rest {
-        if !proxy.routing.same_as(&first.routing) || !proxy.schedule.same_as(&first.schedule) {
+        if !is_like(proxy, first) {
             return false;
         }
     }

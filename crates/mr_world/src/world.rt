@@ -4,6 +4,9 @@ ghost use Rattle.mr_world.specs.declared.error.WorldError.TheVariants.{NoSuchNod
 
 use crate::error::WorldError;
 use crate::event::Event;
+use crate::laws::{
+    runs_tell_premises, setups_begin_tracked, setups_tell_premises, steps_keep_tracked,
+};
 use crate::message::{Delivery, Message};
 use crate::network::Network;
 use crate::note::Note;
@@ -44,6 +47,8 @@ impl World {
         ensures premises { IfOk result (λ world. PremisesAtFirst setup (premises_of world)) }
         ensures refused { IfErr result (λ e. ((e ≡ NoSuchNode) × ¬ CanBeMade setup) ⊎ ((e ≡ OutOfMemory) × CanBeMade setup)) }
     {
+        setups_begin_tracked();
+        setups_tell_premises();
         let network = Network::new(alloc, setup)?;
         Ok(World { network })
     }
@@ -57,6 +62,8 @@ impl World {
         ensures unchanged { OnErr result (self.new ≡ self.old) }
         ensures premises { IfOk result (λ _. PremisesAfter self.old (event ∷ []) (premises_of self.new)) }
     {
+        steps_keep_tracked();
+        runs_tell_premises();
         self.network.step(event)
     }
 
@@ -67,6 +74,9 @@ impl World {
         ensures stopped { IfErr result (λ stop. IsStopped self.old events.items stop.0 stop.1 self.new) }
         ensures premises_then { IfErr result (λ stop. PremisesAfter self.old (take stop.0 events.items) (premises_of self.new)) }
     {
+        runs_tell_premises();
+        // That a world is in order.
+        let _ = &self.network;
         let mut index = 0;
         for event in events {
             if let Err(refusal) = self.step(event) {

@@ -10,8 +10,10 @@ use crate::network::Network;
 use crate::note::Note;
 use crate::numbers::NodeNumbers;
 use mr_history::Entry;
+use mr_proxy::laws::next_op_is_new;
 use mr_proxy::{Issued, Leg};
 use mr_text::Request;
+use mr_text::laws::request_is_valid;
 
 /// Sends legs for which there is room.
 fn send(sent: &mut Vec<Message>, numbers: &NodeNumbers, legs: Vec<Leg>)
@@ -48,6 +50,8 @@ impl Network {
         requires no_quit { request ≢ Request.Quit }
         ensures { DoesEvent self.old (Client number request) result self.new }
     {
+        request_is_valid(&request);
+        next_op_is_new();
         let place = number as usize;
         let Some(reading) = self.readings.get(place) else {
             return Err(WorldError::NoSuchProxy);

@@ -1,14 +1,15 @@
 //! A fleet as it is made of its setup.
-ghost use Rattle.std.specs.Prelude.{◌≡◌, ◌↔◌, ◌⊎◌, ◌^◌, ◌<◌, length, map, fold, IsTrue, IfOk, IfErr};
+ghost use Rattle.std.specs.Prelude.{◌≡◌, ◌↔◌, ◌⊎◌, ◌^◌, ◌<◌, length, map, fold, All, IsTrue, IfOk, IfErr};
+ghost use Rattle.mr_proxy.specs.Sound.{IsSound};
 ghost use Rattle.mr_world.specs.declared.error.WorldError.TheVariants.{NoSuchNode, OutOfMemory};
 ghost use Rattle.mr_world.specs.Setup.{CanBeMade, Begins, NamesNode, IsNamed, with_name, with_pool, with_routing, nodes_of, hold, held_entry, proxies_from};
-ghost use Rattle.mr_world.specs.Steps.{number_of};
+ghost use Rattle.mr_world.specs.Positions.{number_of};
 ghost use Rattle.mr_clock.specs.Readings.{readings_at_first};
 ghost use Rattle.mr_world.specs.Tracked.{numbers_of};
 
 use crate::error::WorldError;
 use crate::network::Network;
-use crate::node::{Node, find_node};
+use crate::node::{Node, find_node, number_of};
 use crate::numbers::NodeNumbers;
 use crate::setup::{HeldItem, ProxySetup, Setup};
 use crate::terms::{Terms, has_node};
@@ -59,14 +60,10 @@ fn can_be_made(setup: &Setup) -> bool
 }
 
 /// Adds a node of this name, unless there is one.
-fn add_name(
-    nodes: &mut Vec<Node>,
-    capacity: usize,
-    name: &NodeName,
-) -> Result<(), AllocError>
+fn add_name(nodes: &mut Vec<Node>, capacity: usize, name: &NodeName) -> Result<(), AllocError>
     ensures { IfOk result (λ _. nodes.new.items ≡ with_name capacity nodes.old.items name.now) }
 {
-    if nodes.iter().any(|node| node.name == *name) {
+    if number_of(nodes, name) < nodes.len() {
         return Ok(());
     }
     let name = name.copy()?;
@@ -88,11 +85,7 @@ fn add_pool(nodes: &mut Vec<Node>, capacity: usize, pool: &Pool) -> Result<(), A
 }
 
 /// Adds the nodes of a routing.
-fn add_routing(
-    nodes: &mut Vec<Node>,
-    capacity: usize,
-    routing: &Routing,
-) -> Result<(), AllocError>
+fn add_routing(nodes: &mut Vec<Node>, capacity: usize, routing: &Routing) -> Result<(), AllocError>
     ensures { IfOk result (λ _. nodes.new.items ≡ with_routing capacity nodes.old.items routing.now) }
 {
     for pool in routing.pools() {
@@ -172,32 +165,28 @@ fn hold_items(
 }
 
 /// The numbers of the nodes of a pool.
-fn numbers_in(
-    alloc: Global,
-    nodes: &[Node],
-    pool: &Pool,
-) -> Result<Vec<usize>, AllocError>
+fn numbers_in(alloc: Global, nodes: &[Node], pool: &Pool) -> Result<Vec<usize>, AllocError>
     ensures { IfOk result (λ numbers. numbers.items ≡ map (number_of nodes.now) pool.now) }
 {
     let mut numbers = Vec::with_capacity(alloc, pool.len())?;
     for name in pool.names() {
-        numbers.push(find_node(nodes, name).unwrap_or(nodes.len()))?;
+        numbers.push(number_of(nodes, name))?;
     }
     Ok(numbers)
 }
 
-/// The numbers of the nodes that each routing names.
+/// The numbers of the nodes that each proxy's routing names.
 fn numbers_of(
     alloc: Global,
-    nodes: &[Node],
-    proxies: &[ProxySetup],
+    nodes: &Vec<Node>,
+    proxies: &Vec<ProxyCore>,
 ) -> Result<Vec<NodeNumbers>, AllocError>
-    ensures { IfOk result (λ numbers. numbers.items ≡ map (λ proxy. map (λ pool. map (number_of nodes.now) pool) proxy.routing.pools) proxies.now) }
+    ensures { IfOk result (λ numbers. numbers.items ≡ numbers_of nodes.now.items proxies.now.items) }
 {
     let mut numbers = Vec::with_capacity(alloc, proxies.len())?;
     for proxy in proxies {
-        let old = numbers_in(alloc, nodes, proxy.routing.old_pool())?;
-        let new = numbers_in(alloc, nodes, proxy.routing.new_pool())?;
+        let old = numbers_in(alloc, nodes, proxy.routing().old_pool())?;
+        let new = numbers_in(alloc, nodes, proxy.routing().new_pool())?;
         numbers.push(NodeNumbers::new(old, new))?;
     }
     Ok(numbers)
@@ -217,7 +206,8 @@ fn readings_of(alloc: Global, proxies: &[ProxySetup]) -> Result<Readings, AllocE
 /// The proxies, none of which accepted a request yet.
 fn cores_of(alloc: Global, proxies: Vec<ProxySetup>) -> Result<Vec<ProxyCore>, AllocError>
     requires { length proxies.items < 2 ^ 32 }
-    ensures { IfOk result (λ cores. cores.items ≡ proxies_from 0 proxies.items) }
+    ensures proxies { IfOk result (λ cores. cores.items ≡ proxies_from 0 proxies.items) }
+    ensures sound { IfOk result (λ cores. All IsSound cores.items) }
 {
     let mut cores = Vec::with_capacity(alloc, proxies.len())?;
     let mut number = 0;
@@ -228,7 +218,10 @@ fn cores_of(alloc: Global, proxies: Vec<ProxySetup>) -> Result<Vec<ProxyCore>, A
             room,
             reading: _,
         } = proxy;
-        cores.push(ProxyCore::new(alloc, number, 0, routing, schedule, room))?;
+        let core = ProxyCore::new(alloc, number, 0, routing, schedule, room);
+        // That whoever holds a proxy knows it to be sound.
+        let _none = core.outstanding();
+        cores.push(core)?;
         number += 1;
     }
     Ok(cores)
@@ -239,6 +232,7 @@ impl Network {
     pub(crate) fn new(alloc: Global, setup: Setup) -> Result<Network, WorldError>
         requires { length setup.proxies < 2 ^ 32 }
         ensures begins { IfOk result (λ network. CanBeMade setup × Begins setup network.world) }
+        ensures sound { IfOk result (λ network. All IsSound network.world.proxies) }
         ensures numbers { IfOk result (λ network. network.numbers ≡ numbers_of network.world.nodes network.world.proxies) }
         ensures refused { IfErr result (λ e. ((e ≡ NoSuchNode) × ¬ CanBeMade setup) ⊎ ((e ≡ OutOfMemory) × CanBeMade setup)) }
     {
@@ -249,11 +243,12 @@ impl Network {
         let mut nodes = empty_nodes(alloc, setup.capacity(), setup.proxies())?;
         let (proxies, held) = setup.into_parts();
         let history = hold_items(alloc, &mut nodes, held)?;
-        let numbers = numbers_of(alloc, &nodes, &proxies)?;
         let readings = readings_of(alloc, &proxies)?;
+        let proxies = cores_of(alloc, proxies)?;
+        let numbers = numbers_of(alloc, &nodes, &proxies)?;
         Ok(Network {
             readings,
-            proxies: cores_of(alloc, proxies)?,
+            proxies,
             numbers,
             nodes,
             sent: Vec::new(alloc),

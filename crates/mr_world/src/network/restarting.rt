@@ -43,9 +43,9 @@ impl Network {
             return Err(WorldError::NoSuchProxy);
         }
         let proxy = &mut self.proxies[place];
-        match proxy.restart() {
-            Ok(()) => Ok(Note::Nothing),
-            Err(refusal) => Err(WorldError::IssueRefused(refusal)),
+        if let Err(refusal) = proxy.restart() {
+            return Err(WorldError::IssueRefused(refusal));
         }
+        Ok(Note::Nothing)
     }
 }

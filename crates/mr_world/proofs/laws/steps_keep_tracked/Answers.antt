@@ -4,6 +4,7 @@ use Rattle.mr_world.proofs.laws.steps_keep_tracked.Goals as goal
 pub returns : goal.returns
 returns c = λ old new event note tracked step.
     step_tracked (record {
+      within = c.spread_is_least.ensures;
       keep_sound = c.steps_keep_sound.ensures;
       next_is_new = c.next_op_is_new.ensures;
       gives_next = c.issue_gives_next_op.ensures;

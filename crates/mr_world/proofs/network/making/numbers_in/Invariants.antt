@@ -1,5 +1,5 @@
 use Rattle.std.proofs.Common.{◌≡◌, map, take}
-use Rattle.mr_world.specs.Steps.{number_of}
+use Rattle.mr_world.specs.Positions.{number_of}
 use Rattle.mr_world.proofs.network.making.numbers_in.Given as goal
 
 -- the names so far have numbers

@@ -1,0 +1,10 @@
+use Rattle.mr_world.proofs.world.World.new.Goals as goal
+
+pub invariant_of-result : goal.invariant_of-result
+invariant_of-result c = record {
+  tracked = c.setups_begin_tracked.ensures c.args.setup c.in_ok-network.network.world (c.in_ok-network.ensures.begins.1) c.in_ok-network.ensures.sound;
+  numbers = c.in_ok-network.ensures.numbers;
+}
+
+pub returns-clause-premises : goal.returns-clause-premises
+returns-clause-premises c = c.setups_tell_premises.ensures c.args.setup c.in_ok-network.network.world (c.in_ok-network.ensures.begins.1)
