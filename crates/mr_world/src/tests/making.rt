@@ -31,7 +31,7 @@ fn only(bytes: &[u8]) -> u8 {
     }
 }
 
-fn told_request(op: OpId, request: &Request) -> Told {
+fn tell_request(op: OpId, request: &Request) -> Told {
     match request {
         Request::Get { keys } => match keys.as_slice() {
             [key] => Told::Got(op, only(key.as_bytes())),
@@ -45,7 +45,7 @@ fn told_request(op: OpId, request: &Request) -> Told {
     }
 }
 
-fn told_reply(op: OpId, reply: &Reply) -> Told {
+fn tell_reply(op: OpId, reply: &Reply) -> Told {
     match reply {
         Reply::Items(items) => match items.as_slice() {
             [] => Told::Answered(op, "END"),
@@ -61,14 +61,14 @@ fn told_reply(op: OpId, reply: &Reply) -> Told {
 }
 
 /// What an entry says.
-pub fn told(entry: &Entry) -> Told {
+pub fn tell(entry: &Entry) -> Told {
     match entry {
-        Entry::Issued { op, request, .. } => told_request(*op, request),
+        Entry::Issued { op, request, .. } => tell_request(*op, request),
         Entry::Stored { by, key, block, .. } => {
             Told::Stored(*by, only(key.as_bytes()), only(block.as_bytes()))
         }
         Entry::Removed { op, side, key } => Told::Removed(*op, *side, only(key.as_bytes())),
-        Entry::Answered { op, reply } => told_reply(*op, reply),
+        Entry::Answered { op, reply } => tell_reply(*op, reply),
     }
 }
 
@@ -79,7 +79,7 @@ pub fn says(history: &History, expected: &[Told]) -> bool {
         return false;
     }
     for (place, entry) in entries.iter().enumerate() {
-        if told(entry) != expected[place] {
+        if tell(entry) != expected[place] {
             return false;
         }
     }
