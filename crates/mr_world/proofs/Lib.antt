@@ -5,3 +5,4 @@ pub mod StartLemmas
 pub mod PremiseLemmas
 pub mod NetworkLemmas
 pub mod ReadyLemmas
+pub mod FactLemmas

@@ -230,3 +230,12 @@ at_taken n xs {i = i} {x = x} h = let g = get_taken n xs i x h.gets in (g.0, rec
 -- what a list gave at an index
 pub at_read : {X : Type 0} (xs : List X) (i : ℕ) (x : X) → i < length xs → x ≡ get_or xs i x → At xs i x
 at_read xs i x below read = record { gets = slice_get_read xs (length xs) i x refl below read }
+
+get_take : {X : Type 0} (n : ℕ) (xs : List X) (i : ℕ) (x : X) → i < n → slice_get xs i ≡ Some x → slice_get (take n xs) i ≡ Some x
+get_take zero xs i x l e = absurd (omega arith)
+get_take (suc n) [] i x l e = e
+get_take (suc n) (y ∷ ys) zero x l e = e
+get_take (suc n) (y ∷ ys) (suc i) x l e = get_take n ys i x (omega arith) e
+
+pub at_take : {X : Type 0} (n : ℕ) (xs : List X) {i : ℕ} {x : X} → i < n → At xs i x → At (take n xs) i x
+at_take n xs {i = i} {x = x} l h = record { gets = get_take n xs i x l h.gets }

@@ -14,6 +14,7 @@ use Rattle.mr_world.specs.declared.event.Event.{Event}
 use Rattle.mr_world.specs.declared.event.Event.TheVariants.{Clock, Client, Deliver, Return, GiveUp, NodeRestart, ProxyRestart}
 use Rattle.mr_world.specs.declared.node.Node.{Node}
 use Rattle.mr_world.specs.declared.note.Note.{Note}
+use Rattle.mr_world.specs.Facts.{Facts, IsFaithfulWorld}
 use Rattle.mr_world.specs.Network.{NetworkView, IsReady, DoesEvent}
 use Rattle.mr_world.specs.Premises.{premises_of, PremisesAfter}
 use Rattle.mr_world.specs.Refusals.{IsStopped, refusal_of_event, IsRefusal}
@@ -22,6 +23,7 @@ use Rattle.mr_world.specs.Positions.{number_of}
 use Rattle.mr_world.specs.Tracked.{IsTracked, numbers_in, numbers_of}
 use Rattle.mr_world.specs.WorldView.{WorldView}
 use Rattle.mr_world.proofs.Lists.{map_set}
+use Rattle.mr_world.proofs.FactLemmas.{facts_of}
 use Rattle.mr_world.proofs.ProxyLemmas.{step_keeps}
 use Rattle.mr_world.proofs.TrackedLemmas.{number_written}
 
@@ -78,12 +80,17 @@ step_numbers old (ProxyRestart proxy) note new s =
 abbrev pub KeepsTracked : Type 0
 KeepsTracked = (old new : WorldView) (event : Event) (note : Note) → IsTracked old → WorldStep old event note new → IsTracked new
 
-pub does_ready : KeepsTracked → (old : NetworkView) (event : Event) (r : Result Note WorldError) (new : NetworkView) → IsReady old → DoesEvent old event r new → IsReady new
-does_ready keep old event (Ok note) new ready does = record {
+abbrev pub KeepsFaithful : Type 0
+KeepsFaithful = (old new : WorldView) (event : Event) (note : Note) → IsTracked old → IsTracked new → IsFaithfulWorld old → WorldStep old event note new → IsFaithfulWorld new
+
+pub does_ready : KeepsTracked → KeepsFaithful → (old : NetworkView) (event : Event) (r : Result Note WorldError) (new : NetworkView) → IsReady old
+    → DoesEvent old event r new → IsReady new
+does_ready keep stay old event (Ok note) new ready does = record {
   tracked = keep old.world new.world event note ready.tracked (does.1);
+  faithful = stay old.world new.world event note ready.tracked (keep old.world new.world event note ready.tracked (does.1)) ready.faithful (does.1);
   numbers = does.2 ∙ ready.numbers ∙ sym (step_numbers old.world event note new.world (does.1));
 }
-does_ready keep old event (Err e) new ready does = subst IsReady (sym (does.1)) ready
+does_ready keep stay old event (Err e) new ready does = subst IsReady (sym (does.1)) ready
 
 abbrev pub TellsPremises : Type 0
 TellsPremises = (old new : WorldView) (events : List Event) → IsTracked old → WorldRun old events new → PremisesAfter old events (premises_of new)
@@ -159,3 +166,11 @@ has_stopped old events index event rest new e h refused = record {
   played = has_run_until old events index event rest new h;
   refused = refused;
 }
+
+-- what a run shows
+
+pub run_facts : KeepsTracked → KeepsFaithful → (old : WorldView) (events : List Event) (new : WorldView) → IsTracked old → IsFaithfulWorld old → WorldRun old events new → Facts new
+run_facts keep stay old [] new tracked faithful run = subst Facts (sym run) (facts_of old faithful)
+run_facts keep stay old (event ∷ events) new tracked faithful (middle, note, step, rest) =
+    let tracked' = keep old middle event note tracked step in
+    run_facts keep stay middle events new tracked' (stay old middle event note tracked tracked' faithful step) rest

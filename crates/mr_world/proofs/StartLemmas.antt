@@ -124,7 +124,7 @@ hold_keeps : (name : List ℕ) (nodes : List Node) (item : HeldItem) → IsThere
 hold_keeps name nodes item h = hold_keeps_at name nodes (number_of nodes item.node) item (slice_get nodes (number_of nodes item.node)) refl h
 
 -- the proxies by number
-proxy_from : (number : ℕ) (proxies : List ProxySetup) (place : ℕ) (p : ProxyView) → slice_get (proxies_from number proxies) place ≡ Some p
+pub proxy_from : (number : ℕ) (proxies : List ProxySetup) (place : ℕ) (p : ProxyView) → slice_get (proxies_from number proxies) place ≡ Some p
     → (proxy : ProxySetup) × (slice_get proxies place ≡ Some proxy) × (p ≡ fresh_proxy (number + place) 0 proxy.routing proxy.schedule proxy.room)
 proxy_from number [] place p e = cc
 proxy_from number (x ∷ proxies) zero p e =

@@ -7,4 +7,5 @@ pub mod Refusals
 pub mod Setup
 pub mod Premises
 pub mod Tracked
+pub mod Facts
 pub mod Network

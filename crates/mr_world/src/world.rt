@@ -5,7 +5,8 @@ ghost use Rattle.mr_world.specs.declared.error.WorldError.TheVariants.{NoSuchNod
 use crate::error::WorldError;
 use crate::event::Event;
 use crate::laws::{
-    runs_tell_premises, setups_begin_tracked, setups_tell_premises, steps_keep_tracked,
+    runs_show_facts, runs_tell_premises, setups_begin_faithful, setups_begin_tracked,
+    setups_tell_premises, steps_keep_faithful, steps_keep_tracked,
 };
 use crate::message::{Delivery, Message};
 use crate::network::Network;
@@ -34,6 +35,7 @@ impl Model for World {
 }
 
 impl World {
+    ghost use Rattle.mr_world.specs.Facts.{Facts};
     ghost use Rattle.mr_world.specs.Premises.{premises_of, PremisesAtFirst, PremisesAfter};
     ghost use Rattle.mr_world.specs.Refusals.{refusal_of_event, IsRefusal, IsStopped};
     ghost use Rattle.mr_world.specs.Setup.{CanBeMade, Begins};
@@ -45,9 +47,11 @@ impl World {
         requires { length setup.proxies < 2 ^ 32 }
         ensures begins { IfOk result (λ world. CanBeMade setup × Begins setup world) }
         ensures premises { IfOk result (λ world. PremisesAtFirst setup (premises_of world)) }
+        ensures facts { IfOk result (λ world. Facts world) }
         ensures refused { IfErr result (λ e. ((e ≡ NoSuchNode) × ¬ CanBeMade setup) ⊎ ((e ≡ OutOfMemory) × CanBeMade setup)) }
     {
         setups_begin_tracked();
+        setups_begin_faithful();
         setups_tell_premises();
         let network = Network::new(alloc, setup)?;
         Ok(World { network })
@@ -61,8 +65,10 @@ impl World {
         ensures refused { IfErr result (λ e. IsRefusal (refusal_of_event self.old event) event e) }
         ensures unchanged { OnErr result (self.new ≡ self.old) }
         ensures premises { IfOk result (λ _. PremisesAfter self.old (event ∷ []) (premises_of self.new)) }
+        ensures facts { Facts self.new }
     {
         steps_keep_tracked();
+        steps_keep_faithful();
         runs_tell_premises();
         self.network.step(event)
     }
@@ -73,8 +79,10 @@ impl World {
         ensures premises { IfOk result (λ _. PremisesAfter self.old events.items (premises_of self.new)) }
         ensures stopped { IfErr result (λ stop. IsStopped self.old events.items stop.0 stop.1 self.new) }
         ensures premises_then { IfErr result (λ stop. PremisesAfter self.old (take stop.0 events.items) (premises_of self.new)) }
+        ensures facts { Facts self.new }
     {
         runs_tell_premises();
+        runs_show_facts();
         // That a world is in order.
         let _ = &self.network;
         let mut index = 0;

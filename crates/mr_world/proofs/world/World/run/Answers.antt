@@ -1,6 +1,7 @@
 use Rattle.std.proofs.Common.{◌≡◌, List, length, take, sym, ap, subst, arith}
 use Rattle.std.specs.Vec.Iter.{into_iter_items}
 use Rattle.mr_world.specs.declared.event.Event.{Event}
+use Rattle.mr_world.specs.Facts.{Facts, IsFaithfulWorld}
 use Rattle.mr_world.specs.Refusals.{IsStopped}
 use Rattle.mr_world.specs.Premises.{premises_of, PremisesAfter}
 use Rattle.mr_world.specs.Tracked.{IsTracked}
@@ -40,3 +41,21 @@ returns-clause-premises c =
     let over = c.in-None.ensures.steps.0 in
     let none : length (into_iter_items c.loop-event.event-iterator) ≡ 0 = omega arith in
     c.runs_tell_premises.ensures _ _ _ tracked (has_run_all _ _ _ _ _ (c.loop-event.invariant.2) none)
+
+pub returns-in-Err-clause-facts : goal.returns-in-Err-clause-facts
+returns-in-Err-clause-facts c =
+    let split = c.in-Some.ensures.steps.0 in
+    let so_far = subst (λ (l : List Event). HasRun c.args.self.now c.args.events.items c.loop-event.index l c.loop-event.self) split (c.loop-event.invariant.2) in
+    let tracked : IsTracked c.args.self.now = subst IsTracked c.self.view_is c.self.invariant.tracked in
+    let faithful : IsFaithfulWorld c.args.self.now = subst IsFaithfulWorld c.self.view_is c.self.invariant.faithful in
+    subst Facts (sym c.in-Err.ensures.unchanged)
+    (c.runs_show_facts.ensures _ _ _ tracked faithful (has_run_until _ _ _ c.in-Some.event _ _ so_far))
+
+pub returns-clause-facts : goal.returns-clause-facts
+returns-clause-facts c =
+    let tracked : IsTracked c.args.self.now = subst IsTracked c.self.view_is c.self.invariant.tracked in
+    let faithful : IsFaithfulWorld c.args.self.now = subst IsFaithfulWorld c.self.view_is c.self.invariant.faithful in
+    let counted = c.loop-event.event-iterator.rest.ok.0 in
+    let over = c.in-None.ensures.steps.0 in
+    let none : length (into_iter_items c.loop-event.event-iterator) ≡ 0 = omega arith in
+    c.runs_show_facts.ensures _ _ _ tracked faithful (has_run_all _ _ _ _ _ (c.loop-event.invariant.2) none)
