@@ -1,3 +1,4 @@
 pub mod Script
 pub mod Readings
+pub mod Clocks
 pub mod ClockError

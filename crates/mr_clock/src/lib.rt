@@ -4,6 +4,7 @@
 mod clock;
 mod error;
 mod fixed_clock;
+pub mod laws;
 mod list_clock;
 mod readings;
 

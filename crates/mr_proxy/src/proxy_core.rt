@@ -1,5 +1,5 @@
 //! One proxy: the requests under way, and what each step does to them.
-ghost use Rattle.std.specs.Prelude.{◌≡◌, ◌≢◌, ◌-◌, ◌^◌, ◌≤◌, ◌<◌, ◌↔◌, length, All, Some, None, IsTrue, IsOk, OnOk, OnErr, IfOk, IfErr, MatchOption};
+ghost use Rattle.std.specs.Prelude.{◌≡◌, ◌≢◌, ◌-◌, ◌^◌, ◌≤◌, ◌<◌, ◌↔◌, length, All, Some, None, IsTrue, IsOk, OnOk, OnErr, IfOk, IfErr, MatchOption, is_some};
 ghost use Rattle.std.specs.Option.{option_copied};
 ghost use Rattle.mr_text.specs.declared.request.Request.{Request};
 ghost use Rattle.mr_phases.specs.Schedule.{IsSchedule};
@@ -295,6 +295,13 @@ impl ProxyCore {
         ensures sound { IsSound self.now }
     {
         self.outstanding.len()
+    }
+
+    /// Whether the request of this op is under way.
+    pub fn is_outstanding(&self, op: OpId) -> bool
+        ensures { result ≡ is_some (given_up_of self.now op) }
+    {
+        position_of(&self.outstanding, op).is_some()
     }
 
     /// How many legs may answer yet. Every request may have many, so the count is wider than that of requests.

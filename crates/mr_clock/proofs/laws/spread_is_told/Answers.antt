@@ -1,0 +1,5 @@
+use Rattle.mr_clock.proofs.ClockLemmas.{spread_is_told_lem}
+use Rattle.mr_clock.proofs.laws.spread_is_told.Goals as goal
+
+pub returns : goal.returns
+returns c = spread_is_told_lem

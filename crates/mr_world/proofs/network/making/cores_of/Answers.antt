@@ -1,0 +1,18 @@
+use Rattle.std.proofs.Common.{sym, ap, subst, length, All, arith}
+use Rattle.std.proofs.lemmas.List.Elements.{All-push}
+use Rattle.std.specs.Vec.Iter.{into_iter_items}
+use Rattle.mr_proxy.specs.Sound.{IsSound}
+use Rattle.mr_world.proofs.NetworkLemmas.{cores_more}
+use Rattle.mr_world.proofs.network.making.cores_of.Goals as goal
+
+pub loop-proxy-preserved : goal.loop-proxy-preserved
+loop-proxy-preserved c =
+    let split = c.in-Some.ensures.steps.0 in
+    let kept = c.loop-proxy.invariant in (
+      tt,
+      tt,
+      cores_more c.loop-proxy.number _ c.loop-proxy.cores.items c.push.new.self.items c.new-core.result c.in-Some.proxy (into_iter_items c.loop-proxy.proxy-iterator)
+          (into_iter_items c.next.new.self) split c.new-core.ensures c.in_ok-push.ensures.items (kept.2),
+      subst (All IsSound) (sym c.in_ok-push.ensures.items) (All-push IsSound c.loop-proxy.cores.items c.new-core.result (kept.3) c.outstanding-none.ensures.sound),
+      (let room = kept.4 in let fewer = ap length split in omega arith),
+    )

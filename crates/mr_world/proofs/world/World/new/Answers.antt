@@ -1,0 +1,16 @@
+use Rattle.mr_world.proofs.FactLemmas.{facts_of}
+use Rattle.mr_world.proofs.world.World.new.Goals as goal
+
+pub invariant_of-result : goal.invariant_of-result
+invariant_of-result c = record {
+  tracked = c.setups_begin_tracked.ensures c.args.setup c.in_ok-network.network.world (c.in_ok-network.ensures.begins.1) c.in_ok-network.ensures.sound;
+  faithful = c.setups_begin_faithful.ensures c.args.setup c.in_ok-network.network.world (c.in_ok-network.ensures.begins.1);
+  numbers = c.in_ok-network.ensures.numbers;
+}
+
+pub returns-clause-premises : goal.returns-clause-premises
+returns-clause-premises c = c.setups_tell_premises.ensures c.args.setup c.in_ok-network.network.world (c.in_ok-network.ensures.begins.1)
+
+pub returns-clause-facts : goal.returns-clause-facts
+returns-clause-facts c =
+    facts_of c.in_ok-network.network.world (c.setups_begin_faithful.ensures c.args.setup c.in_ok-network.network.world (c.in_ok-network.ensures.begins.1))

@@ -1,0 +1,11 @@
+pub mod WorldError
+pub mod Lists
+pub mod Positions
+pub mod WorldView
+pub mod Steps
+pub mod Refusals
+pub mod Setup
+pub mod Premises
+pub mod Tracked
+pub mod Facts
+pub mod Network

@@ -1,0 +1,26 @@
+//! A fleet of proxies with its nodes and its network, played event by event.
+#![tactic(auto)]
+
+mod error;
+mod event;
+pub mod laws;
+mod message;
+mod network;
+mod node;
+mod note;
+mod numbers;
+mod premises;
+mod setup;
+mod terms;
+mod world;
+
+pub use error::WorldError;
+pub use event::Event;
+pub use message::{Delivery, Message};
+pub use note::Note;
+pub use premises::Premises;
+pub use setup::{HeldItem, ProxySetup, Setup};
+pub use world::World;
+
+#[cfg(test)]
+mod tests;

@@ -1,0 +1,260 @@
+//! A fleet as it is made of its setup.
+ghost use Rattle.std.specs.Prelude.{◌≡◌, ◌↔◌, ◌⊎◌, ◌^◌, ◌<◌, length, map, fold, All, IsTrue, IfOk, IfErr};
+ghost use Rattle.mr_proxy.specs.Sound.{IsSound};
+ghost use Rattle.mr_world.specs.declared.error.WorldError.TheVariants.{NoSuchNode, OutOfMemory};
+ghost use Rattle.mr_world.specs.Setup.{CanBeMade, Begins, NamesNode, IsNamed, with_name, with_pool, with_routing, nodes_of, hold, held_entry, proxies_from};
+ghost use Rattle.mr_world.specs.Positions.{number_of};
+ghost use Rattle.mr_clock.specs.Readings.{readings_at_first};
+ghost use Rattle.mr_world.specs.Tracked.{numbers_of};
+
+use crate::error::WorldError;
+use crate::network::Network;
+use crate::node::{Node, find_node, number_of};
+use crate::numbers::NodeNumbers;
+use crate::setup::{HeldItem, ProxySetup, Setup};
+use crate::terms::{Terms, has_node};
+use mr_clock::Readings;
+use mr_history::{Author, Entry, History};
+use mr_node::{CacheNode, NodeCommand, Perform};
+use mr_pools::{NodeName, Pool, Routing};
+use mr_proxy::ProxyCore;
+use std::alloc::{AllocError, Global};
+
+/// Whether a routing has a node of this name.
+fn names_node(routing: &Routing, name: &NodeName) -> bool
+    ensures { IsTrue result ↔ NamesNode routing.now name.now }
+{
+    for pool in 0..routing.pools().len() {
+        if has_node(routing, pool, name) {
+            return true;
+        }
+    }
+    false
+}
+
+/// Whether some proxy's routing has a node of this name.
+fn is_named(proxies: &[ProxySetup], name: &NodeName) -> bool
+    ensures { IsTrue result ↔ IsNamed proxies.now name.now }
+{
+    for proxy in proxies {
+        if names_node(&proxy.routing, name) {
+            return true;
+        }
+    }
+    false
+}
+
+/// Whether there is a node for each item that is held, which could hold something.
+fn can_be_made(setup: &Setup) -> bool
+    ensures { IsTrue result ↔ CanBeMade setup.now }
+{
+    if setup.capacity() == 0 && !setup.proxies().is_empty() {
+        return false;
+    }
+    for item in setup.held() {
+        if !is_named(setup.proxies(), &item.node) {
+            return false;
+        }
+    }
+    true
+}
+
+/// Adds a node of this name, unless there is one.
+fn add_name(nodes: &mut Vec<Node>, capacity: usize, name: &NodeName) -> Result<(), AllocError>
+    ensures { IfOk result (λ _. nodes.new.items ≡ with_name capacity nodes.old.items name.now) }
+{
+    if number_of(nodes, name) < nodes.len() {
+        return Ok(());
+    }
+    let name = name.copy()?;
+    let Ok(cache) = CacheNode::new(*nodes.allocator(), capacity) else {
+        return Err(AllocError);
+    };
+    nodes.push(Node { name, cache })?;
+    Ok(())
+}
+
+/// Adds the nodes of a pool.
+fn add_pool(nodes: &mut Vec<Node>, capacity: usize, pool: &Pool) -> Result<(), AllocError>
+    ensures { IfOk result (λ _. nodes.new.items ≡ with_pool capacity nodes.old.items pool.now) }
+{
+    for name in pool.names() {
+        add_name(nodes, capacity, name)?;
+    }
+    Ok(())
+}
+
+/// Adds the nodes of a routing.
+fn add_routing(nodes: &mut Vec<Node>, capacity: usize, routing: &Routing) -> Result<(), AllocError>
+    ensures { IfOk result (λ _. nodes.new.items ≡ with_routing capacity nodes.old.items routing.now) }
+{
+    for pool in routing.pools() {
+        add_pool(nodes, capacity, pool)?;
+    }
+    Ok(())
+}
+
+/// The nodes of all routings, empty.
+fn empty_nodes(
+    alloc: Global,
+    capacity: usize,
+    proxies: &[ProxySetup],
+) -> Result<Vec<Node>, AllocError>
+    ensures { IfOk result (λ nodes. nodes.items ≡ nodes_of capacity proxies.now) }
+{
+    let mut nodes = Vec::new(alloc);
+    for proxy in proxies {
+        add_routing(&mut nodes, capacity, &proxy.routing)?;
+    }
+    Ok(nodes)
+}
+
+/// What the history says of an item that is held.
+fn entry_of(item: &HeldItem) -> Result<Entry, AllocError>
+    ensures { IfOk result (λ entry. entry ≡ held_entry item.now) }
+{
+    Ok(Entry::Stored {
+        by: Author::Beginning,
+        key: item.key.copy()?,
+        flags: item.flags,
+        block: item.block.copy()?,
+    })
+}
+
+/// The item's node holds it.
+fn hold_item(nodes: &mut [Node], item: HeldItem) -> Result<(), AllocError>
+    ensures { IfOk result (λ _. nodes.new ≡ hold nodes.old item) }
+{
+    let HeldItem {
+        node,
+        key,
+        flags,
+        block,
+    } = item;
+    let Some(number) = find_node(nodes, &node) else {
+        return Ok(());
+    };
+    let command = NodeCommand::Set {
+        key,
+        flags,
+        exptime: 0,
+        block,
+    };
+    let node = &mut nodes[number];
+    let _stored = node.cache.perform(0, command)?;
+    Ok(())
+}
+
+/// The nodes hold the items in order, and the history says so.
+fn hold_items(
+    alloc: Global,
+    nodes: &mut [Node],
+    items: Vec<HeldItem>,
+) -> Result<History, WorldError>
+    ensures nodes { IfOk result (λ _. nodes.new ≡ fold hold nodes.old items.items) }
+    ensures history { IfOk result (λ history. history.entries ≡ map held_entry items.items) }
+    ensures memory { IfErr result (λ e. e ≡ OutOfMemory) }
+{
+    let mut history = History::new(alloc)?;
+    for item in items {
+        history.reserve(1)?;
+        history.push(entry_of(&item)?);
+        hold_item(nodes, item)?;
+    }
+    Ok(history)
+}
+
+/// The numbers of the nodes of a pool.
+fn numbers_in(alloc: Global, nodes: &[Node], pool: &Pool) -> Result<Vec<usize>, AllocError>
+    ensures { IfOk result (λ numbers. numbers.items ≡ map (number_of nodes.now) pool.now) }
+{
+    let mut numbers = Vec::with_capacity(alloc, pool.len())?;
+    for name in pool.names() {
+        numbers.push(number_of(nodes, name))?;
+    }
+    Ok(numbers)
+}
+
+/// The numbers of the nodes that each proxy's routing names.
+fn numbers_of(
+    alloc: Global,
+    nodes: &Vec<Node>,
+    proxies: &Vec<ProxyCore>,
+) -> Result<Vec<NodeNumbers>, AllocError>
+    ensures { IfOk result (λ numbers. numbers.items ≡ numbers_of nodes.now.items proxies.now.items) }
+{
+    let mut numbers = Vec::with_capacity(alloc, proxies.len())?;
+    for proxy in proxies {
+        let old = numbers_in(alloc, nodes, proxy.routing().old_pool())?;
+        let new = numbers_in(alloc, nodes, proxy.routing().new_pool())?;
+        numbers.push(NodeNumbers::new(old, new))?;
+    }
+    Ok(numbers)
+}
+
+/// The first reading of each proxy's clock.
+fn readings_of(alloc: Global, proxies: &[ProxySetup]) -> Result<Readings, AllocError>
+    ensures { IfOk result (λ readings. readings ≡ readings_at_first (map (λ proxy. proxy.reading) proxies.now)) }
+{
+    let mut readings = Vec::with_capacity(alloc, proxies.len())?;
+    for proxy in proxies {
+        readings.push(proxy.reading)?;
+    }
+    Ok(Readings::new(readings))
+}
+
+/// The proxies, none of which accepted a request yet.
+fn cores_of(alloc: Global, proxies: Vec<ProxySetup>) -> Result<Vec<ProxyCore>, AllocError>
+    requires { length proxies.items < 2 ^ 32 }
+    ensures proxies { IfOk result (λ cores. cores.items ≡ proxies_from 0 proxies.items) }
+    ensures sound { IfOk result (λ cores. All IsSound cores.items) }
+{
+    let mut cores = Vec::with_capacity(alloc, proxies.len())?;
+    let mut number = 0;
+    for proxy in proxies {
+        let ProxySetup {
+            routing,
+            schedule,
+            room,
+            reading: _,
+        } = proxy;
+        let core = ProxyCore::new(alloc, number, 0, routing, schedule, room);
+        // That whoever holds a proxy knows it to be sound.
+        let _none = core.outstanding();
+        cores.push(core)?;
+        number += 1;
+    }
+    Ok(cores)
+}
+
+impl Network {
+    /// The fleet of a setup, or NoSuchNode where it can't be made.
+    pub(crate) fn new(alloc: Global, setup: Setup) -> Result<Network, WorldError>
+        requires { length setup.proxies < 2 ^ 32 }
+        ensures begins { IfOk result (λ network. CanBeMade setup × Begins setup network.world) }
+        ensures sound { IfOk result (λ network. All IsSound network.world.proxies) }
+        ensures numbers { IfOk result (λ network. network.numbers ≡ numbers_of network.world.nodes network.world.proxies) }
+        ensures refused { IfErr result (λ e. ((e ≡ NoSuchNode) × ¬ CanBeMade setup) ⊎ ((e ≡ OutOfMemory) × CanBeMade setup)) }
+    {
+        if !can_be_made(&setup) {
+            return Err(WorldError::NoSuchNode);
+        }
+        let terms = Terms::of(&setup);
+        let mut nodes = empty_nodes(alloc, setup.capacity(), setup.proxies())?;
+        let (proxies, held) = setup.into_parts();
+        let history = hold_items(alloc, &mut nodes, held)?;
+        let readings = readings_of(alloc, &proxies)?;
+        let proxies = cores_of(alloc, proxies)?;
+        let numbers = numbers_of(alloc, &nodes, &proxies)?;
+        Ok(Network {
+            readings,
+            proxies,
+            numbers,
+            nodes,
+            sent: Vec::new(alloc),
+            replies: Vec::new(alloc),
+            history,
+            terms,
+        })
+    }
+}
