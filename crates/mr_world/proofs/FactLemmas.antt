@@ -30,12 +30,13 @@ use Rattle.mr_proxy.specs.declared.taken.Taken.TheVariants as taken
 use Rattle.mr_proxy.specs.Slots.{is_awaiting, open_slot}
 use Rattle.mr_proxy.specs.Pending.{PendingView, is_same_op, is_complete, with_reply, with_reply_in}
 use Rattle.mr_proxy.specs.Answer.{AnswerView, answer_of, reply_of}
-use Rattle.mr_proxy.specs.Issue.{commands_of, next_op, used_reading, sheets_by, sheets_of, pending_of, after_issue}
+use Rattle.mr_proxy.specs.Sheets.{commands_of}
+use Rattle.mr_proxy.specs.Issue.{next_op, used_reading, sheets_by, sheets_of, pending_of, after_issue}
 use Rattle.mr_proxy.specs.ProxyView.{ProxyView}
 use Rattle.mr_proxy.specs.Sheets.{IsSheetOf}
 use Rattle.mr_proxy.specs.Whole.{IsWhole}
 use Rattle.mr_proxy.specs.Sound.{IsSound, IsSoundPending, IsSoundAnswer, HasFound, WasDeleted, sheet_of}
-use Rattle.mr_proxy.specs.Steps.{place_of_op, pending_with, noted_by, settled, after_take, taken_by, taken_of, left_by, after_give_up, given_up_in, given_up_of, after_restart}
+use Rattle.mr_proxy.specs.Transitions.{place_of_op, pending_with, noted_by, settled, after_take, taken_by, taken_of, left_by, after_give_up, given_up_in, given_up_of, after_restart}
 use Rattle.mr_world.specs.declared.event.Event.{Event}
 use Rattle.mr_world.specs.declared.event.Event.TheVariants.{Clock, Client, Deliver, Return, GiveUp, NodeRestart, ProxyRestart}
 use Rattle.mr_world.specs.declared.message.Message.{Message}

@@ -24,7 +24,8 @@ use Rattle.mr_proxy.specs.declared.sheet.LegSheet.{LegSheet}
 use Rattle.mr_proxy.specs.declared.error.ProxyError.{ProxyError}
 use Rattle.mr_proxy.specs.declared.error.ProxyError.TheVariants.{NumbersSpent}
 use Rattle.mr_proxy.specs.Issue.{refusal_of}
-use Rattle.mr_proxy.specs.Sound.{HasLegs, IsPlaced}
+use Rattle.mr_proxy.specs.Sound.{HasLegs}
+use Rattle.mr_proxy.specs.Sheets.{IsPlaced}
 use Rattle.mr_proxy.specs.ProxyView.{ProxyView, fresh_proxy}
 use Rattle.mr_proxy.specs.Sheets.{pool_at}
 use Rattle.mr_world.specs.declared.error.WorldError.{WorldError}
@@ -233,8 +234,7 @@ valid_has_legs kind.Quit no_quit valid = absurd (no_quit refl)
 pub placed_there : (routing : RoutingView) (sheets : List LegSheet) → IsRouting routing → All (IsPlaced routing) sheets → (sheet : LegSheet) → Has sheets sheet
     → HasNode routing (pool_at sheet) sheet.node
 placed_there routing sheets r all sheet h =
-    let placed = subst (IsPlaced routing) (get_or_from_slice_get sheets h.place sheet sheet h.there.gets) (all h.place sheet (at_within h.there)) in
-    record { pool = pool_there routing sheet.side r; within = placed }
+    subst (IsPlaced routing) (get_or_from_slice_get sheets h.place sheet sheet h.there.gets) (all h.place sheet (at_within h.there))
 
 -- a network of which nothing changed
 

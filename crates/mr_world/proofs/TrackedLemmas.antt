@@ -27,13 +27,15 @@ use Rattle.mr_proxy.specs.declared.sheet.LegSheet.{LegSheet}
 use Rattle.mr_proxy.specs.declared.taken.Taken.{Taken}
 use Rattle.mr_proxy.specs.declared.taken.Taken.TheVariants as taken
 use Rattle.mr_proxy.specs.Answer.{AnswerView, reply_of}
-use Rattle.mr_proxy.specs.Issue.{next_op, used_reading, sheets_by, sheets_of, pending_of, after_issue, pool_number, key_of}
+use Rattle.mr_proxy.specs.Issue.{next_op, used_reading, sheets_by, sheets_of, pending_of, after_issue}
+use Rattle.mr_phases.specs.Pools.{pool_number}
+use Rattle.mr_node.specs.Command.{key_of}
 use Rattle.mr_proxy.specs.Pending.{PendingView}
 use Rattle.mr_proxy.specs.ProxyView.{ProxyView}
 use Rattle.mr_proxy.specs.Sheets.{pool_at, IsSheetOf}
 use Rattle.mr_proxy.specs.Sound.{ProxyStep, IsSoundPending, IsSound, WasGivenOut, HasLegs}
 use Rattle.mr_proxy.specs.Sound.ProxyStep.{issues, takes, gives_up, restarts}
-use Rattle.mr_proxy.specs.Steps.{taken_of, after_take, given_up_of, after_give_up, after_restart}
+use Rattle.mr_proxy.specs.Transitions.{taken_of, after_take, given_up_of, after_give_up, after_restart}
 use Rattle.mr_world.specs.declared.event.Event.{Event}
 use Rattle.mr_world.specs.declared.event.Event.TheVariants.{Clock, Client, Deliver, Return, GiveUp, NodeRestart, ProxyRestart}
 use Rattle.mr_world.specs.declared.message.Message.{Message}
@@ -235,7 +237,7 @@ sent_nodes nodes H K k new m s = record { node = (let below = s.node in let coun
 
 -- a leg goes to a node of its pool
 
-pub pool_there : (routing : RoutingView) (side : Side) → IsRouting routing → pool_number side < length routing.pools
+pub pool_there : (routing : RoutingView) (side : Side) → IsRouting routing → pool_number 0 side < length routing.pools
 pool_there routing Old r = let two = r.migrates in omega arith
 pool_there routing New r = let two = r.migrates in omega arith
 

@@ -15,7 +15,7 @@ use Rattle.mr_join.specs.declared.leg_reply.LegReply.TheVariants.{Hit}
 use Rattle.mr_node.specs.declared.command.NodeCommand.TheVariants as command
 use Rattle.mr_phases.specs.declared.side.Side.{Side}
 use Rattle.mr_proxy.specs.declared.slot.Slot.{Slot}
-use Rattle.mr_proxy.specs.Issue.{commands_of}
+use Rattle.mr_proxy.specs.Sheets.{commands_of}
 use Rattle.mr_proxy.specs.Pending.{PendingView}
 use Rattle.mr_proxy.specs.ProxyView.{ProxyView}
 use Rattle.mr_world.specs.declared.message.Message.{Message}

@@ -9,7 +9,7 @@ use Rattle.mr_proxy.specs.declared.error.ProxyError.TheVariants.{NumbersSpent}
 use Rattle.mr_proxy.specs.Answer.{AnswerView}
 use Rattle.mr_proxy.specs.Issue.{refusal_of}
 use Rattle.mr_proxy.specs.ProxyView.{ProxyView}
-use Rattle.mr_proxy.specs.Steps.{given_up_of}
+use Rattle.mr_proxy.specs.Transitions.{given_up_of}
 use Rattle.mr_world.specs.declared.error.WorldError.{WorldError}
 use Rattle.mr_world.specs.declared.error.WorldError.TheVariants.{NoSuchProxy, NoSuchNode, NoSuchMessage, IssueRefused, OutOfMemory, NoSuchOp}
 use Rattle.mr_world.specs.declared.event.Event.{Event}

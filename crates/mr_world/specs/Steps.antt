@@ -22,7 +22,7 @@ use Rattle.mr_proxy.specs.Issue.{next_op, sheets_of, refusal_of, after_issue}
 use Rattle.mr_proxy.specs.ProxyView.{ProxyView}
 use Rattle.mr_proxy.specs.Sheets.{pool_at}
 use Rattle.mr_proxy.specs.Sound.{HasLegs}
-use Rattle.mr_proxy.specs.Steps.{taken_of, after_take, given_up_of, after_give_up, after_restart}
+use Rattle.mr_proxy.specs.Transitions.{taken_of, after_take, given_up_of, after_give_up, after_restart}
 use Rattle.mr_world.specs.declared.event.Event.{Event}
 use Rattle.mr_world.specs.declared.event.Event.TheVariants.{Clock, Client, Deliver, Return, GiveUp, NodeRestart, ProxyRestart}
 use Rattle.mr_world.specs.declared.message.Message.{Message}

@@ -1,6 +1,6 @@
 //! The numbers of the nodes that a routing names, so that a message is sent without a search.
 ghost use Rattle.std.specs.Prelude.{◌≡◌, ◌<◌, ℕ, [], length, slice_index_or, slice_get, Some};
-ghost use Rattle.mr_proxy.specs.Issue.{pool_number};
+ghost use Rattle.mr_phases.specs.Pools.{pool_number};
 
 use mr_phases::Side;
 use std::marker::Model;
@@ -32,8 +32,8 @@ impl NodeNumbers {
 
     /// The number of the node at an index of a side's pool.
     pub(crate) fn number(&self, side: Side, index: u32) -> usize
-        requires { index < length (slice_index_or self.now (pool_number side) []) }
-        ensures { slice_get (slice_index_or self.now (pool_number side) []) index ≡ Some result }
+        requires { index < length (slice_index_or self.now (pool_number 0 side) []) }
+        ensures { slice_get (slice_index_or self.now (pool_number 0 side) []) index ≡ Some result }
     {
         match side {
             Side::Old => self.old[index as usize],

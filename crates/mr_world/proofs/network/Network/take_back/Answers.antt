@@ -2,7 +2,7 @@ use Rattle.std.proofs.Common.{◌≡◌, ◌<◌, List, ◌++◌, length, refl, 
 use Rattle.mr_history.specs.declared.entry.Entry.{Entry}
 use Rattle.mr_history.specs.Places.{At}
 use Rattle.mr_join.specs.declared.leg_reply.LegReply.{LegReply}
-use Rattle.mr_proxy.specs.Steps.{taken_of}
+use Rattle.mr_proxy.specs.Transitions.{taken_of}
 use Rattle.mr_world.specs.contracts.network.Network.{the_view}
 use Rattle.mr_world.specs.Network.{IsReady}
 use Rattle.mr_world.specs.Steps.{answered_by, note_of}
