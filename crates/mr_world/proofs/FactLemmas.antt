@@ -1,5 +1,5 @@
 -- Each step keeps what every fleet shows.
-use Rattle.std.proofs.Common.{◌≡◌, ℕ, zero, suc, ◌+◌, ◌<◌, ◌≤◌, ◌==◌, ◌&&◌, ◌⊎◌, inl, inr, Bool, true, false, not, cond, List, [], ◌∷◌, ◌++◌, length, map, take, get_or, remove, slice_get, slice_set, ℤ, All, Contains, Option, Some, None, if◌then◌else◌, refl, sym, ap, subst, ◌∙◌, arith}
+use Rattle.std.proofs.Common.{◌≡◌, ℕ, suc, ◌+◌, ◌<◌, ◌≤◌, ◌==◌, ◌&&◌, ◌⊎◌, inl, inr, Bool, true, false, not, cond, List, [], ◌∷◌, ◌++◌, length, map, remove, slice_get, slice_set, ℤ, All, Contains, Option, Some, None, if◌then◌else◌, refl, sym, ap, subst, ◌∙◌, arith}
 use Rattle.std.specs.List.{position_or_len}
 use Rattle.std.specs.Option.{option_and_then}
 use Rattle.std.proofs.lemmas.Bool.{cases_order, eqb-true}
@@ -13,7 +13,7 @@ use Rattle.mr_history.specs.declared.op_id.OpId.{OpId}
 use Rattle.mr_history.specs.declared.entry.Author.TheVariants.{By}
 use Rattle.mr_history.specs.declared.entry.Entry.{Entry}
 use Rattle.mr_history.specs.declared.entry.Entry.TheVariants.{Issued, Stored, Removed, Answered}
-use Rattle.mr_history.specs.History.{IsIssued, WasIssued, WasAnswered, IsAcknowledged, IsWellFormed}
+use Rattle.mr_history.specs.History.{IsIssued, WasIssued, IsAcknowledged, IsWellFormed}
 use Rattle.mr_history.specs.Places.{At}
 use Rattle.mr_join.specs.declared.leg_reply.LegReply.{LegReply}
 use Rattle.mr_join.specs.declared.leg_reply.LegReply.TheVariants.{Hit}
@@ -42,14 +42,14 @@ use Rattle.mr_world.specs.declared.event.Event.TheVariants.{Clock, Client, Deliv
 use Rattle.mr_world.specs.declared.message.Message.{Message}
 use Rattle.mr_world.specs.declared.message.Delivery.{Delivery}
 use Rattle.mr_world.specs.declared.note.Note.{Note}
-use Rattle.mr_world.specs.Facts.{IsRemovedBetween, DeletesArePerformed, WasSet, WasDelete, StoredWereSet, RemovedWereDeleted, CameBack, WasFound, HitsCameBack, Facts, IsTold, AllRemoved, IsSlotOf, HasSlot, IsUnderWay, IsFaithful}
+use Rattle.mr_world.specs.Facts.{IsRemovedBetween, WasSet, WasDelete, CameBack, WasFound, Facts, IsTold, IsSlotOf, IsUnderWay, IsFaithful}
 use Rattle.mr_world.specs.declared.setup.HeldItem.{HeldItem}
 use Rattle.mr_world.specs.Lists.{Has}
 use Rattle.mr_world.specs.Setup.{SetupView, held_entry, Begins}
 use Rattle.mr_world.specs.Steps.{message_of, performed, answered, answered_by, Issues, Asks, Delivers, Returns, GivesUp, Restarts, WorldStep}
 use Rattle.mr_world.specs.Tracked.{IsTracked, IsWaiting}
 use Rattle.mr_world.specs.WorldView.{WorldView}
-use Rattle.mr_world.proofs.Lists.{at_within, at_one, at_left, at_right, at_before, at_cases, at_last, at_new, at_take, at_taken, at_none, at_set, has_left, has_right, has_cases, has_head, has_one, has_none, has_map, has_mapped, has_set, has_kept, has_written, has_removed, get_mapped}
+use Rattle.mr_world.proofs.Lists.{at_within, at_one, at_left, at_before, at_cases, at_last, at_new, at_take, at_taken, at_none, at_set, has_left, has_right, has_cases, has_head, has_one, has_none, has_map, has_mapped, has_set, has_kept, has_written, has_removed, get_mapped}
 use Rattle.mr_world.proofs.StartLemmas.{proxy_from}
 use Rattle.mr_world.proofs.TrackedLemmas.{no_answer_performed, answered_one}
 

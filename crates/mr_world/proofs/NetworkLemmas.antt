@@ -1,5 +1,5 @@
 -- What the calls of a network come to.
-use Rattle.std.proofs.Common.{◌≡◌, ◌≢◌, ℕ, zero, suc, not, cond, position, bytes_eq, ◌+◌, ◌-◌, ◌^◌, ◌<◌, ◌≤◌, ◌==◌, nat_lt, inl, inr, Bool, true, false, List, [], ◌∷◌, ◌++◌, length, map, All, get_or, slice_get, slice_set, slice_index_or, Option, Some, None, if◌then◌else◌, refl, sym, ap, subst, ◌∙◌, arith}
+use Rattle.std.proofs.Common.{◌≡◌, ◌≢◌, ℕ, zero, suc, not, cond, position, bytes_eq, ◌+◌, ◌-◌, ◌^◌, ◌<◌, ◌≤◌, nat_lt, inl, inr, Bool, true, false, List, [], ◌∷◌, ◌++◌, length, map, All, get_or, slice_get, slice_set, slice_index_or, Option, Some, None, if◌then◌else◌, refl, sym, ap, subst, ◌∙◌, arith}
 use Rattle.std.proofs.lemmas.Bool.{le-leb, cases_order}
 use Rattle.std.proofs.lemmas.Bool.Decides.{eqb_tells}
 use Rattle.std.proofs.lemmas.List.{length-map, get_or-map}
@@ -18,7 +18,7 @@ use Rattle.mr_history.specs.History.{WasIssued, Fits}
 use Rattle.mr_history.specs.Places.{At}
 use Rattle.mr_node.specs.declared.command.NodeCommand.{NodeCommand}
 use Rattle.mr_node.specs.declared.command.NodeCommand.TheVariants.{Get, Set, Delete}
-use Rattle.mr_pools.specs.Names.{HasNode, name_at}
+use Rattle.mr_pools.specs.Names.{HasNode}
 use Rattle.mr_pools.specs.Routing.{RoutingView, IsRouting, pool_of}
 use Rattle.mr_proxy.specs.declared.sheet.LegSheet.{LegSheet}
 use Rattle.mr_proxy.specs.declared.error.ProxyError.{ProxyError}

@@ -1,11 +1,10 @@
 -- The premises after a run are those before it and what its events keep.
-use Rattle.std.proofs.Common.{◌≡◌, ◌↔◌, ℕ, ◌≤◌, Bool, true, false, not, nat_le, IsTrue, List, [], ◌∷◌, ◌++◌, map, fold, flat_map, refl, sym, ap, subst, ◌∙◌, arith}
+use Rattle.std.proofs.Common.{◌≡◌, ◌↔◌, ℕ, ◌≤◌, Bool, true, false, not, IsTrue, List, [], ◌∷◌, map, fold, refl, sym, ap, ◌∙◌, arith}
 use Rattle.std.proofs.lemmas.Bool.{leb-true, le-leb}
-use Rattle.std.proofs.lemmas.List.{append-nil}
 use Rattle.std.proofs.lemmas.List.Sums.{fold-append}
 use Rattle.mr_text.specs.declared.request.Request.{Request}
 use Rattle.mr_text.specs.declared.request.Request.TheVariants as request
-use Rattle.mr_clock.specs.Readings.{ReadingsView, AreWithin, Tick, spread_of, readings_at_first, readings_after}
+use Rattle.mr_clock.specs.Readings.{ReadingsView, AreWithin, Tick, spread_of, readings_after}
 use Rattle.mr_clock.specs.Clocks.{NeverGoesBack, StayWithin}
 use Rattle.mr_world.specs.declared.event.Event.{Event}
 use Rattle.mr_world.specs.declared.event.Event.TheVariants.{Clock, Client, Deliver, Return, GiveUp, NodeRestart, ProxyRestart}

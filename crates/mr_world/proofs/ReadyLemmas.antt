@@ -1,5 +1,5 @@
 -- Each call leaves a network ready for the next.
-use Rattle.std.proofs.Common.{◌≡◌, ℕ, zero, suc, ◌+◌, ◌<◌, ◌≤◌, List, [], ◌∷◌, ◌++◌, length, map, take, slice_get, slice_set, Option, Some, None, Result, Ok, Err, IfOk, refl, sym, ap, subst, ◌∙◌, arith}
+use Rattle.std.proofs.Common.{◌≡◌, ℕ, ◌+◌, List, [], ◌∷◌, ◌++◌, length, map, take, slice_get, slice_set, Some, Result, Ok, Err, IfOk, refl, sym, ap, subst, ◌∙◌, arith}
 use Rattle.std.proofs.lemmas.List.{append-nil}
 use Rattle.mr_text.specs.declared.request.Request.{Request}
 use Rattle.mr_text.specs.declared.request.Request.TheVariants as request
@@ -7,8 +7,8 @@ use Rattle.mr_history.specs.Places.{At}
 use Rattle.mr_pools.specs.Routing.{RoutingView}
 use Rattle.mr_proxy.specs.Issue.{after_issue}
 use Rattle.mr_proxy.specs.ProxyView.{ProxyView}
-use Rattle.mr_proxy.specs.Sound.ProxyStep.{issues, takes, gives_up, restarts}
-use Rattle.mr_proxy.specs.Transitions.{after_take, after_give_up, after_restart}
+use Rattle.mr_proxy.specs.Sound.ProxyStep.{takes, gives_up}
+use Rattle.mr_proxy.specs.Steps.{after_take, after_give_up, after_restart}
 use Rattle.mr_world.specs.declared.error.WorldError.{WorldError}
 use Rattle.mr_world.specs.declared.event.Event.{Event}
 use Rattle.mr_world.specs.declared.event.Event.TheVariants.{Clock, Client, Deliver, Return, GiveUp, NodeRestart, ProxyRestart}

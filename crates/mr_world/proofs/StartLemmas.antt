@@ -1,12 +1,11 @@
 -- A fleet as it is made is in order.
-use Rattle.std.proofs.Common.{◌≡◌, ◌↔◌, ℕ, zero, suc, ◌+◌, ◌<◌, ◌≤◌, ◌⊎◌, inl, inr, Bool, true, false, not, cond, nat_lt, take, List, [], ◌∷◌, ◌++◌, length, map, fold, All, bytes_eq, slice_get, slice_set, slice_index_or, get_or, Option, Some, None, if◌then◌else◌, refl, sym, ap, subst, ◌∙◌, arith}
+use Rattle.std.proofs.Common.{◌≡◌, ◌↔◌, ℕ, zero, suc, ◌+◌, ◌<◌, ◌≤◌, Bool, true, false, not, cond, nat_lt, take, List, [], ◌∷◌, ◌++◌, length, map, fold, All, bytes_eq, slice_get, Option, Some, None, if◌then◌else◌, refl, sym, ap, subst, ◌∙◌, arith}
 use Rattle.std.proofs.lemmas.List.{length-map}
 use Rattle.std.proofs.lemmas.Option.{slice_get-get_or, get_or_from_slice_get}
 use Rattle.std.proofs.lemmas.Slice.Eq.{bytes_eq-Decides}
 use borrow.Author.Tests.{ltb-true}
 use Rattle.mr_clock.specs.Readings.{AreWithin, spread_of}
 use Rattle.mr_history.specs.declared.entry.Entry.{Entry}
-use Rattle.mr_history.specs.declared.entry.Entry.TheVariants as entry
 use Rattle.mr_history.specs.History.{IsWellFormed, WasIssued, Fits}
 use Rattle.mr_history.specs.Places.{At}
 use Rattle.mr_pools.specs.Names.{HasNode, name_at}
@@ -16,10 +15,9 @@ use Rattle.mr_proxy.specs.Sound.{IsSound}
 use Rattle.mr_world.specs.declared.node.Node.{Node}
 use Rattle.mr_world.specs.declared.setup.HeldItem.{HeldItem}
 use Rattle.mr_world.specs.declared.setup.ProxySetup.{ProxySetup}
-use Rattle.mr_world.specs.Lists.{Has}
-use Rattle.mr_world.specs.Setup.{SetupView, with_name, with_pool, with_routing, nodes_of, nodes_at_first, with_item, hold, hold_at, held_entry, proxies_from, empty_node, Begins}
+use Rattle.mr_world.specs.Setup.{SetupView, with_name, with_pool, with_routing, nodes_of, with_item, hold, hold_at, held_entry, proxies_from, empty_node, Begins}
 use Rattle.mr_world.specs.Positions.{number_of}
-use Rattle.mr_world.specs.Tracked.{IsAtHome, IsTracked}
+use Rattle.mr_world.specs.Tracked.{IsTracked}
 use Rattle.mr_world.specs.WorldView.{WorldView}
 use Rattle.mr_world.proofs.Lists.{at_none, at_within, has_map, length_set}
 use Rattle.mr_world.proofs.TrackedLemmas.{number_written}

@@ -1,21 +1,18 @@
 -- Each step keeps what holds of every fleet.
-use Rattle.std.proofs.Common.{◌≡◌, ◌↔◌, max, ℕ, zero, suc, ◌+◌, ◌<◌, ◌≤◌, ◌%◌, ◌⊎◌, inl, inr, Bool, true, false, List, [], ◌∷◌, ◌++◌, length, map, bytes_eq, slice_get, slice_set, slice_index_or, Option, Some, None, if◌then◌else◌, refl, sym, ap, subst, ◌∙◌, not, cond, arith}
+use Rattle.std.proofs.Common.{◌≡◌, ◌↔◌, max, ℕ, zero, suc, ◌+◌, ◌<◌, ◌≤◌, ◌%◌, ◌⊎◌, inl, inr, Bool, true, false, List, [], ◌∷◌, ◌++◌, length, map, bytes_eq, slice_get, slice_set, Some, if◌then◌else◌, refl, sym, ap, subst, ◌∙◌, not, cond, arith}
 use Rattle.std.proofs.lemmas.List.{append-nil}
 use Rattle.std.proofs.lemmas.Nat.{mod_below}
 use Rattle.std.proofs.lemmas.Option.{get_or_from_slice_get}
-use Rattle.std.specs.List.{position_or_len, prefix_len}
 use Rattle.mr_text.specs.declared.request.Request.{Request}
 use Rattle.mr_text.specs.declared.request.Request.TheVariants as request
 use Rattle.mr_clock.specs.Readings.{AreWithin, spread_of}
 use Rattle.mr_history.specs.declared.op_id.OpId.{OpId}
 use Rattle.mr_history.specs.declared.entry.Entry.{Entry}
 use Rattle.mr_history.specs.declared.entry.Entry.TheVariants as entry
-use Rattle.mr_history.specs.History.{IsIssued, WasIssued, WasAnswered, Fits, IsWellFormed}
+use Rattle.mr_history.specs.History.{WasIssued, WasAnswered, Fits, IsWellFormed}
 use Rattle.mr_history.specs.Places.{At}
-use Rattle.mr_join.specs.declared.leg_reply.LegReply.{LegReply}
 use Rattle.mr_node.specs.declared.command.NodeCommand.{NodeCommand}
 use Rattle.mr_node.specs.declared.command.NodeCommand.TheVariants.{Get, Set, Delete}
-use Rattle.mr_node.specs.Recency.{CacheView}
 use Rattle.mr_phases.specs.declared.side.Side.{Side}
 use Rattle.mr_phases.specs.declared.side.Side.TheVariants.{Old, New}
 use Rattle.mr_phases.specs.Schedule.{Hop}
@@ -33,9 +30,9 @@ use Rattle.mr_node.specs.Command.{key_of}
 use Rattle.mr_proxy.specs.Pending.{PendingView}
 use Rattle.mr_proxy.specs.ProxyView.{ProxyView}
 use Rattle.mr_proxy.specs.Sheets.{pool_at, IsSheetOf}
-use Rattle.mr_proxy.specs.Sound.{ProxyStep, IsSoundPending, IsSound, WasGivenOut, HasLegs}
+use Rattle.mr_proxy.specs.Sound.{ProxyStep, IsSoundPending, IsSound, WasGivenOut}
 use Rattle.mr_proxy.specs.Sound.ProxyStep.{issues, takes, gives_up, restarts}
-use Rattle.mr_proxy.specs.Transitions.{taken_of, after_take, given_up_of, after_give_up, after_restart}
+use Rattle.mr_proxy.specs.Steps.{taken_of, after_take, after_give_up, after_restart}
 use Rattle.mr_world.specs.declared.event.Event.{Event}
 use Rattle.mr_world.specs.declared.event.Event.TheVariants.{Clock, Client, Deliver, Return, GiveUp, NodeRestart, ProxyRestart}
 use Rattle.mr_world.specs.declared.message.Message.{Message}
@@ -43,12 +40,12 @@ use Rattle.mr_world.specs.declared.message.Delivery.{Delivery}
 use Rattle.mr_world.specs.declared.node.Node.{Node}
 use Rattle.mr_world.specs.declared.note.Note.{Note}
 use Rattle.mr_world.specs.Lists.{Has}
-use Rattle.mr_world.specs.Steps.{message_of, performed, is_noreply, answered, answered_by, Ticks, Quits, Issues, Asks, Delivers, Returns, GivesUp, Empties, Restarts, WorldStep}
+use Rattle.mr_world.specs.Steps.{message_of, performed, is_noreply, answered, answered_by, Ticks, Issues, Asks, Delivers, Returns, GivesUp, Empties, Restarts, WorldStep}
 use Rattle.mr_world.specs.Positions.{number_of}
 use Rattle.mr_world.specs.Tracked.{IsAtHome, IsUnanswered, IsWaiting, IsSent, IsGivenOut, IsTracked}
 use Rattle.mr_world.specs.WorldView.{WorldView}
 use Rattle.mr_world.proofs.Lists.{at_within, at_one, at_left, at_cases, at_last, at_new, has_one, has_none, has_map, at_set, at_kept, at_written, length_set, length_left, at_taken, at_none}
-use Rattle.mr_world.proofs.ProxyLemmas.{Keeps, step_keeps, StaysUnderWay, AnswersPending, stays_after_take, taken_answers, stays_after_give_up, given_up_answers}
+use Rattle.mr_world.proofs.ProxyLemmas.{step_keeps, AnswersPending, stays_after_take, taken_answers, stays_after_give_up, given_up_answers}
 
 -- the laws of the layers below
 pub record Laws : Type 0 where

@@ -1,5 +1,5 @@
 -- The premises of a run: of the setup, of the first readings and of the events.
-use Rattle.std.specs.Prelude.{◌≡◌, ◌↔◌, ℕ, Bool, true, not, nat_le, IsTrue, List, [], ◌∷◌, map, flat_map}
+use Rattle.std.specs.Prelude.{◌≡◌, ◌↔◌, not, nat_le, IsTrue, List, [], ◌∷◌, map, flat_map}
 use Rattle.mr_clock.specs.Clocks.{NeverGoesBack, StayWithin}
 use Rattle.mr_clock.specs.Readings.{AreWithin, Tick}
 use Rattle.mr_world.specs.declared.event.Event.{Event}

@@ -1,5 +1,5 @@
 -- What a fleet is made of, and how it is at the beginning.
-use Rattle.std.specs.Prelude.{◌≡◌, ◌↔◌, ◌⊎◌, ℕ, ◌+◌, ◌<◌, ◌≤◌, pos, min, Bool, IsTrue, List, [], ◌∷◌, ◌++◌, All, AllPairs, Contains, length, map, fold, nat_lt, slice_get, slice_set, Option, Some, None, if◌then◌else◌}
+use Rattle.std.specs.Prelude.{◌≡◌, ◌↔◌, ◌⊎◌, ℕ, ◌+◌, ◌<◌, ◌≤◌, pos, min, IsTrue, List, [], ◌∷◌, ◌++◌, All, AllPairs, Contains, length, map, fold, nat_lt, slice_get, slice_set, Option, Some, None, if◌then◌else◌}
 use Rattle.mr_clock.specs.Readings.{readings_at_first}
 use Rattle.mr_history.specs.declared.entry.Author.TheVariants.{Beginning}
 use Rattle.mr_history.specs.declared.entry.Entry.{Entry}

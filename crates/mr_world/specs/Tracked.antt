@@ -1,5 +1,5 @@
 -- What holds of every fleet, whatever happened.
-use Rattle.std.specs.Prelude.{◌≡◌, ℕ, ◌<◌, List, [], length, map, get_or}
+use Rattle.std.specs.Prelude.{◌≡◌, ℕ, ◌<◌, List, length, map}
 use Rattle.mr_clock.specs.Readings.{AreWithin}
 use Rattle.mr_history.specs.declared.entry.Entry.{Entry}
 use Rattle.mr_history.specs.declared.op_id.OpId.{OpId}

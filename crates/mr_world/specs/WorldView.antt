@@ -1,5 +1,5 @@
 -- A fleet as contracts see it.
-use Rattle.std.specs.Prelude.{ℕ, List}
+use Rattle.std.specs.Prelude.{List}
 use Rattle.mr_clock.specs.Readings.{ReadingsView}
 use Rattle.mr_history.specs.declared.entry.Entry.{Entry}
 use Rattle.mr_proxy.specs.ProxyView.{ProxyView}

@@ -1,4 +1,4 @@
-use Rattle.std.proofs.Common.{sym, ◌∙◌}
+use Rattle.std.proofs.Common.{sym}
 use Rattle.mr_world.proofs.NetworkLemmas.{found_node, no_node}
 use Rattle.mr_world.proofs.node.number_of.Goals as goal
 

@@ -1,4 +1,4 @@
-use Rattle.std.proofs.Common.{sym, ap, length, arith}
+use Rattle.std.proofs.Common.{ap, length, arith}
 use Rattle.std.specs.Vec.Iter.{into_iter_items}
 use Rattle.mr_world.specs.Network.{HasNumber}
 use Rattle.mr_world.proofs.NetworkLemmas.{sent_more, all_rest}
