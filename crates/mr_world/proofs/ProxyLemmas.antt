@@ -13,7 +13,7 @@ use Rattle.mr_proxy.specs.Slots.{is_awaiting}
 use Rattle.mr_proxy.specs.Pending.{PendingView, is_complete, with_reply, with_reply_in}
 use Rattle.mr_proxy.specs.Answer.{AnswerView, answer_of}
 use Rattle.mr_proxy.specs.ProxyView.{ProxyView}
-use Rattle.mr_proxy.specs.Steps.{place_of_op, pending_with, noted_by, settled, after_take, taken_by, taken_of, left_by, after_give_up, given_up_in, given_up_of}
+use Rattle.mr_proxy.specs.Transitions.{place_of_op, pending_with, noted_by, settled, after_take, taken_by, taken_of, left_by, after_give_up, given_up_in, given_up_of}
 use Rattle.mr_proxy.specs.Sound.{ProxyStep, IsSound}
 use Rattle.mr_proxy.specs.Sound.ProxyStep.{issues, takes, gives_up, restarts}
 use Rattle.mr_world.specs.Lists.{Has}

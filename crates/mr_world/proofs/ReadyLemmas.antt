@@ -8,7 +8,7 @@ use Rattle.mr_pools.specs.Routing.{RoutingView}
 use Rattle.mr_proxy.specs.Issue.{after_issue}
 use Rattle.mr_proxy.specs.ProxyView.{ProxyView}
 use Rattle.mr_proxy.specs.Sound.ProxyStep.{takes, gives_up}
-use Rattle.mr_proxy.specs.Steps.{after_take, after_give_up, after_restart}
+use Rattle.mr_proxy.specs.Transitions.{after_take, after_give_up, after_restart}
 use Rattle.mr_world.specs.declared.error.WorldError.{WorldError}
 use Rattle.mr_world.specs.declared.event.Event.{Event}
 use Rattle.mr_world.specs.declared.event.Event.TheVariants.{Clock, Client, Deliver, Return, GiveUp, NodeRestart, ProxyRestart}

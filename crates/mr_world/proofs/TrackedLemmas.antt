@@ -32,7 +32,7 @@ use Rattle.mr_proxy.specs.ProxyView.{ProxyView}
 use Rattle.mr_proxy.specs.Sheets.{pool_at, IsSheetOf}
 use Rattle.mr_proxy.specs.Sound.{ProxyStep, IsSoundPending, IsSound, WasGivenOut}
 use Rattle.mr_proxy.specs.Sound.ProxyStep.{issues, takes, gives_up, restarts}
-use Rattle.mr_proxy.specs.Steps.{taken_of, after_take, after_give_up, after_restart}
+use Rattle.mr_proxy.specs.Transitions.{taken_of, after_take, after_give_up, after_restart}
 use Rattle.mr_world.specs.declared.event.Event.{Event}
 use Rattle.mr_world.specs.declared.event.Event.TheVariants.{Clock, Client, Deliver, Return, GiveUp, NodeRestart, ProxyRestart}
 use Rattle.mr_world.specs.declared.message.Message.{Message}

@@ -7,7 +7,7 @@ use Rattle.mr_history.specs.History.{Fits}
 use Rattle.mr_history.specs.HistoryView.{HistoryView}
 use Rattle.mr_history.specs.Places.{At}
 use Rattle.mr_proxy.specs.Issue.{next_op, sheets_of}
-use Rattle.mr_proxy.specs.Sound.{IsPlaced}
+use Rattle.mr_proxy.specs.Sheets.{IsPlaced}
 use Rattle.mr_world.specs.contracts.network.Network.{the_view}
 use Rattle.mr_world.specs.declared.note.Note.TheVariants.{Issued}
 use Rattle.mr_world.specs.Network.{IsReady, message_by}
