@@ -80,6 +80,7 @@ fn get<P: Perform>(alloc: Global, node: &mut P, now: u64, keys: KeyList) -> Repl
     }
 }
 
+/// The items under these keys, in their order, or the cause of the first failure, after which no key is looked up.
 fn look_up_all<P: Perform>(
     alloc: Global,
     node: &mut P,
@@ -96,6 +97,7 @@ fn look_up_all<P: Perform>(
         return Err(Cause::OutOfMemory);
     };
     for key in keys {
+        // No key is empty, so as many items as fit a line of keys fit an answer.
         prove!(key.len() > 0);
         if let Some(item) = look_up(node, now, key)? {
             items.push_reserved(item);

@@ -40,6 +40,7 @@ fn put_first(items: &mut Vec<(Key, CachedItem)>, named: (Key, CachedItem))
     requires { vec_len items.old < vec_capacity items.old }
     ensures { items.new.items ≡ named ∷ items.old.items }
 {
+    // There is room, so no memory is taken, and it can't fail.
     let _ = items.insert(0, named);
 }
 

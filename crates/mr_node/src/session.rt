@@ -12,7 +12,7 @@ use mr_text::{
 };
 use thiserror::Error;
 
-/// The most bytes that one read may bring.
+/// How many bytes there is room for in each read.
 pub const READ_LENGTH: usize = 4096;
 
 /// Why a session ended early.
@@ -35,9 +35,9 @@ pub enum SessionFault {
 /// What one step of a session came to.
 #[derive(Clone, Copy, Debug, PartialEq, Eq)]
 pub enum Step {
-    /// A request was read, and what it asked for was done and answered.
+    /// What was read is answered, where it gets an answer: a request that was done, or a line with an unknown command.
     Served,
-    /// No request is whole.
+    /// No request is whole: more has to be read, or all was.
     Waits,
     /// The session ends so.
     Ends(Ended),
