@@ -70,8 +70,8 @@ impl Draft {
         Ok(())
     }
 
-    #[tactic(auto, using(crate::proofs::DraftLemmas::get_added, crate::proofs::DraftLemmas::get_count))]
     /// Adds a get's legs: one for each key.
+    #[tactic(auto, using(crate::proofs::DraftLemmas::get_added, crate::proofs::DraftLemmas::get_count))]
     fn add_gets(
         &mut self,
         routing: &Routing,
@@ -89,8 +89,8 @@ impl Draft {
         Ok(())
     }
 
-    #[tactic(auto, using(crate::proofs::DraftLemmas::delete_added, crate::proofs::DraftLemmas::delete_count))]
     /// Adds a delete's legs: one for each side.
+    #[tactic(auto, using(crate::proofs::DraftLemmas::delete_added, crate::proofs::DraftLemmas::delete_count))]
     fn add_deletes(
         &mut self,
         routing: &Routing,
@@ -108,8 +108,8 @@ impl Draft {
         Ok(())
     }
 
-    #[tactic(auto, using(crate::proofs::DraftLemmas::few_keys))]
     /// The legs of a request that is judged by this reading.
+    #[tactic(auto, using(crate::proofs::DraftLemmas::few_keys))]
     pub(crate) fn of(
         alloc: Global,
         routing: &Routing,

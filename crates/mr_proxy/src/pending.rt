@@ -136,8 +136,8 @@ impl Pending {
         self.awaited -= 1;
     }
 
-    #[tactic(auto, using(crate::proofs::OpenLemmas::noted_last))]
     /// Notes a reply that the leg of that place awaits, and hands any other back.
+    #[tactic(auto, using(crate::proofs::OpenLemmas::noted_last))]
     pub(crate) fn take(&mut self, place: u32, reply: LegReply) -> Noted
         ensures noted { result ≡ noted_as reply (with_reply self.old place reply) }
         ensures state { self.new ≡ unwrap_or (with_reply self.old place reply) self.old }

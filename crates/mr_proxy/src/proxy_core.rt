@@ -65,8 +65,8 @@ impl Model for ProxyCore {
     }) };
 }
 
-#[tactic(auto, using(std::proofs::lemmas::List::Sums::position_or_len_is))]
 /// Where the request of an op stands among those under way.
+#[tactic(auto, using(std::proofs::lemmas::List::Sums::position_or_len_is))]
 fn position_of(outstanding: &[Pending], op: OpId) -> Option<usize>
     ensures { MatchOption result
         (length outstanding.now ≤ place_of_op outstanding.now op)
@@ -333,8 +333,8 @@ impl ProxyCore {
             && self.room == other.room
     }
 
-    #[tactic(auto, using(crate::proofs::DraftLemmas::get_length, crate::proofs::DraftLemmas::delete_length))]
     /// How many legs an issue would make, or why it would be refused: NumbersSpent, or else NoRoom.
+    #[tactic(auto, using(crate::proofs::DraftLemmas::get_length, crate::proofs::DraftLemmas::delete_length))]
     pub fn would_issue(&self, reading: u64, request: &Request) -> Result<u64, ProxyError>
         requires { request.now ≢ Request.Quit }
         ensures legs { IfOk result (λ legs. (refusal_of self.now ≡ None) × (legs ≡ length (sheets_of self.now reading request.now))) }

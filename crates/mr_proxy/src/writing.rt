@@ -15,8 +15,8 @@ use mr_text::{
     write_server_error,
 };
 
-#[tactic(auto, using(crate::proofs::JoinLemmas::found_by_worst, crate::proofs::JoinLemmas::failed_by_worst))]
 /// Writes the joined reply of the legs of a request.
+#[tactic(auto, using(crate::proofs::JoinLemmas::found_by_worst, crate::proofs::JoinLemmas::failed_by_worst))]
 pub(crate) fn write_joined<W: Sink>(
     request: &Request,
     slots: &[Slot],
@@ -61,8 +61,8 @@ fn put_found<W: Sink>(
     put_end(buffer, writer)
 }
 
-#[tactic(auto, using(crate::proofs::WritingLemmas::hits_keys, crate::proofs::WritingLemmas::hits_slots))]
 /// Puts what the legs of these keys found.
+#[tactic(auto, using(crate::proofs::WritingLemmas::hits_keys, crate::proofs::WritingLemmas::hits_slots))]
 fn put_hits<W: Sink>(
     keys: &[Key],
     slots: &[Slot],
@@ -97,8 +97,8 @@ fn put_hit<W: Sink>(
     }
 }
 
-#[tactic(auto, using(crate::proofs::WritingLemmas::parts_by))]
 /// The reply to a set or a delete whose worst leg came to this, or to a get that failed by it.
+#[tactic(auto, using(crate::proofs::WritingLemmas::parts_by))]
 fn write_outcome<W: Sink>(outcome: &LegReply, writer: &mut W) -> Result<(), WriteFault>
     ensures text { Writes (canonical_reply (reply_by outcome.now)) (W.told writer.old) result (W.told writer.new) }
     ensures calls { TakesFewCalls (canonical_reply (reply_by outcome.now)) (parts_of_reply (reply_by outcome.now)) (W.told writer.old) (W.told writer.new) }
