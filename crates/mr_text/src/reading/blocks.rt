@@ -1,3 +1,4 @@
+//! Whether a block is there, with its end.
 ghost use Rattle.std.specs.Prelude.{◌≡◌, ◌+◌, ◌^◌, ◌<◌, ◌≤◌, true, length};
 ghost use Rattle.mr_text.specs.steps.Reading.{block_reading};
 

@@ -1,3 +1,4 @@
+//! Where a line ends, and which bytes are the line's.
 ghost use Rattle.std.specs.Prelude.{◌≡◌, ◌<◌, ◌≤◌, length, IfSome, IfOk, MatchResult, MatchOption};
 ghost use Rattle.mr_text.specs.steps.Reading.{byte_place, line_reading, line_reading_at, line_read_to};
 ghost use Rattle.mr_text.specs.steps.Reading.Reading.{Waits, Gives, Refused};

@@ -1,3 +1,4 @@
+//! What decimal digits say, within a bound.
 ghost use Rattle.std.specs.Prelude.{◌≡◌, ◌≤◌, ◌^◌, pos, neg_ℤ, IfSome};
 ghost use Rattle.mr_text.specs.steps.Reading.{number_in, signed_in};
 

@@ -1,3 +1,4 @@
+//! The reply at the front of some bytes: found over the bytes, and then copied out.
 ghost use Rattle.std.specs.Prelude.{◌≡◌, ◌≤◌, Some, is_none, drop, length, IfOk};
 ghost use Rattle.mr_text.specs.Block.{IsBlock};
 ghost use Rattle.mr_text.specs.Key.{IsKey};

@@ -1,3 +1,4 @@
+//! What a line of a reply says.
 ghost use Rattle.std.specs.Prelude.{◌≡◌, ◌≤◌, drop, length, IfOk};
 ghost use Rattle.mr_text.specs.Text.{words_of};
 ghost use Rattle.mr_text.specs.steps.ReplyReading.{ReplyLine, first_line, next_line, item_line, item_line_within, lone_line, drop_spaces};

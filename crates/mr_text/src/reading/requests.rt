@@ -1,3 +1,4 @@
+//! The request at the front of some bytes: found over the bytes, and then copied out.
 ghost use Rattle.std.specs.Prelude.{◌≡◌, ◌≤◌, length, IfOk};
 ghost use Rattle.mr_text.specs.steps.RequestView.{IsFound, IsWhole, said_request};
 ghost use Rattle.mr_text.specs.steps.CommandView.{AreKeys};

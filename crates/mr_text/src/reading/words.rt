@@ -1,3 +1,4 @@
+//! The words of a line, one by one.
 ghost use Rattle.std.specs.Prelude.{◌≡◌, ◌≢◌, ◌∷◌, [], ◌<◌, ◌≤◌, drop, length, slice_get, Some, IfSome, MatchOption};
 ghost use Rattle.mr_text.specs.Text.{words_of};
 ghost use Rattle.mr_text.specs.steps.ReplyReading.{drop_spaces};
