@@ -24,7 +24,8 @@ use Rattle.mr_proxy.specs.declared.sheet.LegSheet.{LegSheet}
 use Rattle.mr_proxy.specs.declared.taken.Taken.{Taken}
 use Rattle.mr_proxy.specs.declared.taken.Taken.TheVariants as taken
 use Rattle.mr_proxy.specs.Answer.{AnswerView, reply_of}
-use Rattle.mr_proxy.specs.Issue.{next_op, used_reading, sheets_by, sheets_of, pending_of, after_issue}
+use Rattle.mr_proxy.specs.Issue.{next_op, used_reading, sheets_of, pending_of, after_issue}
+use Rattle.mr_proxy.specs.Sheets.{sheets_by}
 use Rattle.mr_phases.specs.Pools.{pool_number}
 use Rattle.mr_node.specs.Command.{key_of}
 use Rattle.mr_proxy.specs.Pending.{PendingView}
