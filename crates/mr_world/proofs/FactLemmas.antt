@@ -50,7 +50,7 @@ use Rattle.mr_world.specs.Setup.{SetupView, held_entry, Begins}
 use Rattle.mr_world.specs.Steps.{message_of, performed, answered, answered_by, Issues, Asks, Delivers, Returns, GivesUp, Restarts, WorldStep}
 use Rattle.mr_world.specs.Tracked.{IsTracked, IsWaiting}
 use Rattle.mr_world.specs.WorldView.{WorldView}
-use Rattle.mr_world.proofs.Lists.{at_within, at_one, at_left, at_before, at_cases, at_last, at_new, at_take, at_taken, at_none, at_set, has_left, has_right, has_cases, has_head, has_one, has_none, has_map, has_mapped, has_set, has_kept, has_written, has_removed, get_mapped}
+use Rattle.mr_world.proofs.Lists.{test_holds, at_within, at_one, at_left, at_before, at_cases, at_last, at_new, at_take, at_taken, at_none, at_set, has_left, has_right, has_cases, has_head, has_one, has_none, has_map, has_mapped, has_set, has_kept, has_written, has_removed, get_mapped}
 use Rattle.mr_world.proofs.StartLemmas.{proxy_from}
 use Rattle.mr_world.proofs.TrackedLemmas.{no_answer_performed, answered_one}
 
@@ -364,16 +364,6 @@ module _ (says : (routing : RoutingView) (hops : List Hop) (op : OpId) (u : ℕ)
 
 -- what becomes of a request under way that takes a reply
 
--- a test holds at the first place where it does
-test_holds : {X : Type 0} (test : X → Bool) (xs : List X) (x : X) → slice_get xs (position_or_len test xs) ≡ Some x → test x ≡ true
-test_holds test [] x e = cc
-test_holds test (y ∷ xs) x e =
-    elim (test y) as (λ b. test y ≡ b → slice_get (y ∷ xs) (cond (not b) (1 + position_or_len test xs) 0) ≡ Some x → test x ≡ true) [
-      | true ↦ λ passes there. (let same : y ≡ x = cc in subst (λ z. test z ≡ true) same passes)
-      | false ↦ λ fails there. test_holds test xs x (let next : 1 + position_or_len test xs ≡ suc (position_or_len test xs) = omega arith in
-          subst (λ (k : ℕ). slice_get (y ∷ xs) k ≡ Some x) next there)
-    ] refl e
-
 both : (a b : Bool) → (a && b) ≡ true → (a ≡ true) × (b ≡ true)
 both true b e = (refl, e)
 both false b e = cc
@@ -684,8 +674,8 @@ module _ (L : FactLaws) where
   step_faithful w (NodeRestart node) note new step formed t f = subst (λ (x : WorldView). IsFaithful x.proxies x.sent x.replies x.history) (sym step.becomes) f
   step_faithful w (ProxyRestart proxy) note new step formed t f = restarts_faithful w proxy note new step f
 
-pub facts_of : (w : WorldView) → IsFaithful w.proxies w.sent w.replies w.history → Facts w
-facts_of w f = record { deletes = f.deletes; sets = f.sets; removals = f.removals; hits = f.hits }
+pub facts_of : (w : WorldView) → IsTracked w → IsFaithful w.proxies w.sent w.replies w.history → Facts w
+facts_of w t f = record { nodes = λ message has. t.goes has.place message has.there; deletes = f.deletes; sets = f.sets; removals = f.removals; hits = f.hits }
 
 held_entries : (items : List HeldItem) (e : Entry) → Has (map held_entry items) e → (item : HeldItem) × (e ≡ held_entry item)
 held_entries items e h = let (item, has, is) = has_map held_entry items h in (item, is)

@@ -1,5 +1,6 @@
 -- Places in lists that only grow, and in lists of which one element changes.
-use Rattle.std.proofs.Common.{◌≡◌, ℕ, zero, suc, ◌+◌, ◌<◌, ◌≤◌, ◌⊎◌, List, [], ◌∷◌, ◌++◌, length, take, drop, get_or, slice_get, slice_set, remove, Some, map, refl, ap, sym, ◌∙◌, subst, inl, inr, arith}
+use Rattle.std.specs.List.{position_or_len}
+use Rattle.std.proofs.Common.{Bool, true, false, not, cond, ◌≡◌, ℕ, zero, suc, ◌+◌, ◌<◌, ◌≤◌, ◌⊎◌, List, [], ◌∷◌, ◌++◌, length, take, drop, get_or, slice_get, slice_set, remove, Some, map, refl, ap, sym, ◌∙◌, subst, inl, inr, arith}
 use Rattle.std.proofs.lemmas.Option.{slice_get_within, slice_get_read, none-some}
 use Rattle.std.proofs.lemmas.Bool.{cases_order}
 use Rattle.mr_history.specs.Places.{At}
@@ -239,3 +240,13 @@ get_take (suc n) (y ∷ ys) (suc i) x l e = get_take n ys i x (omega arith) e
 
 pub at_take : {X : Type 0} (n : ℕ) (xs : List X) {i : ℕ} {x : X} → i < n → At xs i x → At (take n xs) i x
 at_take n xs {i = i} {x = x} l h = record { gets = get_take n xs i x l h.gets }
+
+-- a test holds at the first place where it does
+pub test_holds : {X : Type 0} (test : X → Bool) (xs : List X) (x : X) → slice_get xs (position_or_len test xs) ≡ Some x → test x ≡ true
+test_holds test [] x e = cc
+test_holds test (y ∷ xs) x e =
+    elim (test y) as (λ b. test y ≡ b → slice_get (y ∷ xs) (cond (not b) (1 + position_or_len test xs) 0) ≡ Some x → test x ≡ true) [
+      | true ↦ λ passes there. (let same : y ≡ x = cc in subst (λ z. test z ≡ true) same passes)
+      | false ↦ λ fails there. test_holds test xs x (let next : 1 + position_or_len test xs ≡ suc (position_or_len test xs) = omega arith in
+          subst (λ (k : ℕ). slice_get (y ∷ xs) k ≡ Some x) next there)
+    ] refl e

@@ -170,7 +170,7 @@ has_stopped old events index event rest new e h refused = record {
 -- what a run shows
 
 pub run_facts : KeepsTracked → KeepsFaithful → (old : WorldView) (events : List Event) (new : WorldView) → IsTracked old → IsFaithfulWorld old → WorldRun old events new → Facts new
-run_facts keep stay old [] new tracked faithful run = subst Facts (sym run) (facts_of old faithful)
+run_facts keep stay old [] new tracked faithful run = subst Facts (sym run) (facts_of old tracked faithful)
 run_facts keep stay old (event ∷ events) new tracked faithful (middle, note, step, rest) =
     let tracked' = keep old middle event note tracked step in
     run_facts keep stay middle events new tracked' (stay old middle event note tracked tracked' faithful step) rest

@@ -171,6 +171,7 @@ begin_tracked law setup w b sound = record {
             subst (λ (x : ProxyView). IsThere (name_at x.routing pool index) w.nodes) (sym is) here;
       };
   sent = λ k m there. at_none (subst (λ l. At l k m) b.sent there);
+  goes = λ k m there. at_none (subst (λ l. At l k m) b.sent there);
   replies = λ k d there. at_none (subst (λ l. At l k d) b.replies there);
   formed = subst IsWellFormed (sym b.history) (held_formed setup.held);
   given_out = λ op was. absurd (not_issued setup.held (subst (λ h. WasIssued h op) b.history was));

@@ -1,6 +1,7 @@
 -- Each step keeps what holds of every fleet.
 use Rattle.std.proofs.Common.{◌≡◌, ◌↔◌, max, ℕ, zero, suc, ◌+◌, ◌<◌, ◌≤◌, ◌%◌, ◌⊎◌, inl, inr, Bool, true, false, List, [], ◌∷◌, ◌++◌, length, map, bytes_eq, slice_get, slice_set, Some, if◌then◌else◌, refl, sym, ap, subst, ◌∙◌, not, cond, arith}
 use Rattle.std.proofs.lemmas.List.{append-nil}
+use Rattle.std.proofs.lemmas.Slice.Eq.{bytes_eq-Decides}
 use Rattle.std.proofs.lemmas.Nat.{mod_below}
 use Rattle.std.proofs.lemmas.Option.{get_or_from_slice_get}
 use Rattle.mr_text.specs.declared.request.Request.{Request}
@@ -43,9 +44,9 @@ use Rattle.mr_world.specs.declared.note.Note.{Note}
 use Rattle.mr_world.specs.Lists.{Has}
 use Rattle.mr_world.specs.Steps.{message_of, performed, is_noreply, answered, answered_by, Ticks, Issues, Asks, Delivers, Returns, GivesUp, Empties, Restarts, WorldStep}
 use Rattle.mr_world.specs.Positions.{number_of}
-use Rattle.mr_world.specs.Tracked.{IsAtHome, IsUnanswered, IsWaiting, IsSent, IsGivenOut, IsTracked}
+use Rattle.mr_world.specs.Tracked.{GoesWhereNamed, IsAtHome, IsUnanswered, IsWaiting, IsSent, IsGivenOut, IsTracked}
 use Rattle.mr_world.specs.WorldView.{WorldView}
-use Rattle.mr_world.proofs.Lists.{at_within, at_one, at_left, at_cases, at_last, at_new, has_one, has_none, has_map, at_set, at_kept, at_written, length_set, length_left, at_taken, at_none}
+use Rattle.mr_world.proofs.Lists.{test_holds, at_there, at_within, at_one, at_left, at_cases, at_last, at_new, has_one, has_none, has_map, at_set, at_kept, at_written, length_set, length_left, at_taken, at_none}
 use Rattle.mr_world.proofs.ProxyLemmas.{step_keeps, AnswersPending, stays_after_take, taken_answers, stays_after_give_up, given_up_answers}
 
 -- the laws of the layers below
@@ -255,6 +256,41 @@ sheet_there L p t request sheet s h =
       ap (λ (id : LegId). id.op) says.named,
     )
 
+-- messages go where they are named
+
+goes_set : (nodes : List Node) (P : List ProxyView) (n : ℕ) (p q : ProxyView) (m : Message) → At P n p → q.routing ≡ p.routing → GoesWhereNamed P nodes m
+    → GoesWhereNamed (slice_set P n q) nodes m
+goes_set nodes P n p q m at same g =
+    elim (at_kept q at g.home) [
+      | inl e ↦ record {
+        proxy = q;
+        node = g.node;
+        home = subst (λ i. At (slice_set P n q) i q) (sym (e.0)) (at_written q at);
+        there = g.there;
+        named = g.named ∙ ap (λ (r : RoutingView). name_at r (pool_at m.sheet) m.sheet.node) (ap (λ (x : ProxyView). x.routing) (e.1) ∙ sym same);
+      }
+      | inr there ↦ record { proxy = g.proxy; node = g.node; home = there; there = g.there; named = g.named }
+    ]
+
+goes_nodes : (P : List ProxyView) (nodes : List Node) (k : ℕ) (old new : Node) (m : Message) → At nodes k old → new.name ≡ old.name → GoesWhereNamed P nodes m
+    → GoesWhereNamed P (slice_set nodes k new) m
+goes_nodes P nodes k old new m at same g =
+    elim (at_kept new at g.there) [
+      | inl e ↦ record {
+        proxy = g.proxy;
+        node = new;
+        home = g.home;
+        there = subst (λ i. At (slice_set nodes k new) i new) (sym (e.0)) (at_written new at);
+        named = same ∙ ap (λ (x : Node). x.name) (sym (e.1)) ∙ g.named;
+      }
+      | inr there ↦ record { proxy = g.proxy; node = g.node; home = g.home; there = there; named = g.named }
+    ]
+
+-- the node at the number of a name has that name
+number_named : (nodes : List Node) (name : List ℕ) (node : Node) → At nodes (number_of nodes name) node → node.name ≡ name
+number_named nodes name node at =
+    (bytes_eq-Decides node.name name).0 (test_holds (λ (x : Node). bytes_eq x.name name) nodes node at.gets)
+
 -- the entries that are pushed fit
 
 pub issue_fits : ((p : ProxyView) → WasGivenOut p (next_op p) → ⊥) → (w : WorldView) (n : ℕ) (p : ProxyView) (q : Request) → IsTracked w → At w.proxies n p → Fits w.history (entry.Issued (next_op p) n q)
@@ -283,6 +319,7 @@ ticks_tracked L w number reading note new step t =
       within = (L.within spread standing).0 bound;
       proxies = t.proxies;
       sent = t.sent;
+      goes = t.goes;
       replies = t.replies;
       formed = t.formed;
       given_out = t.given_out;
@@ -313,6 +350,22 @@ module _ (L : Laws) where
               let there = sheet_there L p u q sheet home.sound has in
               subst (IsSent w.nodes (w.history ++ e ∷ [])) (sym is)
               (record { node = home.named (pool_at sheet) sheet.node (there.0); issued = subst (WasIssued (w.history ++ e ∷ [])) (sym (there.1)) was })
+        ];
+        goes = λ k m there. elim (at_cases w.sent (map (message_of w.nodes p.routing) (sheets_of p u q)) there) [
+          | inl old ↦ goes_set w.nodes w.proxies n p after m step.home refl (t.goes k m old)
+          | inr fresh ↦
+              let (sheet, has, is) = has_map (message_of w.nodes p.routing) (sheets_of p u q) (fresh.1) in
+              let there = sheet_there L p u q sheet home.sound has in
+              let name = name_at p.routing (pool_at sheet) sheet.node in
+              let (node, at) = at_there w.nodes (number_of w.nodes name) (home.named (pool_at sheet) sheet.node (there.0)) in
+              let place : sheet.id.op.proxy ≡ n = ap (λ (o : OpId). o.proxy) (there.1) ∙ home.number in
+              subst (GoesWhereNamed (slice_set w.proxies n after) w.nodes) (sym is) (record {
+                proxy = after;
+                node = node;
+                home = subst (λ i. At (slice_set w.proxies n after) i after) (sym place) (at_written after step.home);
+                there = at;
+                named = number_named w.nodes name node at;
+              })
         ];
         replies = λ k d there. (let below = t.replies k d there in let longer = length_left w.sent (map (message_of w.nodes p.routing) (sheets_of p u q)) in omega arith);
         formed = L.keep_form w.history e t.formed fits;
@@ -355,6 +408,7 @@ module _ (L : Laws) where
         within = t.within;
         proxies = λ k p there. home_nodes w.nodes m.node step.node node k p step.there refl (t.proxies k p there);
         sent = λ k x there. sent_nodes w.nodes w.history K m.node node x (t.sent k x there);
+        goes = λ k x there. goes_nodes w.proxies w.nodes m.node step.node node x step.there refl (t.goes k x there);
         replies = λ k d there. elim (at_last w.replies delivery there) [
           | inl old ↦ t.replies k d old
           | inr fresh ↦ let below = at_within step.sent in let same = ap (λ (x : Delivery). x.message) (fresh.1) in omega arith
@@ -379,6 +433,7 @@ module _ (L : Laws) where
         within = t.within;
         proxies = home_set L w.nodes w.proxies step.sender p after step.home pstep t.proxies;
         sent = λ k x there. (let s = t.sent k x there in record { node = s.node; issued = was_left K s.issued });
+        goes = λ k x there. goes_set w.nodes w.proxies step.sender p after x step.home (step_keeps p after pstep).routing (t.goes k x there);
         replies = t.replies;
         formed = formed_grows L w.history K t.formed quiet.fitting;
         given_out = λ op was. given_set L w.proxies step.sender p after step.home pstep op (t.given_out op (quiet_issued quiet was));
@@ -414,6 +469,7 @@ module _ (L : Laws) where
         within = t.within;
         proxies = home_set L w.nodes w.proxies op.proxy p after step.home pstep t.proxies;
         sent = λ k x there. (let s = t.sent k x there in record { node = s.node; issued = was_left K s.issued });
+        goes = λ k x there. goes_set w.nodes w.proxies op.proxy p after x step.home (step_keeps p after pstep).routing (t.goes k x there);
         replies = t.replies;
         formed = formed_grows L w.history K t.formed quiet.fitting;
         given_out = λ other was. given_set L w.proxies op.proxy p after step.home pstep other (t.given_out other (quiet_issued quiet was));
@@ -443,6 +499,7 @@ module _ (L : Laws) where
         within = t.within;
         proxies = λ i p there. home_nodes w.nodes k step.node node i p step.there refl (t.proxies i p there);
         sent = λ i m there. (let s = t.sent i m there in record { node = (let below = s.node in let count = length_set w.nodes k node in omega arith); issued = s.issued });
+        goes = λ i m there. goes_nodes w.proxies w.nodes k step.node node m step.there refl (t.goes i m there);
         replies = t.replies;
         formed = t.formed;
         given_out = t.given_out;
@@ -459,6 +516,7 @@ module _ (L : Laws) where
         within = t.within;
         proxies = home_set L w.nodes w.proxies n p after step.home pstep t.proxies;
         sent = t.sent;
+        goes = λ k m there. goes_set w.nodes w.proxies n p after m step.home refl (t.goes k m there);
         replies = t.replies;
         formed = t.formed;
         given_out = λ op was. given_set L w.proxies n p after step.home pstep op (t.given_out op was);

@@ -21,7 +21,7 @@ use Rattle.mr_proxy.specs.ProxyView.{ProxyView}
 use Rattle.mr_world.specs.declared.message.Message.{Message}
 use Rattle.mr_world.specs.declared.message.Delivery.{Delivery}
 use Rattle.mr_world.specs.Lists.{Has}
-use Rattle.mr_world.specs.Tracked.{IsWaiting}
+use Rattle.mr_world.specs.Tracked.{IsWaiting, GoesWhereNamed}
 use Rattle.mr_world.specs.WorldView.{WorldView}
 
 -- the key was removed on this side by this op, between its issue and its answer
@@ -74,7 +74,12 @@ abbrev pub HitsCameBack : List Message → List Delivery → List Entry → Type
 HitsCameBack sent replies history =
     (get : OpId) (items : List Item) (item : Item) (answer : ℕ) → At history answer (Answered get (Items items)) → Has items item → WasFound sent replies get item
 
+-- each message goes to the node that its proxy's routing names
+abbrev pub MessagesGoWhereNamed : WorldView → Type 0
+MessagesGoWhereNamed w = (message : Message) → Has w.sent message → GoesWhereNamed w.proxies w.nodes message
+
 pub record Facts (w : WorldView) : Type 0 where
+  pub nodes : MessagesGoWhereNamed w
   pub deletes : DeletesArePerformed w.sent w.history
   pub sets : StoredWereSet w.history
   pub removals : RemovedWereDeleted w.history

@@ -8,6 +8,7 @@ use Rattle.mr_history.specs.Places.{At}
 use Rattle.mr_pools.specs.Names.{HasNode, name_at}
 use Rattle.mr_proxy.specs.Pending.{PendingView}
 use Rattle.mr_proxy.specs.ProxyView.{ProxyView}
+use Rattle.mr_proxy.specs.Sheets.{pool_at}
 use Rattle.mr_proxy.specs.Sound.{IsSound, WasGivenOut}
 use Rattle.mr_world.specs.declared.message.Message.{Message}
 use Rattle.mr_world.specs.declared.message.Delivery.{Delivery}
@@ -39,6 +40,14 @@ pub record IsSent (nodes : List Node) (history : List Entry) (message : Message)
   pub node : message.node < length nodes
   pub issued : WasIssued history message.sheet.id.op
 
+-- a message's node has the name that the routing of its proxy gives
+pub record GoesWhereNamed (proxies : List ProxyView) (nodes : List Node) (message : Message) : Type 0 where
+  pub proxy : ProxyView
+  pub node : Node
+  pub home : At proxies message.sheet.id.op.proxy proxy
+  pub there : At nodes message.node node
+  pub named : node.name ≡ name_at proxy.routing (pool_at message.sheet) message.sheet.node
+
 -- the op was given out by the proxy that it names
 pub record IsGivenOut (proxies : List ProxyView) (op : OpId) : Type 0 where
   pub proxy : ProxyView
@@ -50,6 +59,7 @@ pub record IsTracked (w : WorldView) : Type 0 where
   pub within : AreWithin w.readings.spread w.readings.standing
   pub proxies : (number : ℕ) (proxy : ProxyView) → At w.proxies number proxy → IsAtHome w.nodes number proxy
   pub sent : (number : ℕ) (message : Message) → At w.sent number message → IsSent w.nodes w.history message
+  pub goes : (number : ℕ) (message : Message) → At w.sent number message → GoesWhereNamed w.proxies w.nodes message
   pub replies : (number : ℕ) (delivery : Delivery) → At w.replies number delivery → delivery.message < length w.sent
   pub formed : IsWellFormed w.history
   pub given_out : (op : OpId) → WasIssued w.history op → IsGivenOut w.proxies op

@@ -13,4 +13,6 @@ returns-clause-premises c = c.setups_tell_premises.ensures c.args.setup c.in_ok-
 
 pub returns-clause-facts : goal.returns-clause-facts
 returns-clause-facts c =
-    facts_of c.in_ok-network.network.world (c.setups_begin_faithful.ensures c.args.setup c.in_ok-network.network.world (c.in_ok-network.ensures.begins.1))
+    let w = c.in_ok-network.network.world in
+    let begins = c.in_ok-network.ensures.begins.1 in
+    facts_of w (c.setups_begin_tracked.ensures c.args.setup w begins c.in_ok-network.ensures.sound) (c.setups_begin_faithful.ensures c.args.setup w begins)

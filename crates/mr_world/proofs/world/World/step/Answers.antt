@@ -16,4 +16,4 @@ returns-clause-facts c =
     let ready =
     does_ready c.steps_keep_tracked.ensures c.steps_keep_faithful.ensures c.self.inside.network c.args.event c.step.result c.step.new.self c.self.invariant
     c.step.ensures in
-    facts_of c.step.new.self.world ready.faithful
+    facts_of c.step.new.self.world ready.tracked ready.faithful
