@@ -21,6 +21,3 @@ pub use note::Note;
 pub use premises::Premises;
 pub use setup::{HeldItem, ProxySetup, Setup};
 pub use world::World;
-
-#[cfg(test)]
-mod tests;

@@ -24,14 +24,14 @@ pub fn op(proxy: u32, number: u64) -> OpId {
 }
 
 /// The only byte.
-fn only(bytes: &[u8]) -> u8 {
+pub fn only(bytes: &[u8]) -> u8 {
     match bytes {
         [byte] => *byte,
         _ => 0,
     }
 }
 
-fn tell_request(op: OpId, request: &Request) -> Told {
+pub fn tell_request(op: OpId, request: &Request) -> Told {
     match request {
         Request::Get { keys } => match keys.as_slice() {
             [key] => Told::Got(op, only(key.as_bytes())),
@@ -45,7 +45,7 @@ fn tell_request(op: OpId, request: &Request) -> Told {
     }
 }
 
-fn tell_reply(op: OpId, reply: &Reply) -> Told {
+pub fn tell_reply(op: OpId, reply: &Reply) -> Told {
     match reply {
         Reply::Items(items) => match items.as_slice() {
             [] => Told::Answered(op, "END"),
