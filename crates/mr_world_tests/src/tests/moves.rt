@@ -2,15 +2,13 @@
 use super::making::*;
 use super::*;
 
-/// What a client asks for, of the key `k`.
+/// What a client asks for, of a key of one byte. An answer is wanted where the second part isn't true.
 #[derive(Clone, Copy)]
 pub enum Asked {
-    Get,
+    Get(u8),
     /// A set of the data `v`.
-    Set,
-    Delete,
-    /// A delete whose answer isn't wanted.
-    SilentDelete,
+    Set(u8, bool),
+    Delete(u8, bool),
     Quit,
 }
 
@@ -21,8 +19,8 @@ pub enum Move {
     Clock(u32, u64),
     /// A client asks this proxy.
     Client(u32, Asked),
-    /// The message of this number reaches its node.
-    Deliver(usize),
+    /// The message of this number reaches its node at this reading.
+    Deliver(usize, u64),
     /// The reply of this number reaches its proxy.
     Return(usize),
     GiveUp(OpId),
@@ -34,19 +32,35 @@ pub enum Move {
 /// A move, and what becomes of it.
 pub type Row = (Move, Result<Note, WorldError>);
 
-fn silent_delete(alloc: Global) -> Result<Request, Fail> {
-    Ok(Request::Delete {
-        key: Key::new(alloc, b"k")?,
-        noreply: true,
+fn get_of(alloc: Global, key: Key) -> Result<Request, Fail> {
+    Ok(Request::Get {
+        keys: KeyList::new(vec![in alloc; key]?)?,
     })
+}
+
+fn set_of(alloc: Global, key: Key, noreply: bool) -> Result<Request, Fail> {
+    Ok(Request::Set {
+        key,
+        flags: 0,
+        exptime: 0,
+        block: Block::new(alloc, b"v")?,
+        noreply,
+    })
+}
+
+fn delete_of(key: Key, noreply: bool) -> Request {
+    Request::Delete { key, noreply }
+}
+
+fn key_of(alloc: Global, key: u8) -> Result<Key, Fail> {
+    Ok(Key::new(alloc, &[key])?)
 }
 
 fn request_of(alloc: Global, asked: Asked) -> Result<Request, Fail> {
     match asked {
-        Asked::Get => get(alloc),
-        Asked::Set => set(alloc),
-        Asked::Delete => delete(alloc),
-        Asked::SilentDelete => silent_delete(alloc),
+        Asked::Get(key) => get_of(alloc, key_of(alloc, key)?),
+        Asked::Set(key, noreply) => set_of(alloc, key_of(alloc, key)?, noreply),
+        Asked::Delete(key, noreply) => Ok(delete_of(key_of(alloc, key)?, noreply)),
         Asked::Quit => Ok(Request::Quit),
     }
 }
@@ -69,7 +83,7 @@ pub fn event_of(alloc: Global, it: Move) -> Result<Event, Fail> {
     match it {
         Move::Clock(proxy, reading) => Ok(Event::Clock { proxy, reading }),
         Move::Client(proxy, asked) => client(alloc, proxy, asked),
-        Move::Deliver(message) => Ok(Event::Deliver { message, now: 1 }),
+        Move::Deliver(message, now) => Ok(Event::Deliver { message, now }),
         Move::Return(reply) => Ok(Event::Return { reply }),
         Move::GiveUp(op) => Ok(Event::GiveUp { op }),
         Move::NodeRestart(name) => restart_of(alloc, name),

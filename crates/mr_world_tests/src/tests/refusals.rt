@@ -13,7 +13,7 @@ const FIRST: OpId = OpId {
 const NOT_THERE: [Row; 8] = [
     (Move::Clock(1, 5), Err(WorldError::NoSuchProxy)),
     (Move::Client(1, Asked::Quit), Err(WorldError::NoSuchProxy)),
-    (Move::Deliver(0), Err(WorldError::NoSuchMessage)),
+    (Move::Deliver(0, 1), Err(WorldError::NoSuchMessage)),
     (Move::Return(0), Err(WorldError::NoSuchMessage)),
     (Move::GiveUp(FIRST), Err(WorldError::NoSuchOp)),
     (Move::NodeRestart(b"7004"), Err(WorldError::NoSuchNode)),
@@ -64,7 +64,7 @@ fn made(alloc: Global, setup: Setup) -> Result<Result<World, WorldError>, Fail> 
 }
 
 const WITHOUT_ROOM: [Row; 1] = [(
-    Move::Client(0, Asked::Get),
+    Move::Client(0, Asked::Get(b'k')),
     Err(WorldError::IssueRefused(ProxyError::NoRoom)),
 )];
 
@@ -100,7 +100,7 @@ fn a_setup_is_copied(rt: HostRuntime) -> Result<(), Fail> {
 
 /// A delete, a message that was never sent, and a delete.
 fn events_that_stop(alloc: Global) -> Result<Vec<Event>, Fail> {
-    let first = event_of(alloc, Move::Client(0, Asked::Delete))?;
+    let first = event_of(alloc, Move::Client(0, Asked::Delete(b'k', false)))?;
     let copied = first.copy()?;
     let lost = Event::Deliver { message: 1, now: 0 };
     Ok(vec![in alloc; first, lost, copied]?)
@@ -119,7 +119,7 @@ fn a_run_stops_at_the_first_refused_event(rt: HostRuntime) -> Result<(), Fail> {
 
 const SILENT: [Row; 2] = [
     (
-        Move::Client(0, Asked::SilentDelete),
+        Move::Client(0, Asked::Delete(b'k', true)),
         Ok(Note::Issued {
             op: FIRST,
             first: 0,
@@ -137,14 +137,14 @@ fn a_noreply_delete_is_not_answered(rt: HostRuntime) -> Result<(), Fail> {
 const FORGETS: [Row; 4] = [
     (Move::NodeRestart(b"7002"), Ok(Note::Nothing)),
     (
-        Move::Client(0, Asked::Get),
+        Move::Client(0, Asked::Get(b'k')),
         Ok(Note::Issued {
             op: FIRST,
             first: 0,
             count: 1,
         }),
     ),
-    (Move::Deliver(0), Ok(Note::Performed { reply: 0 })),
+    (Move::Deliver(0, 1), Ok(Note::Performed { reply: 0 })),
     (Move::Return(0), Ok(Note::Answered { op: FIRST })),
 ];
 
