@@ -1,4 +1,5 @@
 //! Fleets, events and what is told of histories, in few words.
+use super::moves::{Asked, request_of};
 use super::*;
 
 /// What a history says in one entry, with keys and blocks of one byte.
@@ -134,27 +135,15 @@ pub fn held(alloc: Global, node: &[u8]) -> Result<HeldItem, Fail> {
 }
 
 pub fn get(alloc: Global) -> Result<Request, Fail> {
-    let key = Key::new(alloc, b"k")?;
-    Ok(Request::Get {
-        keys: KeyList::new(vec![in alloc; key]?)?,
-    })
+    request_of(alloc, Asked::Get(b'k'))
 }
 
 pub fn set(alloc: Global) -> Result<Request, Fail> {
-    Ok(Request::Set {
-        key: Key::new(alloc, b"k")?,
-        flags: 0,
-        exptime: 0,
-        block: Block::new(alloc, b"v")?,
-        noreply: false,
-    })
+    request_of(alloc, Asked::Set(b'k', false))
 }
 
 pub fn delete(alloc: Global) -> Result<Request, Fail> {
-    Ok(Request::Delete {
-        key: Key::new(alloc, b"k")?,
-        noreply: false,
-    })
+    request_of(alloc, Asked::Delete(b'k', false))
 }
 
 /// Plays an event that nothing refuses.

@@ -1,5 +1,5 @@
 //! Events in a few words, and what each has to come to.
-use super::making::*;
+use super::making::{Told, says, world};
 use super::*;
 
 /// What a client asks for, of a key of one byte. An answer is wanted where the second part isn't true.
@@ -56,7 +56,8 @@ fn key_of(alloc: Global, key: u8) -> Result<Key, Fail> {
     Ok(Key::new(alloc, &[key])?)
 }
 
-fn request_of(alloc: Global, asked: Asked) -> Result<Request, Fail> {
+/// The request for what is asked.
+pub fn request_of(alloc: Global, asked: Asked) -> Result<Request, Fail> {
     match asked {
         Asked::Get(key) => get_of(alloc, key_of(alloc, key)?),
         Asked::Set(key, noreply) => set_of(alloc, key_of(alloc, key)?, noreply),
