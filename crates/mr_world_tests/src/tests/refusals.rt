@@ -191,3 +191,13 @@ fn messages_and_deliveries_are_copied(rt: HostRuntime) -> Result<(), Fail> {
     nodes_of_copies(&rt, &world)?;
     messages_of_copies(&rt, &world)
 }
+
+#[test]
+fn a_note_is_copied(rt: HostRuntime) -> Result<(), Fail> {
+    let alloc = rt.alloc();
+    let mut world = world(alloc, &[999], Vec::new(alloc))?;
+    let request = get(alloc)?;
+    let note = play(&mut world, Event::Client { proxy: 0, request })?;
+    assert_eq!(rt; note.copy(), note);
+    Ok(())
+}
