@@ -1,8 +1,6 @@
-//! Worked values of the text, what writers write, and what devices do at a fault.
+//! Worked values of the text, and what devices do.
 mod devices;
-mod faults;
 mod values;
-mod writers;
 
 use mr_text::TextError;
 use std::process::Abort;

@@ -1,9 +1,9 @@
 //! What a writer leaves where one of its calls fails.
-use crate::{add_repeated, reply_text, request_text};
 use mr_text::{
     Block, Cause, Item, ItemList, Key, KeyList, Line, MAX_ITEMS, OverWriter, Reply, Request,
     WriteFault, write_delete, write_get, write_reply, write_request, write_server_error, write_set,
 };
+use mr_text_tests::{add_repeated, reply_text, request_text};
 use std::alloc::Global;
 use std::io;
 use std::io::Write;
