@@ -113,11 +113,11 @@ found_sent T f = record { message = f.message; of_get = f.of_get; asked = f.aske
 was_issued : {H : List Entry} {op : OpId} {q : Request} {i : ℕ} → IsIssued H op q i → WasIssued H op
 was_issued {q = q} {i = i} issued = record { place = i; request = q; issued = issued }
 
-issue_before : {H : List Entry} {op : OpId} {p q : Request} {i j : ℕ} → IsWellFormed H → IsIssued H op p i → IsIssued H op q j → i < j → ⊥
+pub issue_before : {H : List Entry} {op : OpId} {p q : Request} {i j : ℕ} → IsWellFormed H → IsIssued H op p i → IsIssued H op q j → i < j → ⊥
 issue_before {H = H} {p = p} {i = i} {j = j} formed a b less =
     (formed.fits j _ b.there).1 (record { place = i; request = p; issued = record { proxy = a.proxy; there = at_take j H less a.there } })
 
-issued_place : {H : List Entry} {op : OpId} {p q : Request} {i j : ℕ} → IsWellFormed H → IsIssued H op p i → IsIssued H op q j → i ≡ j
+pub issued_place : {H : List Entry} {op : OpId} {p q : Request} {i j : ℕ} → IsWellFormed H → IsIssued H op p i → IsIssued H op q j → i ≡ j
 issued_place {i = i} {j = j} formed a b =
     elim (cases_order i j) [
       | inl same ↦ same
@@ -140,7 +140,7 @@ removed_after {H = H} {op = op} {q = q} {i = i} {j = j} formed at issued =
     let same = issued_place formed issued first in
     omega arith
 
-answered_after : {H : List Entry} {op : OpId} {reply : _} {q : Request} {i j : ℕ} → IsWellFormed H → At H j (Answered op reply) → IsIssued H op q i → i < j
+pub answered_after : {H : List Entry} {op : OpId} {reply : _} {q : Request} {i j : ℕ} → IsWellFormed H → At H j (Answered op reply) → IsIssued H op q i → i < j
 answered_after {H = H} {op = op} {q = q} {i = i} {j = j} formed at issued =
     let was = (formed.fits j _ at).0 in
     let (below, there) = at_taken j H was.issued.there in
@@ -168,7 +168,7 @@ ack_cases {H = H} K {i = i} {j = j} formed a =
 
 -- a command tells the request that it is of
 
-contains_has : {X : Type 0} (xs : List X) (x : X) → Contains xs x → Has xs x
+pub contains_has : {X : Type 0} (xs : List X) (x : X) → Contains xs x → Has xs x
 contains_has xs x c = record { place = c.0; there = record { gets = slice_get_read xs (length xs) (c.0) x refl (c.1) (sym (c.2)) } }
 
 set_told : (q : Request) (key : List ℕ) (flags : ℕ) (exptime : ℤ) (block : List ℕ) → Has (commands_of q) (command.Set key flags exptime block)

@@ -6,3 +6,9 @@ pub mod PremiseLemmas
 pub mod NetworkLemmas
 pub mod ReadyLemmas
 pub mod FactLemmas
+pub mod HeldLemmas
+pub mod GroundLaws
+pub mod DeliveredLemmas
+pub mod IssuedLemmas
+pub mod GroundLemmas
+pub mod HeadlineLemmas

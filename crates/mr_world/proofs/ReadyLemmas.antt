@@ -15,6 +15,7 @@ use Rattle.mr_world.specs.declared.event.Event.TheVariants.{Clock, Client, Deliv
 use Rattle.mr_world.specs.declared.node.Node.{Node}
 use Rattle.mr_world.specs.declared.note.Note.{Note}
 use Rattle.mr_world.specs.Facts.{Facts, IsFaithfulWorld}
+use Rattle.mr_world.specs.Grounded.{StaysSecured}
 use Rattle.mr_world.specs.Network.{NetworkView, IsReady, DoesEvent}
 use Rattle.mr_world.specs.Premises.{premises_of, PremisesAfter}
 use Rattle.mr_world.specs.Refusals.{IsStopped, refusal_of_event, IsRefusal}
@@ -83,14 +84,23 @@ KeepsTracked = (old new : WorldView) (event : Event) (note : Note) → IsTracked
 abbrev pub KeepsFaithful : Type 0
 KeepsFaithful = (old new : WorldView) (event : Event) (note : Note) → IsTracked old → IsTracked new → IsFaithfulWorld old → WorldStep old event note new → IsFaithfulWorld new
 
-pub does_ready : KeepsTracked → KeepsFaithful → (old : NetworkView) (event : Event) (r : Result Note WorldError) (new : NetworkView) → IsReady old
+abbrev pub KeepsSecured : Type 0
+KeepsSecured =
+    (old new : WorldView) (event : Event) (note : Note) → IsTracked old → IsTracked new → IsFaithfulWorld old → IsFaithfulWorld new → StaysSecured old
+    → WorldStep old event note new → StaysSecured new
+
+pub does_ready : KeepsTracked → KeepsFaithful → KeepsSecured → (old : NetworkView) (event : Event) (r : Result Note WorldError) (new : NetworkView) → IsReady old
     → DoesEvent old event r new → IsReady new
-does_ready keep stay old event (Ok note) new ready does = record {
-  tracked = keep old.world new.world event note ready.tracked (does.1);
-  faithful = stay old.world new.world event note ready.tracked (keep old.world new.world event note ready.tracked (does.1)) ready.faithful (does.1);
-  numbers = does.2 ∙ ready.numbers ∙ sym (step_numbers old.world event note new.world (does.1));
-}
-does_ready keep stay old event (Err e) new ready does = subst IsReady (sym (does.1)) ready
+does_ready keep stay secure old event (Ok note) new ready does =
+    let tracked = keep old.world new.world event note ready.tracked (does.1) in
+    let faithful = stay old.world new.world event note ready.tracked tracked ready.faithful (does.1) in
+    record {
+      tracked = tracked;
+      faithful = faithful;
+      secured = secure old.world new.world event note ready.tracked tracked ready.faithful faithful ready.secured (does.1);
+      numbers = does.2 ∙ ready.numbers ∙ sym (step_numbers old.world event note new.world (does.1));
+    }
+does_ready keep stay secure old event (Err e) new ready does = subst IsReady (sym (does.1)) ready
 
 abbrev pub TellsPremises : Type 0
 TellsPremises = (old new : WorldView) (events : List Event) → IsTracked old → WorldRun old events new → PremisesAfter old events (premises_of new)
@@ -174,3 +184,11 @@ run_facts keep stay old [] new tracked faithful run = subst Facts (sym run) (fac
 run_facts keep stay old (event ∷ events) new tracked faithful (middle, note, step, rest) =
     let tracked' = keep old middle event note tracked step in
     run_facts keep stay middle events new tracked' (stay old middle event note tracked tracked' faithful step) rest
+
+pub run_secured : KeepsTracked → KeepsFaithful → KeepsSecured → (old : WorldView) (events : List Event) (new : WorldView) → IsTracked old → IsFaithfulWorld old
+    → StaysSecured old → WorldRun old events new → StaysSecured new
+run_secured keep stay secure old [] new tracked faithful secured run = subst StaysSecured (sym run) secured
+run_secured keep stay secure old (event ∷ events) new tracked faithful secured (middle, note, step, rest) =
+    let tracked' = keep old middle event note tracked step in
+    let faithful' = stay old middle event note tracked tracked' faithful step in
+    run_secured keep stay secure middle events new tracked' faithful' (secure old middle event note tracked tracked' faithful faithful' secured step) rest

@@ -103,7 +103,7 @@ performed_fits H sheet (Get key) was = nothing
 performed_fits H sheet (Set key flags exptime block) was = one _ was
 performed_fits H sheet (Delete key) was = one _ was
 
-no_issue_performed : (sheet : LegSheet) (command : NodeCommand) (op : OpId) (proxy : ℕ) (q : Request) → Has (performed sheet command) (entry.Issued op proxy q) → ⊥
+pub no_issue_performed : (sheet : LegSheet) (command : NodeCommand) (op : OpId) (proxy : ℕ) (q : Request) → Has (performed sheet command) (entry.Issued op proxy q) → ⊥
 no_issue_performed sheet (Get key) op proxy q h = has_none h
 no_issue_performed sheet (Set key flags exptime block) op proxy q h = let e = has_one h in cc
 no_issue_performed sheet (Delete key) op proxy q h = let e = has_one h in cc

@@ -8,4 +8,7 @@ pub mod Setup
 pub mod Premises
 pub mod Tracked
 pub mod Facts
+pub mod Ground
+pub mod Headline
+pub mod Grounded
 pub mod Network

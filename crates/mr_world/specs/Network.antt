@@ -7,6 +7,7 @@ use Rattle.mr_world.specs.declared.error.WorldError.{WorldError}
 use Rattle.mr_world.specs.declared.event.Event.{Event}
 use Rattle.mr_world.specs.declared.note.Note.{Note}
 use Rattle.mr_world.specs.Facts.{IsFaithfulWorld}
+use Rattle.mr_world.specs.Grounded.{StaysSecured}
 use Rattle.mr_world.specs.Refusals.{refusal_of_event, IsRefusal}
 use Rattle.mr_world.specs.Steps.{WorldStep}
 use Rattle.mr_world.specs.Tracked.{IsTracked, numbers_of}
@@ -20,6 +21,7 @@ pub record NetworkView : Type 0 where
 pub record IsReady (n : NetworkView) : Type 0 where
   pub tracked : IsTracked n.world
   pub faithful : IsFaithfulWorld n.world
+  pub secured : StaysSecured n.world
   pub numbers : n.numbers ≡ numbers_of n.world.nodes n.world.proxies
 
 -- an event is accepted and does its step, or is refused and changes nothing

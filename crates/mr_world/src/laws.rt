@@ -4,6 +4,8 @@ ghost use Rattle.mr_proxy.specs.Sound.{IsSound};
 ghost use Rattle.mr_world.specs.declared.event.Event.{Event};
 ghost use Rattle.mr_world.specs.declared.note.Note.{Note};
 ghost use Rattle.mr_world.specs.Facts.{Facts, IsFaithfulWorld};
+ghost use Rattle.mr_world.specs.Grounded.{StaysSecured};
+ghost use Rattle.mr_world.specs.Headline.{StandsOnGround, IsPlan};
 ghost use Rattle.mr_world.specs.Premises.{premises_of, PremisesAtFirst, PremisesAfter};
 ghost use Rattle.mr_world.specs.Setup.{SetupView, Begins};
 ghost use Rattle.mr_world.specs.Steps.{WorldStep, WorldRun};
@@ -11,10 +13,16 @@ ghost use Rattle.mr_world.specs.Tracked.{IsTracked};
 ghost use Rattle.mr_world.specs.WorldView.{WorldView};
 
 use mr_clock::laws::{lowering_is_told, spread_is_least, spread_is_told};
-use mr_history::laws::fitting_entry_keeps_form;
+use mr_history::laws::{fitting_entry_keeps_form, fresh_grows, safe_grows};
+use mr_node::laws::recency_step_is_cache_step;
+use mr_phases::laws::{
+    deletes_old_before_start, deletes_up, overlap, read_up, reads_old_before_middle,
+};
+use mr_pools::laws::names_stand_once;
 use mr_proxy::laws::{
-    acknowledged_by_legs, given_out_for_good, given_up_early, issue_gives_next_op,
-    items_were_found, last_reply_answers, next_op_is_new, sheets_say, steps_keep_sound,
+    acknowledged_by_legs, delete_goes, given_out_for_good, given_up_early, issue_gives_next_op,
+    items_were_found, last_reply_answers, next_op_is_new, pools_by_reading, sheets_say,
+    steps_keep_sound,
 };
 
 /// Each step keeps a fleet in order: names are given out once, messages go to nodes that are there, and what the
@@ -77,4 +85,46 @@ pub fn runs_tell_premises()
     spread_is_least();
     lowering_is_told();
     spread_is_told();
+}
+
+/// As long as the premises hold each step keeps what acknowledged deletes rest on.
+pub fn steps_keep_secured()
+    ensures { (old new : WorldView) (event : Event) (note : Note) → IsTracked old → IsTracked new → IsFaithfulWorld old → IsFaithfulWorld new
+        → StaysSecured old → WorldStep old event note new → StaysSecured new }
+{
+    runs_tell_premises();
+    sheets_say();
+    pools_by_reading();
+    delete_goes();
+    overlap();
+    read_up();
+    deletes_up();
+    recency_step_is_cache_step();
+    names_stand_once();
+    fresh_grows();
+    safe_grows();
+}
+
+/// So does every run.
+pub fn runs_keep_secured()
+    ensures { (old new : WorldView) (events : List Event) → IsTracked old → IsFaithfulWorld old → StaysSecured old → WorldRun old events new → StaysSecured new }
+{
+    steps_keep_tracked();
+    steps_keep_faithful();
+    steps_keep_secured();
+}
+
+/// So a fleet shows each of the facts that the headline rests on, as long as the premises hold.
+pub fn secured_fleets_show_ground()
+    ensures { (world : WorldView) → StaysSecured world → StandsOnGround world }
+{
+    deletes_old_before_start();
+    reads_old_before_middle();
+}
+
+/// A fleet stands on that at the beginning.
+pub fn setups_begin_secured()
+    ensures { (setup : SetupView) (world : WorldView) → Begins setup world → All (λ proxy. IsPlan proxy.routing proxy.schedule) world.proxies → StaysSecured world }
+{
+    recency_step_is_cache_step();
 }

@@ -3,6 +3,7 @@
 
 mod error;
 mod event;
+pub mod headline;
 pub mod laws;
 mod message;
 mod network;

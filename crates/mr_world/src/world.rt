@@ -5,8 +5,9 @@ ghost use Rattle.mr_world.specs.declared.error.WorldError.TheVariants.{NoSuchNod
 use crate::error::WorldError;
 use crate::event::Event;
 use crate::laws::{
-    runs_show_facts, runs_tell_premises, setups_begin_faithful, setups_begin_tracked,
-    setups_tell_premises, steps_keep_faithful, steps_keep_tracked,
+    runs_keep_secured, runs_show_facts, runs_tell_premises, secured_fleets_show_ground,
+    setups_begin_faithful, setups_begin_secured, setups_begin_tracked, setups_tell_premises,
+    steps_keep_faithful, steps_keep_secured, steps_keep_tracked,
 };
 use crate::message::{Delivery, Message};
 use crate::network::Network;
@@ -36,6 +37,7 @@ impl Model for World {
 
 impl World {
     ghost use Rattle.mr_world.specs.Facts.{Facts};
+    ghost use Rattle.mr_world.specs.Headline.{DeletesHold, StandsOnGround};
     ghost use Rattle.mr_world.specs.Premises.{premises_of, PremisesAtFirst, PremisesAfter};
     ghost use Rattle.mr_world.specs.Refusals.{refusal_of_event, IsRefusal, IsStopped};
     ghost use Rattle.mr_world.specs.Setup.{CanBeMade, Begins};
@@ -48,10 +50,14 @@ impl World {
         ensures begins { IfOk result (λ world. CanBeMade setup × Begins setup world) }
         ensures premises { IfOk result (λ world. PremisesAtFirst setup (premises_of world)) }
         ensures facts { IfOk result (λ world. Facts world) }
+        ensures ground { IfOk result (λ world. StandsOnGround world) }
+        ensures safe { IfOk result (λ world. DeletesHold world) }
         ensures refused { IfErr result (λ e. ((e ≡ NoSuchNode) × ¬ CanBeMade setup) ⊎ ((e ≡ OutOfMemory) × CanBeMade setup)) }
     {
         setups_begin_tracked();
         setups_begin_faithful();
+        setups_begin_secured();
+        secured_fleets_show_ground();
         setups_tell_premises();
         let network = Network::new(alloc, setup)?;
         Ok(World { network })
@@ -66,9 +72,13 @@ impl World {
         ensures unchanged { OnErr result (self.new ≡ self.old) }
         ensures premises { IfOk result (λ _. PremisesAfter self.old (event ∷ []) (premises_of self.new)) }
         ensures facts { Facts self.new }
+        ensures ground { StandsOnGround self.new }
+        ensures safe { DeletesHold self.new }
     {
         steps_keep_tracked();
         steps_keep_faithful();
+        steps_keep_secured();
+        secured_fleets_show_ground();
         runs_tell_premises();
         self.network.step(event)
     }
@@ -80,9 +90,13 @@ impl World {
         ensures stopped { IfErr result (λ stop. IsStopped self.old events.items stop.0 stop.1 self.new) }
         ensures premises_then { IfErr result (λ stop. PremisesAfter self.old (take stop.0 events.items) (premises_of self.new)) }
         ensures facts { Facts self.new }
+        ensures ground { StandsOnGround self.new }
+        ensures safe { DeletesHold self.new }
     {
         runs_tell_premises();
         runs_show_facts();
+        runs_keep_secured();
+        secured_fleets_show_ground();
         // That a world is in order.
         let _ = &self.network;
         let mut index = 0;

@@ -1,7 +1,9 @@
 //! A fleet as it is made of its setup.
 ghost use Rattle.std.specs.Prelude.{◌≡◌, ◌↔◌, ◌⊎◌, ◌^◌, ◌<◌, length, map, fold, All, IsTrue, IfOk, IfErr};
+ghost use Rattle.mr_proxy.specs.ProxyView.{fresh_proxy};
 ghost use Rattle.mr_proxy.specs.Sound.{IsSound};
 ghost use Rattle.mr_world.specs.declared.error.WorldError.TheVariants.{NoSuchNode, OutOfMemory};
+ghost use Rattle.mr_world.specs.Headline.{IsPlan};
 ghost use Rattle.mr_world.specs.Setup.{CanBeMade, Begins, NamesNode, IsNamed, with_name, with_pool, with_routing, nodes_of, hold, held_entry, proxies_from};
 ghost use Rattle.mr_world.specs.Positions.{number_of};
 ghost use Rattle.mr_clock.specs.Readings.{readings_at_first};
@@ -16,6 +18,7 @@ use crate::terms::{Terms, has_node};
 use mr_clock::Readings;
 use mr_history::{Author, Entry, History};
 use mr_node::{CacheNode, NodeCommand, Perform};
+use mr_phases::Schedule;
 use mr_pools::{NodeName, Pool, Routing};
 use mr_proxy::ProxyCore;
 use std::alloc::{AllocError, Global};
@@ -203,25 +206,49 @@ fn readings_of(alloc: Global, proxies: &[ProxySetup]) -> Result<Readings, AllocE
     Ok(Readings::new(readings))
 }
 
+/// That a schedule has one migration, as its type keeps.
+fn has_one_hop(schedule: &Schedule)
+    ensures single { length schedule.now ≡ 1 }
+{
+    let _start = schedule.start();
+}
+
+/// That a proxy is sound, as its type keeps.
+fn is_sound(core: &ProxyCore)
+    ensures { IsSound core.now }
+{
+    let _none = core.outstanding();
+}
+
+/// A proxy that accepted no request yet.
+fn core_of(alloc: Global, number: u32, proxy: ProxySetup) -> ProxyCore
+    ensures core { result ≡ fresh_proxy number 0 proxy.routing proxy.schedule proxy.room }
+    ensures sound { IsSound result }
+    ensures plan { IsPlan result.routing result.schedule }
+{
+    let ProxySetup {
+        routing,
+        schedule,
+        room,
+        reading: _,
+    } = proxy;
+    has_one_hop(&schedule);
+    let core = ProxyCore::new(alloc, number, 0, routing, schedule, room);
+    is_sound(&core);
+    core
+}
+
 /// The proxies, none of which accepted a request yet.
 fn cores_of(alloc: Global, proxies: Vec<ProxySetup>) -> Result<Vec<ProxyCore>, AllocError>
     requires { length proxies.items < 2 ^ 32 }
     ensures proxies { IfOk result (λ cores. cores.items ≡ proxies_from 0 proxies.items) }
     ensures sound { IfOk result (λ cores. All IsSound cores.items) }
+    ensures plans { IfOk result (λ cores. All (λ core. IsPlan core.routing core.schedule) cores.items) }
 {
     let mut cores = Vec::with_capacity(alloc, proxies.len())?;
     let mut number = 0;
     for proxy in proxies {
-        let ProxySetup {
-            routing,
-            schedule,
-            room,
-            reading: _,
-        } = proxy;
-        let core = ProxyCore::new(alloc, number, 0, routing, schedule, room);
-        // That whoever holds a proxy knows it to be sound.
-        let _none = core.outstanding();
-        cores.push(core)?;
+        cores.push(core_of(alloc, number, proxy))?;
         number += 1;
     }
     Ok(cores)
@@ -233,6 +260,7 @@ impl Network {
         requires { length setup.proxies < 2 ^ 32 }
         ensures begins { IfOk result (λ network. CanBeMade setup × Begins setup network.world) }
         ensures sound { IfOk result (λ network. All IsSound network.world.proxies) }
+        ensures plans { IfOk result (λ network. All (λ proxy. IsPlan proxy.routing proxy.schedule) network.world.proxies) }
         ensures numbers { IfOk result (λ network. network.numbers ≡ numbers_of network.world.nodes network.world.proxies) }
         ensures refused { IfErr result (λ e. ((e ≡ NoSuchNode) × ¬ CanBeMade setup) ⊎ ((e ≡ OutOfMemory) × CanBeMade setup)) }
     {
