@@ -36,12 +36,14 @@ impl Model for World {
 }
 
 impl World {
-    ghost use Rattle.mr_world.specs.Facts.{Facts};
+    ghost use Rattle.mr_world.specs.Facts.{Facts, IsFaithfulWorld};
+    ghost use Rattle.mr_world.specs.Grounded.{StaysSecured};
     ghost use Rattle.mr_world.specs.Headline.{DeletesHold, StandsOnGround};
     ghost use Rattle.mr_world.specs.Premises.{premises_of, PremisesAtFirst, PremisesAfter};
     ghost use Rattle.mr_world.specs.Refusals.{refusal_of_event, IsRefusal, IsStopped};
     ghost use Rattle.mr_world.specs.Setup.{CanBeMade, Begins};
     ghost use Rattle.mr_world.specs.Steps.{WorldStep, WorldRun};
+    ghost use Rattle.mr_world.specs.Tracked.{IsTracked};
 
     /// The fleet of a setup. NoSuchNode where an item is held by a node that no proxy's routing names, or where there
     /// are nodes of capacity 0.
@@ -97,8 +99,7 @@ impl World {
         runs_show_facts();
         runs_keep_secured();
         secured_fleets_show_ground();
-        // That a world is in order.
-        let _ = &self.network;
+        self.is_in_order();
         let mut index = 0;
         for event in events {
             if let Err(refusal) = self.step(event) {
@@ -107,6 +108,15 @@ impl World {
             index += 1;
         }
         Ok(())
+    }
+
+    /// A world is in order, shows what every fleet does, and is secured as long as its premises hold: what its type keeps.
+    fn is_in_order(&self)
+        ensures tracked { IsTracked self.now }
+        ensures faithful { IsFaithfulWorld self.now }
+        ensures secured { StaysSecured self.now }
+    {
+        let _ = &self.network;
     }
 
     /// What happened so far.
