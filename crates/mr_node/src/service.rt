@@ -35,9 +35,11 @@ pub fn serve<P: Perform, S: Source, W: Sink, C: Clock>(
     ensures service { ServiceIs (Outcome C.reads C.failures P.did P.refused) (S.told reader.old) (S.told reader.new)
         (station clock.old node.old (W.told writer.old)) (station clock.new node.new (W.told writer.new)) result }
 
-    // At most `turns` reads are made. TurnsSpent comes after all of them, each of which brought a byte. Each read has room
-    // for as many bytes as the buffer holds, and none brings more.
+    // At most `turns` reads are made, and at most one brings no byte: that of the end, or the one that failed. TurnsSpent
+    // comes after all of them, each of which brought a byte. Each read has room for as many bytes as the buffer holds, and
+    // none brings more.
     ensures reads { (S.told reader.new).reads ≤ (S.told reader.old).reads + turns }
+    ensures brought { (S.told reader.new).reads + length (S.told reader.old).taken ≤ (S.told reader.old).reads + length (S.told reader.new).taken + 1 }
     ensures spent { result ≡ Err NodeError.TurnsSpent → (S.told reader.new).reads ≡ (S.told reader.old).reads + turns }
     ensures turns { result ≡ Err NodeError.TurnsSpent → length (S.told reader.old).taken + turns ≤ length (S.told reader.new).taken }
     ensures bytes { length (S.told reader.new).taken ≤ length (S.told reader.old).taken + turns * read_length }

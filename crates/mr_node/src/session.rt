@@ -1,6 +1,6 @@
 //! One session over a stream of requests, whatever performs them: how it ends, what gets no answer, the answer to a
 //! refusal, reading a piece, and writing an answer.
-ghost use Rattle.std.specs.Prelude.{◌≡◌, ◌+◌, ◌<◌, ℕ, List, length, false};
+ghost use Rattle.std.specs.Prelude.{◌≡◌, ◌+◌, ◌<◌, ℕ, List, length, false, OnErr};
 ghost use Rattle.mr_text.specs.Source.{least_with};
 ghost use Rattle.mr_text.specs.Stream.{StandsFor, skips_line};
 ghost use Rattle.mr_node.specs.Output.{is_silent, reply_to_refusal};
@@ -45,7 +45,8 @@ pub enum Step {
 
 /// Reads once and hands what came to the reader of requests. Whether it was the end of the input.
 ///
-/// ReadFault where the source failed. OutOfMemory where there was none for what came, which is lost then.
+/// ReadFault where the source failed. OutOfMemory where there was none for what came, which is lost then. Either leaves
+/// the reader of requests as it was.
 pub fn read_piece<S: Source>(
     reader: &mut S,
     requests: &mut RequestReader,
@@ -58,6 +59,7 @@ pub fn read_piece<S: Source>(
     ensures offered { (S.told reader.new).least_room ≡ least_with (S.told reader.old).least_room (length buffer.old) }
     ensures piece { (rest : List ℕ) → StandsFor requests.old rest
         → PieceIs (length buffer.old) rest requests.new (S.told reader.old) result (S.told reader.new) }
+    ensures unfed { OnErr result (requests.new ≡ requests.old) }
 {
     let Ok(count) = reader.read(buffer) else {
         return Err(SessionFault::ReadFault);

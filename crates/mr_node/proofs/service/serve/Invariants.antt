@@ -15,6 +15,7 @@ invariant-session g l = record {
   counted : (g.S.Source.told l.reader).reads + l.turns_left ≡ (g.S.Source.told l.initial.reader).reads + l.fn.turns;
   -- each read but that of the end brought a byte, and none more than it may
   brought : l.ended ≡ false → length (g.S.Source.told l.initial.reader).taken + l.fn.turns ≤ length (g.S.Source.told l.reader).taken + l.turns_left;
+  idle : (g.S.Source.told l.reader).reads + length (g.S.Source.told l.initial.reader).taken ≤ (g.S.Source.told l.initial.reader).reads + length (g.S.Source.told l.reader).taken + 1;
   within : length (g.S.Source.told l.reader).taken + l.turns_left * read_length ≤ length (g.S.Source.told l.initial.reader).taken + l.fn.turns * read_length;
   offered : AreOffered read_length (g.S.Source.told l.initial.reader).least_room → AreOffered read_length (g.S.Source.told l.reader).least_room;
   well : (g.S.Source.told l.reader).failures ≡ (g.S.Source.told l.initial.reader).failures;
