@@ -10,10 +10,12 @@ pub fn op(proxy: u32, number: u64) -> OpId {
     }
 }
 
+/// The key of these bytes.
 pub fn key(alloc: Global, name: &[u8]) -> Result<Key, Fail> {
     Ok(Key::new(alloc, name)?)
 }
 
+/// The entry of a request that the op's own proxy issued.
 pub fn issued(op: OpId, request: Request) -> Entry {
     Entry::Issued {
         op,
@@ -22,11 +24,13 @@ pub fn issued(op: OpId, request: Request) -> Entry {
     }
 }
 
+/// A get of one key was issued.
 pub fn get(alloc: Global, op: OpId, name: &[u8]) -> Result<Entry, Fail> {
     let keys = KeyList::new(vec![in alloc; key(alloc, name)?]?)?;
     Ok(issued(op, Request::Get { keys }))
 }
 
+/// A set with the flags 0 was issued; it wants an answer.
 pub fn set(alloc: Global, op: OpId, name: &[u8], data: &[u8]) -> Result<Entry, Fail> {
     Ok(issued(
         op,
@@ -40,6 +44,7 @@ pub fn set(alloc: Global, op: OpId, name: &[u8], data: &[u8]) -> Result<Entry, F
     ))
 }
 
+/// A delete was issued; it wants an answer.
 pub fn delete(alloc: Global, op: OpId, name: &[u8]) -> Result<Entry, Fail> {
     Ok(issued(
         op,
@@ -50,6 +55,7 @@ pub fn delete(alloc: Global, op: OpId, name: &[u8]) -> Result<Entry, Fail> {
     ))
 }
 
+/// An item with the flags 0 was stored.
 pub fn stored(alloc: Global, by: Author, name: &[u8], data: &[u8]) -> Result<Entry, Fail> {
     Ok(Entry::Stored {
         by,
@@ -59,6 +65,7 @@ pub fn stored(alloc: Global, by: Author, name: &[u8], data: &[u8]) -> Result<Ent
     })
 }
 
+/// A delete was performed on this side.
 pub fn removed(alloc: Global, op: OpId, side: Side, name: &[u8]) -> Result<Entry, Fail> {
     Ok(Entry::Removed {
         op,
@@ -67,10 +74,12 @@ pub fn removed(alloc: Global, op: OpId, side: Side, name: &[u8]) -> Result<Entry
     })
 }
 
+/// A request was answered so.
 pub fn answered(op: OpId, reply: Reply) -> Entry {
     Entry::Answered { op, reply }
 }
 
+/// An item with the flags 0.
 pub fn item(alloc: Global, name: &[u8], data: &[u8]) -> Result<Item, Fail> {
     Ok(Item {
         key: key(alloc, name)?,

@@ -32,6 +32,7 @@ pub fn only(bytes: &[u8]) -> u8 {
     }
 }
 
+/// What the entry of an issued request says. `Other` is a quit, or a get of more keys than one.
 pub fn tell_request(op: OpId, request: &Request) -> Told {
     match request {
         Request::Get { keys } => match keys.as_slice() {
@@ -46,6 +47,7 @@ pub fn tell_request(op: OpId, request: &Request) -> Told {
     }
 }
 
+/// What the entry of an answer says. `Other` is an answer of more items than one, or one that no world of these tests gives.
 pub fn tell_reply(op: OpId, reply: &Reply) -> Told {
     match reply {
         Reply::Items(items) => match items.as_slice() {
@@ -134,14 +136,17 @@ pub fn held(alloc: Global, node: &[u8]) -> Result<HeldItem, Fail> {
     })
 }
 
+/// A get of `k`.
 pub fn get(alloc: Global) -> Result<Request, Fail> {
     request_of(alloc, Asked::Get(b'k'))
 }
 
+/// A set of `k` to `v`, which wants an answer.
 pub fn set(alloc: Global) -> Result<Request, Fail> {
     request_of(alloc, Asked::Set(b'k', false))
 }
 
+/// A delete of `k`, which wants an answer.
 pub fn delete(alloc: Global) -> Result<Request, Fail> {
     request_of(alloc, Asked::Delete(b'k', false))
 }
