@@ -12,3 +12,4 @@ pub mod DeliveredLemmas
 pub mod IssuedLemmas
 pub mod GroundLemmas
 pub mod HeadlineLemmas
+pub mod ExampleLemmas

@@ -12,3 +12,4 @@ pub mod Ground
 pub mod Headline
 pub mod Grounded
 pub mod Network
+pub mod Example

@@ -1,4 +1,5 @@
 //! What the whole is for, in one sentence.
+ghost use Rattle.mr_world.specs.Example.{Happens};
 ghost use Rattle.mr_world.specs.Headline.{Headline};
 
 use crate::laws::{
@@ -22,3 +23,9 @@ pub fn headline()
     runs_tell_premises();
     runs_keep_secured();
 }
+
+/// What the headline speaks of happens: two proxies whose clocks differ, all premises, a delete of a key that both
+/// pools perform and that is acknowledged, a set of that key after it, and a get that hits what was set.
+pub fn example()
+    ensures { Happens }
+{}
