@@ -1,4 +1,5 @@
-//! The tests of `mr_text`'s readers, also beside slow ones that follow the protocol's words byte by byte.
+//! The tests of `mr_text`'s readers: worked streams, and readers that are refused memory. `mr_slow_reader_tests` has the
+//! readers beside slow ones.
 #![tactic(auto)]
 
 #[cfg(test)]

@@ -1,6 +1,6 @@
 //! Readers that are refused memory once: the same call made again gives what it would have given.
 use super::are;
-use super::reading::{Reader, Texts};
+use mr_test_parts::{Reader, Texts};
 use mr_text::{OverWriter, ReplyReader, RequestReader, TextError, write_reply, write_request};
 use std::alloc::{AllocError, Global};
 use std::process::Abort;

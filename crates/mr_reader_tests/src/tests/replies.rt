@@ -1,8 +1,8 @@
 //! Which replies lines and blocks say, and how others are refused.
-use super::reading::{Texts, answers_in_two, gives_all, gives_at_end, gives_in_any_two};
+use super::reading::{gives_all, gives_at_end, gives_in_any_two};
 use super::{are, count_is, reading};
+use mr_test_parts::{Texts, add_repeated, answers_in_two};
 use mr_text::{Cause, Reply, ReplyReader};
-use mr_text_tests::add_repeated;
 use std::alloc::Global;
 use std::process::Abort;
 use std::test::Fail;

@@ -1,8 +1,8 @@
 //! Which requests lines say, and how other lines are refused.
-use super::reading::{Texts, gives_all, gives_at_end, gives_in_two};
+use super::reading::{gives_all, gives_at_end, gives_in_two};
 use super::{count_is, is_refused, reading};
+use mr_test_parts::{Texts, add_repeated, repeated_keys};
 use mr_text::{KeyList, TextError};
-use mr_text_tests::{add_repeated, repeated_keys};
 use std::alloc::Global;
 use std::process::Abort;
 use std::test::Fail;

@@ -1,5 +1,5 @@
 //! What goes through to a device, and a device that fails.
-use crate::add_repeated;
+use mr_test_parts::add_repeated;
 use mr_text::{FailsAt, OverReader, OverWriter, ReadFault, Sink, Source, WriteFault};
 use std::alloc::Global;
 use std::cell::Cell;

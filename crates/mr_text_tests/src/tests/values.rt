@@ -1,6 +1,6 @@
 //! Which bytes make a value, and copies of each.
 use super::{are, count_is, is_refused};
-use crate::{add_repeated, repeated_keys, reply_text, request_text};
+use mr_test_parts::{add_repeated, repeated_keys, reply_text, request_text};
 use mr_text::{
     Block, Cause, FIXED_BUFFER, Item, ItemList, Key, KeyList, Line, MAX_BLOCK, MAX_ERROR_TEXT,
     MAX_ITEMS, MAX_KEY, MAX_LINE, Reply, Request, TextError,

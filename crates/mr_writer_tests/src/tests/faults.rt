@@ -1,57 +1,12 @@
 //! What a writer leaves where one of its calls fails.
+use mr_test_parts::{TakesHalf, add_repeated, reply_text, request_text};
 use mr_text::{
     Block, Cause, Item, ItemList, Key, KeyList, Line, MAX_ITEMS, OverWriter, Reply, Request,
     WriteFault, write_delete, write_get, write_reply, write_request, write_server_error, write_set,
 };
-use mr_text_tests::{add_repeated, reply_text, request_text};
 use std::alloc::Global;
-use std::io;
-use std::io::Write;
 use std::process::Abort;
 use std::test::Fail;
-
-/// A writer of std that takes half of one piece and fails then. It keeps what it took.
-#[derive(Drop)]
-struct TakesHalf {
-    kept: Vec<u8>,
-    calls: usize,
-    fails_at: usize,
-    has_failed: bool,
-}
-
-impl TakesHalf {
-    fn new(alloc: Global, fails_at: usize) -> TakesHalf {
-        TakesHalf {
-            kept: Vec::new(alloc),
-            calls: 0,
-            fails_at,
-            has_failed: false,
-        }
-    }
-}
-
-impl Write for TakesHalf {
-    fn write(&mut self, bytes: &[u8]) -> io::Result<usize> {
-        self.calls = self.calls.saturating_add(1);
-        if self.calls > self.fails_at {
-            self.has_failed = true;
-            return Err(io::ErrorKind::BrokenPipe.into());
-        }
-        let taken = if self.calls == self.fails_at {
-            bytes.len() / 2
-        } else {
-            bytes.len()
-        };
-        match self.kept.extend_from_slice(&bytes[..taken]) {
-            Ok(()) => Ok(taken),
-            Err(_) => Err(io::ErrorKind::OutOfMemory.into()),
-        }
-    }
-
-    fn flush(&mut self) -> io::Result<()> {
-        Ok(())
-    }
-}
 
 /// Asserts what a device that failed in one call was left with: a beginning of the text, half of the failing piece
 /// with it, and no call after the one that failed.

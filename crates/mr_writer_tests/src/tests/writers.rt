@@ -1,10 +1,10 @@
 //! The bytes that requests and replies are written as.
 use super::are;
+use mr_test_parts::{reply_text, request_text};
 use mr_text::{
     Block, Cause, Item, ItemList, Key, KeyList, Line, OverWriter, Reply, Request, write_delete,
     write_get, write_set,
 };
-use mr_text_tests::{reply_text, request_text};
 use std::alloc::Global;
 use std::process::Abort;
 use std::test::Fail;

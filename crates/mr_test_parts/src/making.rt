@@ -32,3 +32,19 @@ pub fn reply_text(alloc: Global, reply: &Reply) -> Result<Vec<u8>, WriteFault> {
     write_reply(reply, &mut sink)?;
     Ok(sink.into_inner())
 }
+
+/// A table's first cell, which ends at a `|`, and what follows it.
+pub fn first_cell(table: &[u8]) -> (&[u8], &[u8]) {
+    let mut end: usize = 0;
+    for byte in table {
+        if *byte == b'|' {
+            break;
+        }
+        end = end.saturating_add(1);
+    }
+    let behind = end.saturating_add(1);
+    (
+        table.get(..end).unwrap_or(b""),
+        table.get(behind..).unwrap_or(b""),
+    )
+}

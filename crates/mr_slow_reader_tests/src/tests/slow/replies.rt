@@ -1,9 +1,9 @@
 //! A slow reader of replies by the tables of the text, and the real one beside it.
 use super::{
-    FirstLine, add_block, add_number, agree_on_all, agree_on_spaces, first_line, is_key, stops,
-    value_of, word_at, words_of,
+    FirstLine, add_block, add_number, first_line, is_key, stops, value_of, word_at, words_of,
 };
-use crate::tests::reading::Texts;
+use crate::tests::agreement::{agree_on_all, agree_on_spaces};
+use mr_test_parts::Texts;
 use std::alloc::Global;
 use std::test::Fail;
 

@@ -1,9 +1,7 @@
 //! A slow reader of requests by the tables of the text, and the real one beside it.
-use super::{
-    add_block, add_number, add_signed, agree_on_all, agree_on_spaces, is_key, stops, value_of,
-    word_at,
-};
-use crate::tests::reading::Texts;
+use super::{add_block, add_number, add_signed, is_key, stops, value_of, word_at};
+use crate::tests::agreement::{agree_on_all, agree_on_spaces};
+use mr_test_parts::Texts;
 use std::test::Fail;
 
 /// Whether each of the words but the first is a key.

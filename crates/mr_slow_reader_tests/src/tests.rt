@@ -1,0 +1,3 @@
+//! Each reader beside a slow one.
+mod agreement;
+mod slow;
