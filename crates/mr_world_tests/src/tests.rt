@@ -3,6 +3,7 @@
 mod by_table;
 mod making;
 mod moves;
+mod premises;
 mod refusals;
 mod rows;
 mod table;
@@ -11,7 +12,7 @@ use mr_history::{Author, Entry, History, OpId, Verdict, judge_history};
 use mr_phases::{Schedule, Side};
 use mr_pools::{NamedHash, NodeName, Pool, Routing};
 use mr_proxy::ProxyError;
-use mr_text::{Block, Key, KeyList, Reply, Request};
+use mr_text::{Block, Cause, Key, KeyList, Reply, Request};
 use mr_world::{Event, HeldItem, Note, ProxySetup, Setup, World, WorldError};
 use std::alloc::Global;
 use std::process::Abort;

@@ -15,6 +15,41 @@ pub enum Told {
     Other,
 }
 
+/// The first request of the first proxy.
+pub const FIRST: OpId = OpId {
+    proxy: 0,
+    incarnation: 0,
+    number: 0,
+};
+
+/// The second request of the first proxy.
+pub const SECOND: OpId = OpId {
+    proxy: 0,
+    incarnation: 0,
+    number: 1,
+};
+
+/// The first request of the first proxy after a restart.
+pub const AGAIN: OpId = OpId {
+    proxy: 0,
+    incarnation: 1,
+    number: 0,
+};
+
+/// The first request of the second proxy.
+pub const OTHER_FIRST: OpId = OpId {
+    proxy: 1,
+    incarnation: 0,
+    number: 0,
+};
+
+/// The second request of the second proxy.
+pub const OTHER_SECOND: OpId = OpId {
+    proxy: 1,
+    incarnation: 0,
+    number: 1,
+};
+
 /// The op of a proxy that was never restarted.
 pub fn op(proxy: u32, number: u64) -> OpId {
     OpId {
@@ -47,6 +82,14 @@ pub fn tell_request(op: OpId, request: &Request) -> Told {
     }
 }
 
+/// The line of a server's error.
+fn tell_cause(cause: &Cause) -> &'static str {
+    match cause {
+        Cause::LegLost => "SERVER_ERROR leg lost",
+        _ => "SERVER_ERROR",
+    }
+}
+
 /// What the entry of an answer says. `Other` is an answer of more items than one, or one that no world of these tests gives.
 pub fn tell_reply(op: OpId, reply: &Reply) -> Told {
     match reply {
@@ -58,7 +101,7 @@ pub fn tell_reply(op: OpId, reply: &Reply) -> Told {
         Reply::Stored => Told::Answered(op, "STORED"),
         Reply::Deleted => Told::Answered(op, "DELETED"),
         Reply::NotFound => Told::Answered(op, "NOT_FOUND"),
-        Reply::ServerError(_) => Told::Answered(op, "SERVER_ERROR"),
+        Reply::ServerError(cause) => Told::Answered(op, tell_cause(cause)),
         _ => Told::Other,
     }
 }
@@ -104,14 +147,19 @@ pub fn routing(alloc: Global) -> Result<Routing, Fail> {
     Ok(Routing::new(old, new, NamedHash::Sum)?)
 }
 
-/// A proxy of that routing, which starts at 1000, with an interval of 100.
-pub fn proxy(alloc: Global, reading: u64) -> Result<ProxySetup, Fail> {
+/// A proxy of that routing, whose migration starts then, with an interval of 100.
+fn proxy_from(alloc: Global, start: u64, reading: u64) -> Result<ProxySetup, Fail> {
     Ok(ProxySetup {
         routing: routing(alloc)?,
-        schedule: Schedule::new(1000, 100)?,
+        schedule: Schedule::new(start, 100)?,
         room: 4,
         reading,
     })
+}
+
+/// The same, which starts at 1000.
+pub fn proxy(alloc: Global, reading: u64) -> Result<ProxySetup, Fail> {
+    proxy_from(alloc, 1000, reading)
 }
 
 /// A world of such proxies.
@@ -120,6 +168,17 @@ pub fn world(alloc: Global, readings: &[u64], held: Vec<HeldItem>) -> Result<Wor
     for reading in readings {
         proxies.push(proxy(alloc, *reading)?)?;
     }
+    world_of(alloc, proxies, held)
+}
+
+/// A world of two proxies at 999; the migration of the second started at 100.
+pub fn world_of_two_plans(alloc: Global) -> Result<World, Fail> {
+    let first = proxy(alloc, 999)?;
+    let proxies = vec![in alloc; first, proxy_from(alloc, 100, 999)?]?;
+    world_of(alloc, proxies, Vec::new(alloc))
+}
+
+fn world_of(alloc: Global, proxies: Vec<ProxySetup>, held: Vec<HeldItem>) -> Result<World, Fail> {
     if proxies.len() > 8 {
         return Err(Fail::from("too many proxies"));
     }

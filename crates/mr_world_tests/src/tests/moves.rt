@@ -12,6 +12,15 @@ pub enum Asked {
     Quit,
 }
 
+/// A get of `k`.
+pub const GET: Asked = Asked::Get(b'k');
+
+/// A set of `k` to `v` that wants an answer.
+pub const SET: Asked = Asked::Set(b'k', false);
+
+/// A delete of `k` that wants an answer.
+pub const DELETE: Asked = Asked::Delete(b'k', false);
+
 /// An event in a few words.
 #[derive(Clone, Copy)]
 pub enum Move {
@@ -90,6 +99,15 @@ pub fn event_of(alloc: Global, it: Move) -> Result<Event, Fail> {
         Move::NodeRestart(name) => restart_of(alloc, name),
         Move::ProxyRestart(proxy) => Ok(Event::ProxyRestart { proxy }),
     }
+}
+
+/// The events of moves.
+pub fn events_of(alloc: Global, moves: &[Move]) -> Result<Vec<Event>, Fail> {
+    let mut events = Vec::new(alloc);
+    for it in moves {
+        events.push(event_of(alloc, *it)?)?;
+    }
+    Ok(events)
 }
 
 /// Whether a move comes to what it has to.

@@ -3,13 +3,6 @@ use super::making::*;
 use super::moves::*;
 use super::*;
 
-/// The first request of the first proxy.
-const FIRST: OpId = OpId {
-    proxy: 0,
-    incarnation: 0,
-    number: 0,
-};
-
 const NOT_THERE: [Row; 8] = [
     (Move::Clock(1, 5), Err(WorldError::NoSuchProxy)),
     (Move::Client(1, Asked::Quit), Err(WorldError::NoSuchProxy)),
