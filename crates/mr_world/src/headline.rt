@@ -1,4 +1,4 @@
-//! What the whole is for, in one sentence.
+//! What the whole is for, in one sentence, and that it happens.
 ghost use Rattle.mr_world.specs.Example.{Happens};
 ghost use Rattle.mr_world.specs.Headline.{Headline};
 
