@@ -45,7 +45,6 @@ use Rattle.mr_world.specs.Positions.{number_of}
 use Rattle.mr_world.specs.Tracked.{numbers_in}
 use Rattle.mr_world.specs.WorldView.{WorldView}
 use Rattle.mr_world.proofs.Lists.{at_within, has_head, has_tail}
-use Rattle.mr_world.proofs.TrackedLemmas.{pool_there}
 
 pub not_past : (refusal : WorldError) (number count : ℕ) → number < count → refused_past refusal number count ≡ None
 not_past refusal number count below =

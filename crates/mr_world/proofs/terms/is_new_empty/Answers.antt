@@ -1,4 +1,4 @@
-use Rattle.std.proofs.Common.{◌≡◌, ◌<◌, length, All, refl, sym, ap, subst, arith}
+use Rattle.std.proofs.Common.{◌≡◌, length, All, refl, ap, subst, arith}
 use Rattle.mr_world.specs.declared.setup.HeldItem.{HeldItem}
 use Rattle.mr_world.specs.Setup.{MovesTo}
 use Rattle.mr_world.proofs.NetworkLemmas.{each_more}

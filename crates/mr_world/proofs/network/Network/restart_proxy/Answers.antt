@@ -1,4 +1,4 @@
-use Rattle.std.proofs.Common.{◌≡◌, ◌≢◌, ◌<◌, ◌-◌, ◌^◌, length, Some, refl, sym, ap, subst, ◌∙◌, arith}
+use Rattle.std.proofs.Common.{◌≢◌, ◌<◌, ◌-◌, ◌^◌, length, refl, sym, ap, subst, ◌∙◌, arith}
 use Rattle.mr_proxy.specs.ProxyView.{ProxyView}
 use Rattle.mr_world.specs.contracts.network.Network.{the_view}
 use Rattle.mr_world.specs.declared.error.WorldError.TheVariants.{IssueRefused}
