@@ -5,9 +5,6 @@ use crate::error::ClockFault;
 use mr_text::GhostCount;
 use std::marker::Model;
 
-#[cfg(test)]
-mod tests;
-
 /// A clock that gives the members of a list in order, `None` as a fault, and then its last member for good.
 /// Without members it always fails.
 #[derive(Drop)]

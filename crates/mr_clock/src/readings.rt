@@ -5,9 +5,6 @@ use crate::error::ClockError;
 use std::alloc::AllocError;
 use std::marker::Model;
 
-#[cfg(test)]
-mod tests;
-
 /// One reading for each proxy of a fleet, the greatest difference between two of them that ever stood together,
 /// and whether one was ever lowered.
 #[derive(Debug, Drop)]

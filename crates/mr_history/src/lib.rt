@@ -8,8 +8,6 @@ mod judge;
 pub mod laws;
 mod op_id;
 mod search;
-#[cfg(test)]
-mod tests;
 mod verdict;
 
 pub use entry::{Author, Entry};

@@ -11,6 +11,3 @@ pub use badness::worse;
 pub use joined::Joined;
 pub use joining::{Joining, One, Two};
 pub use leg_reply::LegReply;
-
-#[cfg(test)]
-mod tests;

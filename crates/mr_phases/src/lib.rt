@@ -19,6 +19,3 @@ pub use phase_name::PhaseName;
 pub use schedule::Schedule;
 pub use side::{RequestKind, Side};
 pub use sides::{OneSide, SideCount, Sides, TwoSides};
-
-#[cfg(test)]
-mod tests;

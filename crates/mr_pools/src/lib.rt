@@ -9,8 +9,6 @@ mod limits;
 mod name;
 mod pool;
 mod routing;
-#[cfg(test)]
-mod tests;
 
 pub use error::PoolError;
 pub use hash::{Fnv1a32, KeyHash, NamedHash, SumHash};

@@ -1,11 +1,12 @@
 //! Readers, writers and clocks that tests look at, and a service over them.
 use mr_clock::{Clock, ClockFault};
 use mr_node::{Ended, NodeError, Perform, serve};
+use mr_test_parts::TakesHalf;
 use mr_text::{FailsAt, OverReader, OverWriter};
 use std::alloc::{AllocError, Global};
 use std::cell::Cell;
 use std::io;
-use std::io::{Read, Write};
+use std::io::Read;
 
 /// A reader that gives no more than so many bytes at a time, each time a second later than the time before.
 #[derive(Drop)]
@@ -37,37 +38,6 @@ impl Clock for Shown<'_> {
 
     fn now(&mut self) -> Result<u64, ClockFault> {
         Ok(self.0.get())
-    }
-}
-
-/// A writer that takes half of one piece and fails then; with 0 it never fails. It keeps what it took.
-#[derive(Drop)]
-pub(super) struct TakesHalf {
-    pub(super) kept: Vec<u8>,
-    pub(super) calls: usize,
-    pub(super) fails_at: usize,
-}
-
-impl Write for TakesHalf {
-    fn write(&mut self, bytes: &[u8]) -> io::Result<usize> {
-        self.calls = self.calls.saturating_add(1);
-        if self.fails_at > 0 && self.calls > self.fails_at {
-            return Err(io::ErrorKind::BrokenPipe.into());
-        }
-        let taken = if self.calls == self.fails_at {
-            bytes.len() / 2
-        } else {
-            bytes.len()
-        };
-        match self.kept.extend_from_slice(&bytes[..taken]) {
-            Ok(()) => Ok(taken),
-            Err(_) => Err(io::ErrorKind::OutOfMemory.into()),
-        }
-    }
-
-    fn flush(&mut self) -> io::Result<()> {
-        self.calls = self.calls.saturating_add(1);
-        Ok(())
     }
 }
 

@@ -1,56 +1,15 @@
 //! What a client reads of an answer, in how many calls it goes out, and what is left where one of them fails.
 use super::{Asked, Came, answer_to, holds, number_is};
 use mr_proxy::Answer;
+use mr_test_parts::TakesHalf;
 use mr_text::{OverWriter, write_reply};
 use std::alloc::Global;
-use std::io;
-use std::io::Write;
 use std::process::Abort;
 use std::test::Fail;
 
 /// Asserts which text there is.
 fn reads_as(rt: &impl Abort, text: &[u8], wanted: &[u8]) {
     assert_eq!(rt; text, wanted);
-}
-
-/// A writer of std that takes half of one piece and fails then. It keeps what it took.
-#[derive(Drop)]
-struct TakesHalf {
-    kept: Vec<u8>,
-    calls: usize,
-    fails_at: usize,
-}
-
-impl TakesHalf {
-    fn new(alloc: Global, fails_at: usize) -> TakesHalf {
-        TakesHalf {
-            kept: Vec::new(alloc),
-            calls: 0,
-            fails_at,
-        }
-    }
-}
-
-impl Write for TakesHalf {
-    fn write(&mut self, bytes: &[u8]) -> io::Result<usize> {
-        self.calls = self.calls.saturating_add(1);
-        if self.calls > self.fails_at {
-            return Err(io::ErrorKind::BrokenPipe.into());
-        }
-        let taken = if self.calls == self.fails_at {
-            bytes.len() / 2
-        } else {
-            bytes.len()
-        };
-        match self.kept.extend_from_slice(&bytes[..taken]) {
-            Ok(()) => Ok(taken),
-            Err(_) => Err(io::ErrorKind::OutOfMemory.into()),
-        }
-    }
-
-    fn flush(&mut self) -> io::Result<()> {
-        Ok(())
-    }
 }
 
 /// Asserts what a device that failed in one call was left with: a beginning of the text, and no call after that one.

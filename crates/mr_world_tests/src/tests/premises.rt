@@ -1,23 +1,36 @@
 //! No premise can be spared: in each of these runs one alone is false, and a get hits what an acknowledged delete was
 //! to remove. Each request has one leg, which is delivered and returned at once.
-use super::making::*;
-use super::moves::*;
-use super::*;
+use super::playing::{Shown, shows};
+use mr_history::Author;
+use mr_phases::Side;
+use mr_world::World;
+use mr_world_test_parts::{
+    AGAIN, DELETE, FIRST, Fleet, GET, Move, OTHER_FIRST, OTHER_SECOND, SECOND, SET, Told, events_of,
+};
+use std::alloc::Global;
+use std::process::Abort;
+use std::test::Fail;
 
-/// Runs moves that nothing refuses, and asserts what the history says then, and that this get hit what this delete
-/// was to remove.
-fn betrays(
-    rt: &impl Abort,
-    alloc: Global,
-    world: &mut World,
-    moves: &[Move],
-    told: &[Told],
-    ops: (OpId, OpId),
-) -> Result<(), Fail> {
-    let events = events_of(alloc, moves)?;
+/// A fleet, moves that nothing refuses, and what the world shows then.
+struct Betrayal {
+    fleet: Fleet,
+    moves: &'static [Move],
+    shown: Shown,
+}
+
+/// The world of a fleet behind the moves.
+fn played(alloc: Global, betrayal: &Betrayal) -> Result<World, Fail> {
+    let events = events_of(alloc, betrayal.moves)?;
+    let mut world = betrayal.fleet.world(alloc)?;
     world.run(events)?;
-    assert!(rt; says(world.history(), told));
-    assert_eq!(rt; verdict(world), (Some(ops.0), Some(ops.1)));
+    Ok(world)
+}
+
+/// Runs the moves, and asserts what the world shows then: its verdict is a get, and the delete that was to remove what
+/// the get hit.
+fn betrays(rt: &impl Abort, alloc: Global, betrayal: &Betrayal) -> Result<(), Fail> {
+    let world = played(alloc, betrayal)?;
+    shows(rt, &world, &betrayal.shown);
     Ok(())
 }
 
@@ -46,84 +59,121 @@ const BETWEEN_POOLS: [Told; 8] = [
     Told::Hit(OTHER_SECOND, b'k', b'v'),
 ];
 
+/// The migration of the second proxy started at 100.
+static TWO_PLANS: Betrayal = Betrayal {
+    fleet: Fleet {
+        proxies: &[(1000, 999), (100, 999)],
+        room: 4,
+        capacity: 4,
+        holders: &[],
+    },
+    moves: &BY_TWO,
+    shown: Shown {
+        told: &BETWEEN_POOLS,
+        premises: (false, true, true, true),
+        verdict: (Some(OTHER_SECOND), Some(FIRST)),
+        sent: (3, 3),
+    },
+};
+
 #[test]
 fn plans_that_differ_betray_a_delete(rt: HostRuntime) -> Result<(), Fail> {
-    let alloc = rt.alloc();
-    let mut world = world_of_two_plans(alloc)?;
-    let ops = (OTHER_SECOND, FIRST);
-    betrays(&rt, alloc, &mut world, &BY_TWO, &BETWEEN_POOLS, ops)?;
-    assert_eq!(rt; premises(&world), (false, true, true, true));
-    Ok(())
+    betrays(&rt, rt.alloc(), &TWO_PLANS)
 }
+
+static FAR_APART: Betrayal = Betrayal {
+    fleet: Fleet {
+        proxies: &[(1000, 999), (1000, 1100)],
+        room: 4,
+        capacity: 4,
+        holders: &[],
+    },
+    moves: &BY_TWO,
+    shown: Shown {
+        told: &BETWEEN_POOLS,
+        premises: (true, true, true, false),
+        verdict: (Some(OTHER_SECOND), Some(FIRST)),
+        sent: (3, 3),
+    },
+};
 
 #[test]
 fn clocks_too_far_apart_betray_a_delete(rt: HostRuntime) -> Result<(), Fail> {
-    let alloc = rt.alloc();
-    let mut world = world(alloc, &[999, 1100], Vec::new(alloc))?;
-    let ops = (OTHER_SECOND, FIRST);
-    betrays(&rt, alloc, &mut world, &BY_TWO, &BETWEEN_POOLS, ops)?;
-    assert_eq!(rt; premises(&world), (true, true, true, false));
-    Ok(())
+    betrays(&rt, rt.alloc(), &FAR_APART)
 }
 
 /// The proxy deletes the key from the old pool, and gets it from the new one.
-const FROM_OLD_TO_NEW: [Move; 7] = [
-    Move::Client(0, DELETE),
-    Move::Deliver(0, 1),
-    Move::Return(0),
-    Move::Clock(0, 1100),
-    Move::Client(0, GET),
-    Move::Deliver(1, 1),
-    Move::Return(1),
-];
-
-const HELD_BY_NEW: [Told; 6] = [
-    Told::Stored(Author::Beginning, b'k', b'v'),
-    Told::Deleted(FIRST, b'k'),
-    Told::Removed(FIRST, Side::Old, b'k'),
-    Told::Answered(FIRST, "NOT_FOUND"),
-    Told::Got(SECOND, b'k'),
-    Told::Hit(SECOND, b'k', b'v'),
-];
+static FROM_OLD_TO_NEW: Betrayal = Betrayal {
+    fleet: Fleet {
+        proxies: &[(1000, 999)],
+        room: 4,
+        capacity: 4,
+        holders: &[b"7103"],
+    },
+    moves: &[
+        Move::Client(0, DELETE),
+        Move::Deliver(0, 1),
+        Move::Return(0),
+        Move::Clock(0, 1100),
+        Move::Client(0, GET),
+        Move::Deliver(1, 1),
+        Move::Return(1),
+    ],
+    shown: Shown {
+        told: &[
+            Told::Stored(Author::Beginning, b'k', b'v'),
+            Told::Deleted(FIRST, b'k'),
+            Told::Removed(FIRST, Side::Old, b'k'),
+            Told::Answered(FIRST, "NOT_FOUND"),
+            Told::Got(SECOND, b'k'),
+            Told::Hit(SECOND, b'k', b'v'),
+        ],
+        premises: (true, false, true, true),
+        verdict: (Some(SECOND), Some(FIRST)),
+        sent: (2, 2),
+    },
+};
 
 #[test]
 fn an_item_that_a_new_node_held_betrays_a_delete(rt: HostRuntime) -> Result<(), Fail> {
-    let alloc = rt.alloc();
-    let mut world = world(alloc, &[999], vec![in alloc; held(alloc, b"7103")?]?)?;
-    let ops = (SECOND, FIRST);
-    betrays(&rt, alloc, &mut world, &FROM_OLD_TO_NEW, &HELD_BY_NEW, ops)?;
-    assert_eq!(rt; premises(&world), (true, false, true, true));
-    Ok(())
+    betrays(&rt, rt.alloc(), &FROM_OLD_TO_NEW)
 }
 
 /// The proxy deletes the key from the new pool, and gets it from the old one: its clock goes back, and it forgets the
 /// last reading.
-const FROM_NEW_TO_OLD: [Move; 8] = [
-    Move::Client(0, DELETE),
-    Move::Deliver(0, 1),
-    Move::Return(0),
-    Move::Clock(0, 999),
-    Move::ProxyRestart(0),
-    Move::Client(0, GET),
-    Move::Deliver(1, 1),
-    Move::Return(1),
-];
-
-const HELD_BY_OLD: [Told; 6] = [
-    Told::Stored(Author::Beginning, b'k', b'v'),
-    Told::Deleted(FIRST, b'k'),
-    Told::Removed(FIRST, Side::New, b'k'),
-    Told::Answered(FIRST, "NOT_FOUND"),
-    Told::Got(AGAIN, b'k'),
-    Told::Hit(AGAIN, b'k', b'v'),
-];
+static FROM_NEW_TO_OLD: Betrayal = Betrayal {
+    fleet: Fleet {
+        proxies: &[(1000, 1200)],
+        room: 4,
+        capacity: 4,
+        holders: &[b"7002"],
+    },
+    moves: &[
+        Move::Client(0, DELETE),
+        Move::Deliver(0, 1),
+        Move::Return(0),
+        Move::Clock(0, 999),
+        Move::ProxyRestart(0),
+        Move::Client(0, GET),
+        Move::Deliver(1, 1),
+        Move::Return(1),
+    ],
+    shown: Shown {
+        told: &[
+            Told::Stored(Author::Beginning, b'k', b'v'),
+            Told::Deleted(FIRST, b'k'),
+            Told::Removed(FIRST, Side::New, b'k'),
+            Told::Answered(FIRST, "NOT_FOUND"),
+            Told::Got(AGAIN, b'k'),
+            Told::Hit(AGAIN, b'k', b'v'),
+        ],
+        premises: (true, true, false, true),
+        verdict: (Some(AGAIN), Some(FIRST)),
+        sent: (2, 2),
+    },
+};
 
 #[test]
 fn a_clock_that_goes_back_betrays_a_delete(rt: HostRuntime) -> Result<(), Fail> {
-    let alloc = rt.alloc();
-    let mut world = world(alloc, &[1200], vec![in alloc; held(alloc, b"7002")?]?)?;
-    let ops = (AGAIN, FIRST);
-    betrays(&rt, alloc, &mut world, &FROM_NEW_TO_OLD, &HELD_BY_OLD, ops)?;
-    assert_eq!(rt; premises(&world), (true, true, false, true));
-    Ok(())
+    betrays(&rt, rt.alloc(), &FROM_NEW_TO_OLD)
 }

@@ -1,25 +1,46 @@
 //! What is refused, what is copied, and runs that stop.
-use super::making::*;
-use super::moves::*;
-use super::*;
+use super::playing::{Run, Shown, goes};
+use mr_history::Author;
+use mr_proxy::ProxyError;
+use mr_world::{Event, Note, World, WorldError};
+use mr_world_test_parts::{
+    Asked, DELETE, FIRST, Fleet, GET, Move, Row, Told, event_of, events_of, first_other, says,
+};
+use std::alloc::{AllocError, Global};
+use std::test::Fail;
 
-const NOT_THERE: [Row; 8] = [
-    (Move::Clock(1, 5), Err(WorldError::NoSuchProxy)),
-    (Move::Client(1, Asked::Quit), Err(WorldError::NoSuchProxy)),
-    (Move::Deliver(0, 1), Err(WorldError::NoSuchMessage)),
-    (Move::Return(0), Err(WorldError::NoSuchMessage)),
-    (Move::GiveUp(FIRST), Err(WorldError::NoSuchOp)),
-    (Move::NodeRestart(b"7004"), Err(WorldError::NoSuchNode)),
-    (Move::ProxyRestart(1), Err(WorldError::NoSuchProxy)),
-    (Move::Client(0, Asked::Quit), Ok(Note::Nothing)),
-];
+/// Moves that name what there is none of, and a quit.
+static NOT_THERE: Run = Run {
+    fleet: Fleet {
+        proxies: &[(1000, 999)],
+        room: 4,
+        capacity: 4,
+        holders: &[],
+    },
+    rows: &[
+        (Move::Clock(1, 5), Err(WorldError::NoSuchProxy)),
+        (Move::Client(1, Asked::Quit), Err(WorldError::NoSuchProxy)),
+        (Move::Deliver(0, 1), Err(WorldError::NoSuchMessage)),
+        (Move::Return(0), Err(WorldError::NoSuchMessage)),
+        (Move::GiveUp(FIRST), Err(WorldError::NoSuchOp)),
+        (Move::NodeRestart(b"7004"), Err(WorldError::NoSuchNode)),
+        (Move::ProxyRestart(1), Err(WorldError::NoSuchProxy)),
+        (Move::Client(0, Asked::Quit), Ok(Note::Nothing)),
+    ],
+    shown: Shown {
+        told: &[],
+        premises: (true, true, true, true),
+        verdict: (None, None),
+        sent: (0, 0),
+    },
+};
 
 #[test]
 fn what_is_not_there_is_refused(rt: HostRuntime) -> Result<(), Fail> {
-    goes_at_first(&rt, rt.alloc(), &NOT_THERE, &[])
+    goes(&rt, rt.alloc(), &NOT_THERE)
 }
 
-const NUMBERS: [(WorldError, u8); 6] = [
+static NUMBERS: [(WorldError, u8); 6] = [
     (WorldError::NoSuchProxy, 1),
     (WorldError::NoSuchNode, 2),
     (WorldError::NoSuchMessage, 3),
@@ -30,107 +51,177 @@ const NUMBERS: [(WorldError, u8); 6] = [
 
 #[test]
 fn refusals_have_numbers(rt: HostRuntime) {
-    for (refusal, number) in NUMBERS {
-        assert_eq!(rt; refusal.number(), number);
+    for (refusal, number) in &NUMBERS {
+        assert_eq!(rt; refusal.number(), *number);
     }
 }
 
 /// A proxy that has room for no request.
-fn proxy_without_room(alloc: Global) -> Result<ProxySetup, Fail> {
-    let mut only = proxy(alloc, 999)?;
-    only.room = 0;
-    Ok(only)
-}
-
-/// The setup of such a proxy alone.
-fn setup_without_room(alloc: Global) -> Result<Setup, Fail> {
-    let proxies = vec![in alloc; proxy_without_room(alloc)?]?;
-    Ok(Setup::new(proxies, 4, Vec::new(alloc)))
-}
-
-/// The world of a setup.
-fn made(alloc: Global, setup: Setup) -> Result<Result<World, WorldError>, Fail> {
-    if setup.proxies().len() > 1 {
-        return Err(Fail::from("too many proxies"));
-    }
-    Ok(World::new(alloc, setup))
-}
-
-const WITHOUT_ROOM: [Row; 1] = [(
-    Move::Client(0, Asked::Get(b'k')),
-    Err(WorldError::IssueRefused(ProxyError::NoRoom)),
-)];
+static WITHOUT_ROOM: Run = Run {
+    fleet: Fleet {
+        proxies: &[(1000, 999)],
+        room: 0,
+        capacity: 4,
+        holders: &[],
+    },
+    rows: &[(
+        Move::Client(0, GET),
+        Err(WorldError::IssueRefused(ProxyError::NoRoom)),
+    )],
+    shown: Shown {
+        told: &[],
+        premises: (true, true, true, true),
+        verdict: (None, None),
+        sent: (0, 0),
+    },
+};
 
 #[test]
 fn a_proxy_without_room_refuses(rt: HostRuntime) -> Result<(), Fail> {
-    let alloc = rt.alloc();
-    let mut world = made(alloc, setup_without_room(alloc)?)??;
-    goes(&rt, alloc, &mut world, &WITHOUT_ROOM, &[])?;
-    assert_eq!(rt; (world.sent().len(), world.replies().len()), (0, 0));
-    Ok(())
+    goes(&rt, rt.alloc(), &WITHOUT_ROOM)
 }
 
 /// No proxies, and an item of the node 7004.
-fn setup_of_a_stray(alloc: Global) -> Result<Setup, Fail> {
-    let stray = vec![in alloc; held(alloc, b"7004")?]?;
-    Ok(Setup::new(Vec::new(alloc), 0, stray))
-}
+const STRAY: Fleet = Fleet {
+    proxies: &[],
+    room: 4,
+    capacity: 0,
+    holders: &[b"7004"],
+};
 
 #[test]
 fn a_setup_needs_its_nodes(rt: HostRuntime) -> Result<(), Fail> {
-    let alloc = rt.alloc();
-    let refusal = made(alloc, setup_of_a_stray(alloc)?)?.err();
+    let refusal = STRAY.world_or_refusal(rt.alloc())?.err();
     assert_eq!(rt; refusal, Some(WorldError::NoSuchNode));
     Ok(())
 }
 
 #[test]
 fn a_setup_is_copied(rt: HostRuntime) -> Result<(), Fail> {
-    let copied = setup_of_a_stray(rt.alloc())?.copy()?;
+    let copied = STRAY.setup(rt.alloc())?.copy()?;
     assert_eq!(rt; copied.held().len(), 1);
     Ok(())
 }
 
+/// One proxy at 999, and nodes that hold nothing.
+const FLEET: Fleet = Fleet {
+    proxies: &[(1000, 999)],
+    room: 4,
+    capacity: 4,
+    holders: &[],
+};
+
 /// A delete, a message that was never sent, and a delete.
-fn events_that_stop(alloc: Global) -> Result<Vec<Event>, Fail> {
-    let first = event_of(alloc, Move::Client(0, Asked::Delete(b'k', false)))?;
-    let copied = first.copy()?;
-    let lost = Event::Deliver { message: 1, now: 0 };
-    Ok(vec![in alloc; first, lost, copied]?)
+static STOPPED: [Move; 3] = [
+    Move::Client(0, DELETE),
+    Move::Deliver(1, 0),
+    Move::Client(0, DELETE),
+];
+
+/// Equal events.
+fn copies(alloc: Global, events: &[Event]) -> Result<Vec<Event>, Fail> {
+    let mut copied = Vec::new(alloc);
+    for event in events {
+        copied.push(event.copy()?)?;
+    }
+    Ok(copied)
+}
+
+/// The events that stop a run.
+fn stopping_events(alloc: Global) -> Result<Vec<Event>, Fail> {
+    let events = events_of(alloc, &STOPPED)?;
+    copies(alloc, &events)
+}
+
+/// Where a run of these events stops and why, and whether the history says then what it has to.
+fn stops(alloc: Global, told: &[Told]) -> Result<(Result<(), (usize, WorldError)>, bool), Fail> {
+    let events = stopping_events(alloc)?;
+    let mut world = FLEET.world(alloc)?;
+    let stop = world.run(events);
+    Ok((stop, says(world.history(), told)))
 }
 
 #[test]
 fn a_run_stops_at_the_first_refused_event(rt: HostRuntime) -> Result<(), Fail> {
-    let alloc = rt.alloc();
-    let mut world = world(alloc, &[999], Vec::new(alloc))?;
-    let events = events_that_stop(alloc)?;
-    let stop = world.run(events);
-    assert_eq!(rt; stop, Err((1, WorldError::NoSuchMessage)));
-    assert!(rt; says(world.history(), &[Told::Deleted(FIRST, b'k')]));
+    let stop = stops(rt.alloc(), &[Told::Deleted(FIRST, b'k')])?;
+    assert_eq!(rt; stop, (Err((1, WorldError::NoSuchMessage)), true));
     Ok(())
 }
 
-const SILENT: [Row; 2] = [
-    (
-        Move::Client(0, Asked::Delete(b'k', true)),
-        Ok(Note::Issued {
-            op: FIRST,
-            first: 0,
-            count: 1,
-        }),
-    ),
-    (Move::GiveUp(FIRST), Ok(Note::Answered { op: FIRST })),
-];
+/// A delete whose answer is not wanted is given up.
+static SILENT: Run = Run {
+    fleet: Fleet {
+        proxies: &[(1000, 999)],
+        room: 4,
+        capacity: 4,
+        holders: &[],
+    },
+    rows: &[
+        (
+            Move::Client(0, Asked::Delete(b'k', true)),
+            Ok(Note::Issued {
+                op: FIRST,
+                first: 0,
+                count: 1,
+            }),
+        ),
+        (Move::GiveUp(FIRST), Ok(Note::Answered { op: FIRST })),
+    ],
+    shown: Shown {
+        told: &[Told::Deleted(FIRST, b'k')],
+        premises: (true, true, true, true),
+        verdict: (None, None),
+        sent: (1, 0),
+    },
+};
 
 #[test]
 fn a_noreply_delete_is_not_answered(rt: HostRuntime) -> Result<(), Fail> {
-    goes_at_first(&rt, rt.alloc(), &SILENT, &[Told::Deleted(FIRST, b'k')])
+    goes(&rt, rt.alloc(), &SILENT)
 }
 
-const FORGETS: [Row; 4] = [
-    (Move::NodeRestart(b"7002"), Ok(Note::Nothing)),
+/// The node that holds the key loses it.
+static FORGETS: Run = Run {
+    fleet: Fleet {
+        proxies: &[(1000, 999)],
+        room: 4,
+        capacity: 4,
+        holders: &[b"7002"],
+    },
+    rows: &[
+        (Move::NodeRestart(b"7002"), Ok(Note::Nothing)),
+        (
+            Move::Client(0, GET),
+            Ok(Note::Issued {
+                op: FIRST,
+                first: 0,
+                count: 1,
+            }),
+        ),
+        (Move::Deliver(0, 1), Ok(Note::Performed { reply: 0 })),
+        (Move::Return(0), Ok(Note::Answered { op: FIRST })),
+    ],
+    shown: Shown {
+        told: &[
+            Told::Stored(Author::Beginning, b'k', b'v'),
+            Told::Got(FIRST, b'k'),
+            Told::Answered(FIRST, "END"),
+        ],
+        premises: (true, true, true, true),
+        verdict: (None, None),
+        sent: (1, 1),
+    },
+};
+
+#[test]
+fn a_restarted_node_forgets(rt: HostRuntime) -> Result<(), Fail> {
+    goes(&rt, rt.alloc(), &FORGETS)
+}
+
+/// A get, which a node has answered.
+static ANSWERED: [Row; 3] = [
     (
-        Move::Client(0, Asked::Get(b'k')),
+        Move::Client(0, GET),
         Ok(Note::Issued {
             op: FIRST,
             first: 0,
@@ -141,56 +232,39 @@ const FORGETS: [Row; 4] = [
     (Move::Return(0), Ok(Note::Answered { op: FIRST })),
 ];
 
-const FORGOTTEN: [Told; 3] = [
-    Told::Stored(Author::Beginning, b'k', b'v'),
-    Told::Got(FIRST, b'k'),
-    Told::Answered(FIRST, "END"),
-];
-
-/// A world of one proxy at 999, where 7002 holds `k`.
-fn world_that_holds(alloc: Global) -> Result<World, Fail> {
-    let items = vec![in alloc; held(alloc, b"7002")?]?;
-    world(alloc, &[999], items)
-}
-
-#[test]
-fn a_restarted_node_forgets(rt: HostRuntime) -> Result<(), Fail> {
-    let alloc = rt.alloc();
-    let mut world = world_that_holds(alloc)?;
-    goes(&rt, alloc, &mut world, &FORGETS, &FORGOTTEN)
-}
-
-/// The nodes of copies of the messages.
-fn nodes_of_copies(rt: &impl Abort, world: &World) -> Result<(), Fail> {
-    for message in world.sent() {
-        assert_eq!(rt; message.copy()?.node, 1);
+/// The node of a copy of the only message, and the message of a copy of the only delivery.
+fn copied(world: &World) -> Result<Option<(usize, usize)>, AllocError> {
+    match (world.sent(), world.replies()) {
+        ([message], [delivery]) => Ok(Some((message.copy()?.node, delivery.copy()?.message))),
+        _ => Ok(None),
     }
-    Ok(())
 }
 
-/// The messages of copies of the deliveries.
-fn messages_of_copies(rt: &impl Abort, world: &World) -> Result<(), Fail> {
-    for delivery in world.replies() {
-        assert_eq!(rt; delivery.copy()?.message, 0);
+/// The same, behind the get.
+fn copied_behind_get(alloc: Global) -> Result<Option<(usize, usize)>, Fail> {
+    let mut world = FLEET.world(alloc)?;
+    match first_other(alloc, &mut world, &ANSWERED)? {
+        None => Ok(copied(&world)?),
+        Some(_) => Ok(None),
     }
-    Ok(())
 }
 
 #[test]
 fn messages_and_deliveries_are_copied(rt: HostRuntime) -> Result<(), Fail> {
-    let alloc = rt.alloc();
-    let mut world = world(alloc, &[999], Vec::new(alloc))?;
-    ask(&mut world, 0, get(alloc)?)?;
-    nodes_of_copies(&rt, &world)?;
-    messages_of_copies(&rt, &world)
+    assert_eq!(rt; copied_behind_get(rt.alloc())?, Some((1, 0)));
+    Ok(())
+}
+
+/// What becomes of a get that is issued first.
+fn first_note(alloc: Global) -> Result<Result<Note, WorldError>, Fail> {
+    let mut world = FLEET.world(alloc)?;
+    let event = event_of(alloc, Move::Client(0, GET))?;
+    Ok(world.step(event))
 }
 
 #[test]
 fn a_note_is_copied(rt: HostRuntime) -> Result<(), Fail> {
-    let alloc = rt.alloc();
-    let mut world = world(alloc, &[999], Vec::new(alloc))?;
-    let request = get(alloc)?;
-    let note = play(&mut world, Event::Client { proxy: 0, request })?;
+    let note = first_note(rt.alloc())??;
     assert_eq!(rt; note.copy(), note);
     Ok(())
 }

@@ -88,15 +88,16 @@ pub fn item(alloc: Global, name: &[u8], data: &[u8]) -> Result<Item, Fail> {
     })
 }
 
-/// An answer of one item.
-pub fn hit(alloc: Global, op: OpId, name: &[u8], data: &[u8]) -> Result<Entry, Fail> {
-    let items = vec![in alloc; item(alloc, name, data)?]?;
+/// An answer of these items.
+pub fn items(alloc: Global, op: OpId, found: &[(&[u8], &[u8])]) -> Result<Entry, Fail> {
+    let mut items = Vec::new(alloc);
+    for (name, data) in found {
+        items.push(item(alloc, name, data)?)?;
+    }
+    if items.len() > 8 {
+        return Err(Fail::from("too many items"));
+    }
     Ok(answered(op, Reply::Items(ItemList::new(items))))
-}
-
-/// An answer without items.
-pub fn end(alloc: Global, op: OpId) -> Entry {
-    answered(op, Reply::Items(ItemList::new(Vec::new(alloc))))
 }
 
 /// Appends the entry where it fits, and tells whether it did.

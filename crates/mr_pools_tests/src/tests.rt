@@ -1,5 +1,5 @@
 //! Worked values of names, hashes, pools and routings.
-use crate::{Fnv1a32, KeyHash, NamedHash, NodeName, Pool, PoolError, Routing, SumHash, laws};
+use mr_pools::{Fnv1a32, KeyHash, NamedHash, NodeName, Pool, PoolError, Routing, SumHash, laws};
 use mr_text::Key;
 use std::alloc::Global;
 use std::test::Fail;

@@ -1,5 +1,5 @@
 //! A migration that starts at 1000 with an interval of 100 seconds.
-use super::*;
+use mr_phases::{Judged, PhaseName, RequestKind, Schedule, ScheduleError, Side, judge, laws};
 use std::test::Fail;
 
 #[test]

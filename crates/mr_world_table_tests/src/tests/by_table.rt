@@ -1,8 +1,18 @@
 //! The world beside the table of events, on many lists of events.
-use super::making::*;
-use super::moves::*;
 use super::table::Table;
-use super::*;
+use mr_history::OpId;
+use mr_world::World;
+use mr_world_test_parts::{Asked, Fleet, Move, event_of};
+use std::alloc::Global;
+use std::test::Fail;
+
+/// Two proxies at 999 and 1050, and nodes that hold nothing.
+const FLEET: Fleet = Fleet {
+    proxies: &[(1000, 999), (1000, 1050)],
+    room: 4,
+    capacity: 4,
+    holders: &[],
+};
 
 /// A small generator of numbers.
 #[derive(Clone, Copy)]
@@ -106,7 +116,7 @@ fn agree_for_long(
 
 /// The same, of a new world and a new table.
 fn both_agree(alloc: Global, dice: &mut Dice) -> Result<bool, Fail> {
-    let mut world = world(alloc, &[999, 1050], Vec::new(alloc))?;
+    let mut world = FLEET.world(alloc)?;
     let mut table = Table::new(alloc)?;
     agree_for_long(alloc, &mut world, &mut table, dice)
 }

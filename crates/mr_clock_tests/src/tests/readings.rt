@@ -1,4 +1,5 @@
-use super::*;
+//! The readings of a fleet.
+use mr_clock::{ClockError, ClockFault, Readings};
 use std::test::Fail;
 
 #[test]
@@ -35,7 +36,7 @@ fn fewer_than_two_readings_have_no_difference(rt: HostRuntime) -> Result<(), Fai
 
 #[test]
 fn refusals_have_numbers(rt: HostRuntime) {
-    assert_eq!(rt; ClockError::from(crate::error::ClockFault).number(), 1);
+    assert_eq!(rt; ClockError::from(ClockFault).number(), 1);
     assert_eq!(rt; ClockError::NoSuchProxy.number(), 2);
     assert_eq!(rt; ClockError::OutOfMemory.number(), 3);
 }

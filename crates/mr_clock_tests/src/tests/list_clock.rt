@@ -1,5 +1,5 @@
-use super::*;
-use crate::fixed_clock::FixedClock;
+//! Clocks whose readings are given.
+use mr_clock::{Clock, FixedClock, ListClock};
 use std::test::Fail;
 
 fn read<C: Clock>(clock: &mut C) -> Option<u64> {

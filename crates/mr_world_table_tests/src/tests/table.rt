@@ -2,11 +2,17 @@
 ghost use Rattle.std.specs.Prelude.{◌≢◌};
 ghost use Rattle.mr_text.specs.declared.request.Request.{Request};
 
-use super::making::*;
-use super::*;
+use mr_history::{Author, OpId};
 use mr_join::LegReply;
 use mr_node::{CacheNode, NodeCommand, Perform};
-use mr_proxy::{Answer, Issued, Leg, LegBack, LegId, LegSheet, ProxyCore, Taken};
+use mr_phases::{Schedule, Side};
+use mr_pools::NodeName;
+use mr_proxy::{Answer, Issued, Leg, LegBack, LegId, LegSheet, ProxyCore, ProxyError, Taken};
+use mr_text::Request;
+use mr_world::{Event, Note, World, WorldError};
+use mr_world_test_parts::{Told, only, routing, says, tell_reply, tell_request};
+use std::alloc::Global;
+use std::test::Fail;
 
 /// What becomes of an event.
 type Outcome = Result<Note, WorldError>;

@@ -1,4 +1,5 @@
-use super::*;
+//! Replies joined in either order, and the worse of two.
+use mr_join::{Joining, LegReply, worse};
 use mr_phases::Side;
 use mr_text::{Block, Cause};
 use std::test::Fail;

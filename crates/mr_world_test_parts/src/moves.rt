@@ -1,14 +1,21 @@
 //! Events in a few words, and what each has to come to.
-use super::making::{Told, says, world};
-use super::*;
+use mr_history::OpId;
+use mr_pools::NodeName;
+use mr_text::{Block, Key, KeyList, Request};
+use mr_world::{Event, Note, World, WorldError};
+use std::alloc::Global;
+use std::test::Fail;
 
 /// What a client asks for, of a key of one byte. An answer is wanted where the second part isn't true.
 #[derive(Clone, Copy)]
 pub enum Asked {
+    /// A get of the key.
     Get(u8),
     /// A set of the data `v`.
     Set(u8, bool),
+    /// A delete of the key.
     Delete(u8, bool),
+    /// A quit.
     Quit,
 }
 
@@ -32,9 +39,11 @@ pub enum Move {
     Deliver(usize, u64),
     /// The reply of this number reaches its proxy.
     Return(usize),
+    /// The request of this name is given up.
     GiveUp(OpId),
     /// The node of this name loses all that it holds.
     NodeRestart(&'static [u8]),
+    /// The proxy of this number forgets all requests under way.
     ProxyRestart(u32),
 }
 
@@ -66,7 +75,7 @@ fn key_of(alloc: Global, key: u8) -> Result<Key, Fail> {
 }
 
 /// The request for what is asked.
-pub fn request_of(alloc: Global, asked: Asked) -> Result<Request, Fail> {
+fn request_of(alloc: Global, asked: Asked) -> Result<Request, Fail> {
     match asked {
         Asked::Get(key) => get_of(alloc, key_of(alloc, key)?),
         Asked::Set(key, noreply) => set_of(alloc, key_of(alloc, key)?, noreply),
@@ -116,37 +125,12 @@ fn comes_so(alloc: Global, world: &mut World, row: &Row) -> Result<bool, Fail> {
     Ok(world.step(event) == row.1)
 }
 
-/// The place of the first move that comes to something else.
-fn first_other(alloc: Global, world: &mut World, rows: &[Row]) -> Result<Option<usize>, Fail> {
+/// Plays moves until one comes to something else than it has to, and tells the place of that one.
+pub fn first_other(alloc: Global, world: &mut World, rows: &[Row]) -> Result<Option<usize>, Fail> {
     for (place, row) in rows.iter().enumerate() {
         if !comes_so(alloc, world, row)? {
             return Ok(Some(place));
         }
     }
     Ok(None)
-}
-
-/// Asserts what moves come to, and what the history says then.
-pub fn goes(
-    rt: &impl Abort,
-    alloc: Global,
-    world: &mut World,
-    rows: &[Row],
-    told: &[Told],
-) -> Result<(), Fail> {
-    let other = first_other(alloc, world, rows)?;
-    assert_eq!(rt; other, None);
-    assert!(rt; says(world.history(), told));
-    Ok(())
-}
-
-/// The same, of a world of one proxy at 999 whose nodes hold nothing.
-pub fn goes_at_first(
-    rt: &impl Abort,
-    alloc: Global,
-    rows: &[Row],
-    told: &[Told],
-) -> Result<(), Fail> {
-    let mut world = world(alloc, &[999], Vec::new(alloc))?;
-    goes(rt, alloc, &mut world, rows, told)
 }
