@@ -1,0 +1,15 @@
+pub mod CheckLemmas
+pub mod ConfigLemmas
+pub mod EventLemmas
+pub mod FieldLemmas
+pub mod HomeLemmas
+pub mod ListLemmas
+pub mod PlayLemmas
+pub mod PoolLemmas
+pub mod ReadingLemmas
+pub mod ScriptLemmas
+pub mod SetupLemmas
+pub mod ShownLemmas
+pub mod TextLemmas
+pub mod ValueLemmas
+pub mod WholeLemmas

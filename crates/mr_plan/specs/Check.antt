@@ -1,0 +1,79 @@
+-- What a check of a transcript finds.
+use Rattle.std.specs.Prelude.{◌≡◌, List, Bool, true, false, ◌&&◌, if◌then◌else◌, Option, Some, None, option_map, unwrap_or, codes}
+use Rattle.serde_json.specs.Data.{Data, array}
+use Rattle.serde_json.specs.Find.{get}
+use Rattle.mr_history.specs.declared.entry.Entry.{Entry}
+use Rattle.mr_history.specs.History.{IsSafe}
+use Rattle.mr_world.specs.Headline.{AllHold}
+use Rattle.mr_world.specs.Premises.{premises_of}
+use Rattle.mr_world.specs.Setup.{SetupView, Begins}
+use Rattle.mr_world.specs.Steps.{WorldRun}
+use Rattle.mr_world.specs.WorldView.{WorldView}
+use Rattle.mr_world.specs.declared.event.Event.{Event}
+use Rattle.mr_world.specs.declared.note.Note.{Note}
+use Rattle.mr_world.specs.declared.premises.Premises.{Premises}
+use Rattle.mr_plan.specs.Fields.{Text}
+use Rattle.mr_plan.specs.Play.{PlaysTo, IsPlay}
+use Rattle.mr_plan.specs.Shown.{entries_json, notes_json, premises_json, verdict_json}
+use Rattle.mr_plan.specs.Values.{is_same}
+use Rattle.mr_plan.specs.Verdict.{JudgesSo}
+use Rattle.mr_plan.specs.declared.check.Checked.{Checked}
+use Rattle.mr_plan.specs.declared.check.Outcome.{Outcome}
+use Rattle.mr_plan.specs.declared.check.Outcome.TheVariants.{EventRefused, NotesDiffer, HistoryDiffers, PremisesDiffer, VerdictDiffers, PremiseFalse, NotSafe, Accepted}
+use Rattle.mr_plan.specs.declared.play.Stop.{Stop}
+use Rattle.mr_plan.specs.declared.verdict.KeptVerdict.{KeptVerdict}
+use Rattle.mr_plan.specs.declared.verdict.KeptVerdict.TheVariants.{Safe, Stale, Invented}
+
+-- the transcript has this value under the key
+abbrev pub tells : Data → Text → Data → Bool
+tells transcript key value = unwrap_or (option_map (λ found. is_same value found) (get key transcript)) false
+
+abbrev pub all_hold : Premises → Bool
+all_hold premises = premises.same && (premises.new_empty && (premises.forward && premises.near))
+
+abbrev pub is_safe : KeptVerdict → Bool
+is_safe Safe = true
+is_safe (Stale get key delete) = false
+is_safe (Invented get key) = false
+
+-- the first that holds: the transcript is held against a play of all its events
+abbrev pub outcome_of_play : Data → List Note → List Entry → Premises → KeptVerdict → Outcome
+outcome_of_play transcript notes history premises verdict =
+    if tells transcript (codes "notes") (array (notes_json notes)) then (
+    if tells transcript (codes "history") (array (entries_json history)) then (
+    if tells transcript (codes "premises") (premises_json premises) then (
+    if tells transcript (codes "verdict") (verdict_json verdict) then (
+    if all_hold premises then (if is_safe verdict then Accepted else NotSafe) else PremiseFalse)
+    else VerdictDiffers)
+    else PremisesDiffer)
+    else HistoryDiffers)
+    else NotesDiffer
+
+-- an event that is refused comes before all else
+abbrev pub outcome_of : Data → Option Stop → List Note → List Entry → Premises → KeptVerdict → Outcome
+outcome_of transcript (Some stop) notes history premises verdict = EventRefused stop.index
+outcome_of transcript None notes history premises verdict = outcome_of_play transcript notes history premises verdict
+
+-- the transcript's events were played on its setup; premises and verdict are those of the play
+pub record IsChecked (transcript : Data) (setup : SetupView) (events : List Event) (checked : Checked) : Type 0 where
+  pub notes : List Note
+  pub world : WorldView
+  pub stop : Option Stop
+  pub play : IsPlay setup events notes world stop
+  pub premises : checked.premises ≡ premises_of world
+  pub judges : JudgesSo world.history checked.verdict
+  pub outcome : checked.outcome ≡ outcome_of transcript stop notes world.history checked.premises checked.verdict
+
+-- What an accepted transcript vouches for: all its events were accepted one after the other on the fleet of its setup, its
+-- notes and its history are those of that run, all four premises hold for it, and each hit of it is good.
+pub record IsVouchedFor (transcript : Data) (setup : SetupView) (events : List Event) : Type 0 where
+  pub notes : List Note
+  pub start : WorldView
+  pub end : WorldView
+  pub begins : Begins setup start
+  pub run : WorldRun start events end
+  pub plays : PlaysTo start events notes end
+  pub notes_told : tells transcript (codes "notes") (array (notes_json notes)) ≡ true
+  pub history_told : tells transcript (codes "history") (array (entries_json end.history)) ≡ true
+  pub premises : AllHold (premises_of end)
+  pub safe : IsSafe end.history

@@ -1,0 +1,30 @@
+//! Configurations, plans, timelines, scripts and transcripts.
+use mr_history::OpId;
+use mr_phases::{PhaseName, ScheduleError, Side};
+use mr_plan::{Config, KeptVerdict, PhaseTimes, PlanError, Span, advise, plan, timeline};
+use mr_pools::{NamedHash, Pool, PoolError};
+use mr_text::{Key, KeyList, Request};
+use std::alloc::Global;
+use std::process::Abort;
+use std::test::Fail;
+
+mod configurations;
+mod plans;
+mod transcripts;
+
+/// The configuration of the worked examples: start 1000, interval 100, the hash by sums.
+const FLEET: &str =
+    "{\"hash\":\"sum\",\"pools\":{\"new\":{\"servers\":[\"7101\",\"7102\",\"7103\"]},\"old\":{\"servers\":[\"7001\",\"7002\"]}},\"route\":{\"type\":\"MigrateRoute\",\"from\":\"PoolRoute|old\",\"to\":\"PoolRoute|new\",\"start_time\":1000,\"interval\":100}}";
+
+/// A text read as a configuration.
+fn read(alloc: Global, text: &str) -> Result<Config, PlanError> {
+    Config::read(alloc, text.as_bytes())
+}
+
+/// Why a text is no configuration.
+fn refusal(alloc: Global, text: &str) -> Option<PlanError> {
+    match read(alloc, text) {
+        Ok(_) => None,
+        Err(refusal) => Some(refusal),
+    }
+}

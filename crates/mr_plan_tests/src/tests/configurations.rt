@@ -1,0 +1,193 @@
+//! Which texts are configurations, and why others are none.
+use super::*;
+
+/// Each refusal, and the first where two hold at once, in the order of the checks.
+const REFUSED: [(&str, PlanError); 45] = [
+    ("", PlanError::NotJson),
+    ("{", PlanError::NotJson),
+    ("{}x", PlanError::NotJson),
+    ("[1e400]", PlanError::NotJson),
+    ("\u{feff}{}", PlanError::NotJson),
+    ("\"\\ud800\"", PlanError::NotJson),
+    ("[]", PlanError::WrongKind),
+    ("1", PlanError::WrongKind),
+    ("{\"pool\":1}", PlanError::UnknownKey),
+    ("{\"hash\":\"md5\"}", PlanError::MissingKey),
+    ("{\"route\":1}", PlanError::MissingKey),
+    ("{\"pools\":1}", PlanError::MissingKey),
+    ("{\"pools\":1,\"route\":1}", PlanError::WrongKind),
+    ("{\"pools\":{\"a\":[]},\"route\":1}", PlanError::WrongKind),
+    (
+        "{\"pools\":{\"a\":{\"server\":[]}},\"route\":1}",
+        PlanError::UnknownKey,
+    ),
+    ("{\"pools\":{\"a\":{}},\"route\":1}", PlanError::MissingKey),
+    (
+        "{\"pools\":{\"a\":{\"servers\":\"7001\"}},\"route\":1}",
+        PlanError::WrongKind,
+    ),
+    (
+        "{\"pools\":{\"a\":{\"servers\":[\"\",1]}},\"route\":1}",
+        PlanError::WrongKind,
+    ),
+    (
+        "{\"pools\":{\"a\":{\"servers\":[\"\"]}},\"route\":1}",
+        PlanError::BadPool(PoolError::BadName),
+    ),
+    (
+        "{\"pools\":{\"a\":{\"servers\":[\"a,b\"]}},\"route\":1}",
+        PlanError::BadPool(PoolError::BadName),
+    ),
+    (
+        "{\"pools\":{\"a\":{\"servers\":[\"\u{e9}\"]}},\"route\":1}",
+        PlanError::BadPool(PoolError::BadName),
+    ),
+    (
+        "{\"pools\":{\"a\":{\"servers\":[]}},\"route\":1}",
+        PlanError::BadPool(PoolError::EmptyPool),
+    ),
+    (
+        "{\"pools\":{\"a\":{\"servers\":[\"x\",\"x\"]}},\"route\":1}",
+        PlanError::BadPool(PoolError::RepeatedName),
+    ),
+    (
+        "{\"pools\":{\"b\":{\"servers\":[]},\"a\":{\"servers\":1}},\"route\":1}",
+        PlanError::WrongKind,
+    ),
+    (
+        "{\"pools\":{\"b\":1,\"a\":{\"servers\":[]}},\"route\":1}",
+        PlanError::BadPool(PoolError::EmptyPool),
+    ),
+    ("{\"pools\":{},\"route\":1}", PlanError::BadRoute),
+    ("{\"pools\":{},\"route\":{}}", PlanError::BadRoute),
+    (
+        "{\"pools\":{},\"route\":{\"type\":\"PrefixSelectorRoute\"}}",
+        PlanError::BadRoute,
+    ),
+    (
+        "{\"pools\":{},\"route\":{\"type\":1,\"x\":1}}",
+        PlanError::BadRoute,
+    ),
+    (
+        "{\"pools\":{},\"route\":{\"type\":\"MigrateRoute\",\"x\":1}}",
+        PlanError::UnknownKey,
+    ),
+    (
+        "{\"pools\":{},\"route\":{\"type\":\"MigrateRoute\"}}",
+        PlanError::MissingKey,
+    ),
+    (
+        "{\"pools\":{},\"route\":{\"type\":\"MigrateRoute\",\"from\":1,\"to\":1}}",
+        PlanError::MissingKey,
+    ),
+    (
+        "{\"pools\":{},\"route\":{\"type\":\"MigrateRoute\",\"from\":1,\"to\":1,\"start_time\":-1}}",
+        PlanError::BadRoute,
+    ),
+    (
+        "{\"pools\":{\"a\":{\"servers\":[\"x\"]}},\"route\":{\"type\":\"MigrateRoute\",\"from\":\"PoolRoute|b\",\"to\":\"PoolRoute|a\",\"start_time\":1}}",
+        PlanError::BadRoute,
+    ),
+    (
+        "{\"pools\":{\"a\":{\"servers\":[\"x\"]}},\"route\":{\"type\":\"MigrateRoute\",\"from\":\"a\",\"to\":\"PoolRoute|a\",\"start_time\":1}}",
+        PlanError::BadRoute,
+    ),
+    (
+        "{\"pools\":{\"a\":{\"servers\":[\"x\"]}},\"route\":{\"type\":\"MigrateRoute\",\"from\":\"PoolRoute|a\",\"to\":\"PoolRoute|\",\"start_time\":1.0}}",
+        PlanError::BadRoute,
+    ),
+    (
+        "{\"pools\":{\"a\":{\"servers\":[\"x\"]}},\"route\":{\"type\":\"MigrateRoute\",\"from\":\"PoolRoute|a\",\"to\":\"PoolRoute|a\",\"start_time\":1.0}}",
+        PlanError::WrongKind,
+    ),
+    (
+        "{\"pools\":{\"a\":{\"servers\":[\"x\"]}},\"route\":{\"type\":\"MigrateRoute\",\"from\":\"PoolRoute|a\",\"to\":\"PoolRoute|a\",\"start_time\":-1}}",
+        PlanError::WrongKind,
+    ),
+    (
+        "{\"pools\":{\"a\":{\"servers\":[\"x\"]}},\"route\":{\"type\":\"MigrateRoute\",\"from\":\"PoolRoute|a\",\"to\":\"PoolRoute|a\",\"start_time\":18446744073709551616}}",
+        PlanError::WrongKind,
+    ),
+    (
+        "{\"pools\":{\"a\":{\"servers\":[\"x\"]}},\"route\":{\"type\":\"MigrateRoute\",\"from\":\"PoolRoute|a\",\"to\":\"PoolRoute|a\",\"start_time\":1,\"interval\":null}}",
+        PlanError::WrongKind,
+    ),
+    (
+        "{\"hash\":1,\"pools\":{\"a\":{\"servers\":[\"x\"]}},\"route\":{\"type\":\"MigrateRoute\",\"from\":\"PoolRoute|a\",\"to\":\"PoolRoute|a\",\"start_time\":1,\"interval\":0}}",
+        PlanError::BadSchedule(ScheduleError::ZeroInterval),
+    ),
+    (
+        "{\"hash\":1,\"pools\":{\"a\":{\"servers\":[\"x\"]}},\"route\":{\"type\":\"MigrateRoute\",\"from\":\"PoolRoute|a\",\"to\":\"PoolRoute|a\",\"start_time\":18446744073709551416,\"interval\":100}}",
+        PlanError::BadSchedule(ScheduleError::TooLate),
+    ),
+    (
+        "{\"hash\":null,\"pools\":{\"a\":{\"servers\":[\"x\"]}},\"route\":{\"type\":\"MigrateRoute\",\"from\":\"PoolRoute|a\",\"to\":\"PoolRoute|a\",\"start_time\":1}}",
+        PlanError::BadHash,
+    ),
+    (
+        "{\"hash\":\"SUM\",\"pools\":{\"a\":{\"servers\":[\"x\"]}},\"route\":{\"type\":\"MigrateRoute\",\"from\":\"PoolRoute|a\",\"to\":\"PoolRoute|a\",\"start_time\":1}}",
+        PlanError::BadHash,
+    ),
+    (
+        "{\"pools\":{\"a\":{\"servers\":[\"x\"]}},\"route\":{\"type\":\"MigrateRoute\",\"from\":\"PoolRoute|a\",\"to\":\"PoolRoute|a\",\"start_time\":1}}",
+        PlanError::BadPool(PoolError::SharedName),
+    ),
+];
+
+#[test]
+fn each_refusal_comes_in_its_place(rt: HostRuntime) {
+    for (text, wanted) in REFUSED {
+        assert_eq!(rt; refusal(rt.alloc(), text), Some(wanted));
+    }
+}
+
+/// Bytes that are no UTF-8.
+#[test]
+fn bytes_are_utf8(rt: HostRuntime) {
+    match Config::read(rt.alloc(), b"\"\xff\"") {
+        Ok(_) => assert!(rt; false),
+        Err(refusal) => assert_eq!(rt; refusal, PlanError::NotJson),
+    }
+}
+
+/// Whether a pool has these names in this order.
+fn names_are(rt: &impl Abort, pool: &Pool, wanted: &[&str]) {
+    assert_eq!(rt; pool.len(), wanted.len());
+    for (name, text) in pool.names().iter().zip(wanted) {
+        assert_eq!(rt; name.as_str(), *text);
+    }
+}
+
+#[test]
+fn a_configuration_is_read(rt: HostRuntime) -> Result<(), Fail> {
+    let config = match read(rt.alloc(), FLEET) {
+        Ok(config) => config,
+        Err(_) => return Err(Fail::from("refused")),
+    };
+    assert_eq!(rt; config.schedule().start(), 1000);
+    assert_eq!(rt; config.schedule().interval(), 100);
+    assert_eq!(rt; config.routing().hash(), NamedHash::Sum);
+    names_are(&rt, config.routing().old_pool(), &["7001", "7002"]);
+    names_are(&rt, config.routing().new_pool(), &["7101", "7102", "7103"]);
+    let copied = config.copy()?;
+    assert!(rt; copied.routing().same_as(config.routing()));
+    assert_eq!(rt; copied.schedule().start(), 1000);
+    Ok(())
+}
+
+/// The pool that the route leaves has its last value, another pool repeats a node of a used one, and neither interval
+/// nor hash is said.
+const DEFAULTS: &str =
+    " { \"route\": {\"start_time\": 18446744073709544415, \"to\": \"PoolRoute|b\", \"from\": \"PoolRoute|\", \"type\": \"MigrateRoute\"}, \"pools\": {\"\": {\"servers\": 1}, \"c\": {\"servers\": [\"y\"]}, \"b\": {\"servers\": [\"y\"]}, \"\": {\"servers\": [\"x\"]}} } ";
+
+#[test]
+fn what_is_not_said_has_defaults(rt: HostRuntime) -> Result<(), Fail> {
+    let config = match read(rt.alloc(), DEFAULTS) {
+        Ok(config) => config,
+        Err(_) => return Err(Fail::from("refused")),
+    };
+    assert_eq!(rt; config.schedule().interval(), 3600);
+    assert_eq!(rt; config.routing().hash(), NamedHash::Fnv);
+    names_are(&rt, config.routing().old_pool(), &["x"]);
+    Ok(())
+}
