@@ -1,6 +1,8 @@
-pub mod NameLemmas
-pub mod PlainWords
-pub mod ReadLemmas
+pub mod ListLemmas
+pub mod PlainPlan
+pub mod PlainTimeline
+pub mod PlainWalk
 pub mod RequestLemmas
 pub mod RunLemmas
 pub mod WordLemmas
+pub mod ReadLemmas

@@ -1,45 +1,37 @@
 -- What a parse by `clap` says of the words as a whole.
-use Rattle.std.proofs.Common.{◌≡◌, ◌∙◌, refl, subst, sym, List, [], ◌∷◌, true, inl, inr, Option, Result, Ok, Err, IsErrAnd, codes}
+use Rattle.std.proofs.Common.{◌≡◌, refl, subst, sym, List, [], ◌∷◌, true, inl, inr, Result, Ok, Err, IsErrAnd}
 use Rattle.clap.proofs.OnLiterals.{clap_on_literals}
 use Rattle.clap.specs.Faults.{is_simple_and_free}
 use Rattle.clap.specs.Kinds.{Kinds, HasKind}
 use Rattle.clap.specs.Values.{kind_of}
-use Rattle.clap.specs.Words.{Row, Text, fault_of, is_simple, subcommand_of}
+use Rattle.clap.specs.Words.{Text, fault_of, is_simple, subcommand_of}
 use Rattle.clap.specs.declared.error.Error.{Error}
 use Rattle.clap.specs.declared.error.kind.ErrorKind.TheVariants.{OutOfMemory}
-use Rattle.mr_tool.proofs.PlainWords.{plainly_said}
-use Rattle.mr_tool.proofs.WordLemmas.{one_plan_said}
-use Rattle.mr_tool.specs.Command.{NamesAt, program_app}
-use Rattle.mr_tool.specs.Words.{FindsCommand, ReadsWords, ReadsAs, ReadsWith, Say, SaysPlainly}
-use Rattle.mr_tool.specs.declared.words.PlanValues.{PlanValues}
+use Rattle.mr_tool.proofs.PlainPlan.{plan_said}
+use Rattle.mr_tool.proofs.PlainTimeline.{timeline_said}
+use Rattle.mr_tool.proofs.WordLemmas.{one_said, said_not_bad}
+use Rattle.mr_tool.specs.Command.{program_app}
+use Rattle.mr_tool.specs.Words.{FindsBadReadings, FindsCommand, Found, ReadsAs, ReadsWords, Say, SayNothing, SaysPlainly, SayWhat}
+use Rattle.mr_tool.specs.WordSteps.{GivesCommand, IsFaultOf}
 use Rattle.mr_tool.specs.declared.words.Wanted.{Wanted}
-use Rattle.mr_tool.specs.declared.words.Wanted.TheVariants.{Plan}
+use Rattle.mr_tool.specs.declared.words.Wanted.TheVariants.{Plan, Timeline}
 use Rattle.mr_tool.specs.declared.words.WordsFault.{WordsFault}
-use Rattle.mr_tool.specs.declared.words.WordsFault.TheVariants.{Wrong, Memory}
+use Rattle.mr_tool.specs.declared.words.WordsFault.TheVariants.{Wrong, Readings, Memory}
 
-pub simple : (hashes : NamesAt) → is_simple (program_app hashes) ≡ true
+pub simple : is_simple program_app ≡ true
 unfolding clap_on_literals
-simple hashes = refl
+simple = refl
 
-pub simple_and_free : (hashes : NamesAt) → is_simple_and_free (program_app hashes) ≡ true
+pub simple_and_free : is_simple_and_free program_app ≡ true
 unfolding clap_on_literals
-simple_and_free hashes = refl
-
-some_hashes : NamesAt
-some_hashes = record {
-  ref_ptr = (0, 0);
-  now = record { ref_ptr = (0, 0); now = codes "sum" } ∷ record { ref_ptr = (0, 0); now = codes "fnv1a32" } ∷ [];
-}
-
-wrong_is_no_memory : (text : Error) → Wrong text ≡ Memory → ⊥
-wrong_is_no_memory text e = cc
+simple_and_free = refl
 
 -- a refusal of memory says nothing of the words
 pub memory_refused : (words : List Text) (result : Result Wanted WordsFault) → IsErrAnd result (λ fault. fault ≡ Memory) → ReadsWords words result
-unfolding some_hashes
 memory_refused words (Ok read) h = absurd h
-memory_refused words (Err (Wrong text)) h = absurd (wrong_is_no_memory text h)
-memory_refused words (Err Memory) h = (some_hashes, refl, tt)
+memory_refused words (Err (Wrong text)) h = cc
+memory_refused words (Err Readings) h = cc
+memory_refused words (Err Memory) h = tt
 
 no_kind : (kinds : Kinds) (error : Error) → kinds ≡ [] → HasKind kinds error → kind_of error ≡ OutOfMemory
 no_kind [] error e (inl memory) = memory
@@ -47,25 +39,45 @@ no_kind [] error e (inr never) = absurd never
 no_kind (k ∷ rest) error e h = cc
 
 -- words in which the command line finds a fault
-pub words_refused : (hashes : NamesAt) (words : List Text) (error : Error) (result : Result Wanted WordsFault)
-    → HasKind (fault_of (program_app hashes) words) error → IsErrAnd result (λ fault. kind_of error ≡ OutOfMemory → fault ≡ Memory)
-    → ReadsWith hashes words result
-words_refused hashes words error (Ok read) found h = absurd h
-words_refused hashes words error (Err Memory) found h = tt
-words_refused hashes words error (Err (Wrong text)) found h =
-    λ plan says. wrong_is_no_memory text (h (no_kind (fault_of (program_app hashes) words) error says.fits found))
+pub words_refused : (words : List Text) (error : Error) (result : Result Wanted WordsFault) → HasKind (fault_of program_app words) error
+    → IsErrAnd result (IsFaultOf error) → ReadsWords words result
+words_refused words error (Ok read) found h = absurd h
+words_refused words error (Err Memory) found h = tt
+words_refused words error (Err Readings) found h = absurd h
+words_refused words error (Err (Wrong text)) found h = record {
+  no_command = λ wanted says. h (no_kind (fault_of program_app words) error says.fits found);
+  no_readings = λ says. h (no_kind (fault_of program_app words) error says.fits found);
+}
 
 -- words in which it finds none
-pub words_read : (hashes : NamesAt) (words : List Text) (found : Option (Text × List Row)) (wanted : Wanted) → fault_of (program_app hashes) words ≡ []
-    → found ≡ subcommand_of (program_app hashes) words → FindsCommand found wanted → Say hashes words wanted
-words_read hashes words found wanted fits is finds = record { fits = fits; finds = subst (λ (o : Option (Text × List Row)). FindsCommand o wanted) is finds }
+pub words_say : (words : List Text) (found : Found) (holds : Found → Type 0) → fault_of program_app words ≡ [] → found ≡ subcommand_of program_app words
+    → holds found → SayWhat words holds
+words_say words found holds fits is finds = record { fits = fits; finds = subst holds is finds }
 
-pub none_read : (hashes : NamesAt) (words : List Text) (found : Option (Text × List Row)) → found ≡ subcommand_of (program_app hashes) words
-    → ((wanted : Wanted) → ¬ FindsCommand found wanted) → (wanted : Wanted) → ¬ Say hashes words wanted
-none_read hashes words found is none wanted says = none wanted (subst (λ (o : Option (Text × List Row)). FindsCommand o wanted) (sym is) says.finds)
+pub words_say_nothing : (words : List Text) (found : Found) → found ≡ subcommand_of program_app words → ((wanted : Wanted) → ¬ FindsCommand found wanted)
+    → ¬ FindsBadReadings found → SayNothing words
+words_say_nothing words found is none not_bad = record {
+  no_command = λ wanted says. none wanted (subst (λ (o : Found). FindsCommand o wanted) (sym is) says.finds);
+  no_readings = λ says. not_bad (subst FindsBadReadings (sym is) says.finds);
+}
 
--- what is read of words that plainly say a plan
-pub reads_as : (words : List Text) (result : Result Wanted WordsFault) → ReadsWords words result → (plan : PlanValues) → SaysPlainly words plan → ReadsAs plan result
-reads_as words (Ok (Plan read)) h plan plainly = one_plan_said h.0 words read plan h.2 (plainly_said h.0 words plan h.1 plainly)
-reads_as words (Err (Wrong text)) h plan plainly = h.2 (Plan plan) (plainly_said h.0 words plan h.1 plainly)
-reads_as words (Err Memory) h plan plainly = tt
+-- words whose command wasn't made
+pub words_fail : (words : List Text) (found : Found) (fault : WordsFault) (result : Result Wanted WordsFault) → fault_of program_app words ≡ []
+    → found ≡ subcommand_of program_app words → GivesCommand found (Err fault) → IsErrAnd result (λ other. other ≡ fault) → ReadsWords words result
+words_fail words found fault (Ok read) fits is gives h = absurd h
+words_fail words found fault (Err (Wrong text)) fits is gives h = absurd (subst (λ (f : WordsFault). GivesCommand found (Err f)) (sym h) gives)
+words_fail words found fault (Err Readings) fits is gives h =
+    words_say words found FindsBadReadings fits is (subst (λ (f : WordsFault). GivesCommand found (Err f)) (sym h) gives)
+words_fail words found fault (Err Memory) fits is gives h = tt
+
+-- words that plainly say a command say it to `clap`
+plainly_said : (words : List Text) (wanted : Wanted) → SaysPlainly words wanted → Say words wanted
+plainly_said words (Plan values) says = plan_said words values says
+plainly_said words (Timeline values) says = timeline_said words values says.0 says.1 says.2
+
+-- what is read of words that plainly say a command
+pub reads_as : (words : List Text) (result : Result Wanted WordsFault) → ReadsWords words result → (wanted : Wanted) → SaysPlainly words wanted → ReadsAs wanted result
+reads_as words (Ok read) h wanted plainly = one_said words read wanted h (plainly_said words wanted plainly)
+reads_as words (Err (Wrong text)) h wanted plainly = h.no_command wanted (plainly_said words wanted plainly)
+reads_as words (Err Readings) h wanted plainly = said_not_bad words wanted (plainly_said words wanted plainly) h
+reads_as words (Err Memory) h wanted plainly = tt

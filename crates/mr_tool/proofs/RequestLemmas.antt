@@ -1,5 +1,5 @@
 -- What a reader's answers and the reads of an input say of its first request.
-use Rattle.std.proofs.Common.{arith, ◌≡◌, ◌≢◌, ℕ, ◌+◌, ◌<◌, ◌≤◌, Bool, true, false, IsTrue, List, [], ◌++◌, length, take, Option, Some, None, Result, Ok, Err, refl, subst, sym, ◌∙◌, ap, length-append}
+use Rattle.std.proofs.Common.{arith, ◌≡◌, ℕ, ◌+◌, ◌<◌, ◌≤◌, Bool, true, false, IsTrue, List, [], ◌++◌, length, take, Option, Some, None, Result, Ok, Err, refl, subst, sym, ◌∙◌, ap, length-append}
 use Rattle.std.proofs.lemmas.Bool.{false≢true}
 use Rattle.std.proofs.lemmas.List.{append_assoc, append-nil, length-take-le}
 use Rattle.mr_text.specs.Requests.{SpellsRequest, RefusesRequest, SkipsLine, is_quit}
@@ -10,8 +10,8 @@ use Rattle.mr_text.specs.declared.request.Request.{Request}
 use Rattle.mr_text.specs.declared.error.TextError.{TextError}
 use Rattle.mr_text.specs.declared.error.TextError.TheVariants.{LineTooLong, BadKey, BadNumber, WrongWords, DataTooLong, BadDataEnd, UnknownCommand, Truncated, Closed, OutOfMemory}
 use Rattle.mr_tool.specs.declared.fault.Fault.{Fault}
-use Rattle.mr_tool.specs.declared.fault.Fault.TheVariants.{Memory, Input, Output, Text, Pools, Phases}
-use Rattle.mr_tool.specs.FirstRequest.{HoldsNoRequest, Hold, IsNextOf, HasRead, Completes, EndsEarly, FailsEarly, ReadsRequest, most_reads}
+use Rattle.mr_tool.specs.declared.fault.Fault.TheVariants.{Memory, Input, Output, File, Plan, Text}
+use Rattle.mr_tool.specs.FirstRequest.{HoldsNoRequest, Hold, IsNextOf, HasRead, Completes, ReadsRequest, most_reads}
 use Rattle.mr_text.proofs.ShortRequests.{nothing_unfinished, unfinished_short}
 
 pub next_refusal : (old new : ReaderView) (bytes : List ℕ) (refusal : TextError) → old.closed ≡ false → old.ended ≡ false
@@ -105,8 +105,8 @@ completed before after (Ok request) h holds = h
 completed before after (Err Memory) h holds = absurd holds
 completed before after (Err Input) h holds = absurd holds
 completed before after (Err Output) h holds = absurd holds
-completed before after (Err (Pools refusal)) h holds = absurd holds
-completed before after (Err (Phases refusal)) h holds = absurd holds
+completed before after (Err (File line)) h holds = absurd holds
+completed before after (Err (Plan refusal)) h holds = absurd holds
 completed before after (Err (Text LineTooLong)) h holds = h
 completed before after (Err (Text BadKey)) h holds = h
 completed before after (Err (Text BadNumber)) h holds = h
@@ -176,8 +176,8 @@ few_reads before after (Ok request) h = few h.early h.piece before after h.read
 few_reads before after (Err Memory) h = few h.early h.piece before after h.read
 few_reads before after (Err Input) h = few h.early [] before after h.read
 few_reads before after (Err Output) h = few h.early h.piece before after h.read
-few_reads before after (Err (Pools refusal)) h = few h.early h.piece before after h.read
-few_reads before after (Err (Phases refusal)) h = few h.early h.piece before after h.read
+few_reads before after (Err (File line)) h = few h.early h.piece before after h.read
+few_reads before after (Err (Plan refusal)) h = few h.early h.piece before after h.read
 few_reads before after (Err (Text LineTooLong)) h = few h.early h.piece before after h.read
 few_reads before after (Err (Text BadKey)) h = few h.early h.piece before after h.read
 few_reads before after (Err (Text BadNumber)) h = few h.early h.piece before after h.read

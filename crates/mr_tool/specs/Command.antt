@@ -1,46 +1,41 @@
 -- The command line of the program, as `clap` reads it.
-use Rattle.std.specs.Prelude.{◌≡◌, ℕ, List, [], ◌∷◌, map, Option, Some, None, true, codes}
-use Rattle.std.specs.Borrow.{Bor}
+use Rattle.std.specs.Prelude.{ℕ, List, Option, Some, None, Bool, true, false, codes}
 use Rattle.clap.specs.Words.{App, Rule, new_app, new_rule, with_rule, with_subcommand}
 use Rattle.clap.specs.declared.builder.ArgAction.TheVariants.{Set}
 use Rattle.clap.specs.declared.builder.value_parser.ValueParser.{ValueParser}
 use Rattle.clap.specs.declared.builder.value_parser.ValueParser.TheVariants as parser
-use Rattle.mr_pools.specs.Hash.{name_of_hash}
-use Rattle.mr_pools.specs.declared.hash.NamedHash.TheVariants.{Sum, Fnv}
 
--- a value that has to be there
-abbrev pub value_rule : List ℕ → Option ValueParser → Rule
-value_rule id read_by = record (new_rule id) { action = Some Set; parser = read_by; required = true }
+-- an option with a value, which help gives one name, by the option's own name
+abbrev pub option_rule : List ℕ → Option ValueParser → Bool → Rule
+option_rule name read_by required =
+    record (new_rule name) { long = Some name; value_names = 1; action = Some Set; parser = read_by; required = required }
 
 -- a number of 64 bits
-abbrev pub number_rule : List ℕ → Rule
-number_rule id = value_rule id (Some (parser.Unsigned 0 18446744073709551615))
+abbrev pub numbers : ValueParser
+numbers = parser.Unsigned 0 18446744073709551615
 
--- where the program keeps the names of a list
-abbrev pub NamesAt : Type 0
-NamesAt = Bor (List (Bor (List ℕ)))
+-- the option that names the file of the configuration, which has to be there
+abbrev pub config_rule : Rule
+config_rule = option_rule (codes "config") None true
 
--- these are the names of the hashes
-abbrev pub AreHashes : NamesAt → Type 0
-AreHashes names = map (λ (name : Bor (List ℕ)). name.now) names.now ≡ name_of_hash Sum ∷ name_of_hash Fnv ∷ []
+-- the second of a plan, which has to be there
+abbrev pub at_rule : Rule
+at_rule = option_rule (codes "at") (Some numbers) true
 
--- one of these names
-abbrev pub hash_rule : List ℕ → NamesAt → Rule
-hash_rule id names = value_rule id (Some (parser.Names names))
+-- the readings of clocks
+abbrev pub readings_rule : Rule
+readings_rule = option_rule (codes "readings") None false
 
 -- the command `plan`
-abbrev pub plan_app : NamesAt → App
-plan_app hashes =
-    with_rule
-    (with_rule
-    (with_rule
-    (with_rule (with_rule (with_rule (new_app (codes "plan")) (value_rule (codes "old") None)) (value_rule (codes "new") None)) (number_rule (codes "start")))
-    (number_rule (codes "interval")))
-    (hash_rule (codes "hash") hashes))
-    (number_rule (codes "at"))
+abbrev pub plan_app : App
+plan_app = with_rule (with_rule (new_app (codes "plan")) config_rule) at_rule
+
+-- the command `timeline`
+abbrev pub timeline_app : App
+timeline_app = with_rule (with_rule (new_app (codes "timeline")) config_rule) readings_rule
 
 -- the program, whose words begin with the command, and which asks for one
-abbrev pub program_app : NamesAt → App
-program_app hashes =
-    let whole = with_subcommand (new_app (codes "migctl")) (plan_app hashes).top in
+abbrev pub program_app : App
+program_app =
+    let whole = with_subcommand (with_subcommand (new_app (codes "migctl")) plan_app.top) timeline_app.top in
     record whole { top = record whole.top { no_binary_name = true; subcommand_required = true; arg_required_else_help = true } }

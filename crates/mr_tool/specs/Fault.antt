@@ -1,13 +1,11 @@
 -- What is printed of a fault: the layer that found it, and the number and the name of the refusal.
-use Rattle.std.specs.Prelude.{ℕ, List, codes}
+use Rattle.std.specs.Prelude.{◌≡◌, ℕ, List, ◌++◌, codes, string_bytes}
 use Rattle.mr_text.specs.declared.error.TextError.{TextError}
 use Rattle.mr_text.specs.declared.error.TextError.TheVariants.{LineTooLong, BadKey, BadNumber, WrongWords, DataTooLong, BadDataEnd, UnknownCommand, Truncated, Closed, OutOfMemory}
-use Rattle.mr_pools.specs.declared.error.PoolError.{PoolError}
-use Rattle.mr_pools.specs.declared.error.PoolError.TheVariants as pool
-use Rattle.mr_phases.specs.declared.error.ScheduleError.{ScheduleError}
-use Rattle.mr_phases.specs.declared.error.ScheduleError.TheVariants.{ZeroInterval, TooLate}
+use Rattle.mr_plan.specs.declared.error.PlanError.{PlanError}
+use Rattle.mr_plan.specs.declared.error.PlanError.TheVariants as plan
 use Rattle.mr_tool.specs.declared.fault.Fault.{Fault}
-use Rattle.mr_tool.specs.declared.fault.Fault.TheVariants.{Memory, Input, Output, Text, Pools, Phases}
+use Rattle.mr_tool.specs.declared.fault.Fault.TheVariants.{Memory, Input, Output, File, Plan, Text}
 
 abbrev pub text_fault_line : TextError → List ℕ
 text_fault_line LineTooLong = codes "migctl: text 1 LineTooLong\n"
@@ -21,26 +19,44 @@ text_fault_line Truncated = codes "migctl: text 8 Truncated\n"
 text_fault_line Closed = codes "migctl: text 9 Closed\n"
 text_fault_line OutOfMemory = codes "migctl: text 10 OutOfMemory\n"
 
-abbrev pub pools_fault_line : PoolError → List ℕ
-pools_fault_line pool.EmptyPool = codes "migctl: pools 1 EmptyPool\n"
-pools_fault_line pool.TooManyNodes = codes "migctl: pools 2 TooManyNodes\n"
-pools_fault_line pool.BadName = codes "migctl: pools 3 BadName\n"
-pools_fault_line pool.RepeatedName = codes "migctl: pools 4 RepeatedName\n"
-pools_fault_line pool.SharedName = codes "migctl: pools 5 SharedName\n"
-pools_fault_line pool.OutOfMemory = codes "migctl: pools 6 OutOfMemory\n"
+-- what a refusal carries isn't told
+abbrev pub plan_fault_line : PlanError → List ℕ
+plan_fault_line plan.NotJson = codes "migctl: plan 1 NotJson\n"
+plan_fault_line plan.WrongKind = codes "migctl: plan 2 WrongKind\n"
+plan_fault_line plan.MissingKey = codes "migctl: plan 3 MissingKey\n"
+plan_fault_line plan.UnknownKey = codes "migctl: plan 4 UnknownKey\n"
+plan_fault_line (plan.BadPool refusal) = codes "migctl: plan 5 BadPool\n"
+plan_fault_line plan.BadRoute = codes "migctl: plan 6 BadRoute\n"
+plan_fault_line (plan.BadSchedule refusal) = codes "migctl: plan 7 BadSchedule\n"
+plan_fault_line plan.BadHash = codes "migctl: plan 8 BadHash\n"
+plan_fault_line (plan.BadSetup refusal) = codes "migctl: plan 9 BadSetup\n"
+plan_fault_line (plan.BadEvent index) = codes "migctl: plan 10 BadEvent\n"
+plan_fault_line plan.TooLarge = codes "migctl: plan 11 TooLarge\n"
+plan_fault_line (plan.EventRefused index refusal) = codes "migctl: plan 12 EventRefused\n"
+plan_fault_line plan.OutOfMemory = codes "migctl: plan 13 OutOfMemory\n"
 
-abbrev pub phases_fault_line : ScheduleError → List ℕ
-phases_fault_line ZeroInterval = codes "migctl: phases 1 ZeroInterval\n"
-phases_fault_line TooLate = codes "migctl: phases 2 TooLate\n"
+-- where the file at this path can't be read
+abbrev pub file_line : List ℕ → List ℕ
+file_line path = codes "migctl: file " ++ (path ++ codes "\n")
 
 abbrev pub fault_line : Fault → List ℕ
 fault_line Memory = codes "migctl: memory\n"
 fault_line Input = codes "migctl: input\n"
 fault_line Output = codes "migctl: output\n"
+fault_line (File line) = string_bytes line
+fault_line (Plan refusal) = plan_fault_line refusal
 fault_line (Text refusal) = text_fault_line refusal
-fault_line (Pools refusal) = pools_fault_line refusal
-fault_line (Phases refusal) = phases_fault_line refusal
 
 -- where a word isn't text
 abbrev pub not_text_line : List ℕ
 not_text_line = codes "migctl: words are not UTF-8\n"
+
+-- where the value of `--readings` is no list of numbers
+abbrev pub readings_line : List ℕ
+readings_line = codes "migctl: words --readings\n"
+
+-- the fault of the file at this path, unless memory is refused for its line
+abbrev pub IsFileFault : List ℕ → Fault → Type 0
+IsFileFault path (File line) = string_bytes line ≡ file_line path
+IsFileFault path Memory = Unit {0}
+IsFileFault path fault = ⊥

@@ -1,10 +1,16 @@
 pub mod Command
+pub mod ConfigFile
 pub mod Devices
 pub mod Fault
+pub mod FilesAt
 pub mod FirstRequest
 pub mod PlanCommand
 pub mod PlanText
-pub mod PoolWords
+pub mod Printing
 pub mod Program
 pub mod Run
+pub mod Sources
+pub mod TimelineCommand
+pub mod TimelineText
+pub mod WordSteps
 pub mod Words

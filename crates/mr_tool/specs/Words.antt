@@ -1,14 +1,15 @@
 -- What the words of the command line say.
-use Rattle.std.specs.Prelude.{◌≡◌, ◌≢◌, ℕ, ◌<◌, ◌^◌, ⊤, List, [], ◌∷◌, Option, Some, Result, Ok, Err, codes}
+use Rattle.std.specs.Prelude.{◌≡◌, ◌≢◌, ℕ, ◌<◌, ◌^◌, ◌==◌, ⊤, List, [], ◌∷◌, Option, Some, None, option_map, Result, Ok, Err, codes}
+use Rattle.std.specs.List.{slice_split}
 use Rattle.std.specs.Str.Parse.{IsNumeral, digits_value, without_leading_plus}
 use Rattle.clap.specs.Words.{Row, Text, fault_of, first_of, one_of, subcommand_of}
-use Rattle.mr_tool.specs.Command.{NamesAt, AreHashes, program_app}
-use Rattle.mr_pools.specs.Hash.{name_of_hash}
+use Rattle.mr_tool.specs.Command.{program_app}
 use Rattle.mr_tool.specs.declared.words.PlanValues.{PlanValues}
+use Rattle.mr_tool.specs.declared.words.TimelineValues.{TimelineValues}
 use Rattle.mr_tool.specs.declared.words.Wanted.{Wanted}
-use Rattle.mr_tool.specs.declared.words.Wanted.TheVariants.{Plan}
+use Rattle.mr_tool.specs.declared.words.Wanted.TheVariants.{Plan, Timeline}
 use Rattle.mr_tool.specs.declared.words.WordsFault.{WordsFault}
-use Rattle.mr_tool.specs.declared.words.WordsFault.TheVariants.{Wrong, Memory}
+use Rattle.mr_tool.specs.declared.words.WordsFault.TheVariants.{Wrong, Readings, Memory}
 
 -- the word is this number, in decimal digits, with or without a plus sign before them
 pub record IsNumberWord (word : List ℕ) (number : ℕ) : Type 0 where
@@ -16,75 +17,123 @@ pub record IsNumberWord (word : List ℕ) (number : ℕ) : Type 0 where
   pub value : number ≡ digits_value 10 (without_leading_plus word)
   pub fits : number < 2 ^ 64
 
+-- the words are these numbers, one by one
+abbrev pub AreNumberWords : List Text → List ℕ → Type 0
+AreNumberWords [] [] = ⊤
+AreNumberWords (word ∷ words) (number ∷ numbers) = IsNumberWord word number × AreNumberWords words numbers
+AreNumberWords _ _ = ⊥
+
+-- the members of a list: what stands between its commas, empty members too
+abbrev pub members_of : Text → List Text
+members_of text = slice_split (λ byte. byte == 44) text
+
+-- the text is a list of these numbers
+abbrev pub IsNumberList : Text → List ℕ → Type 0
+IsNumberList text numbers = AreNumberWords (members_of text) numbers
+
+-- the text of an option that may be left out is a list of these numbers
+abbrev pub AreReadings : Option Text → Option (List ℕ) → Type 0
+AreReadings None None = ⊤
+AreReadings (Some text) (Some numbers) = IsNumberList text numbers
+AreReadings _ _ = ⊥
+
+-- the readings among the values of a timeline
+abbrev pub readings_in : TimelineValues → Option (List ℕ)
+readings_in values = option_map (λ numbers. numbers.items) values.readings
+
 -- the rows that a parse found hold the values of a plan
-pub record HasValues (rows : List Row) (values : PlanValues) : Type 0 where
-  pub start : List ℕ
-  pub interval : List ℕ
+pub record HasPlan (rows : List Row) (values : PlanValues) : Type 0 where
   pub at : List ℕ
-  pub old_is : first_of (codes "old") rows ≡ Some values.old.now
-  pub new_is : first_of (codes "new") rows ≡ Some values.new.now
-  pub start_row : one_of (codes "start") rows ≡ Some start
-  pub start_is : IsNumberWord start values.start
-  pub interval_row : one_of (codes "interval") rows ≡ Some interval
-  pub interval_is : IsNumberWord interval values.interval
-  pub hash_is : first_of (codes "hash") rows ≡ Some (name_of_hash values.hash)
+  pub config_is : first_of (codes "config") rows ≡ Some values.config.now
   pub at_row : one_of (codes "at") rows ≡ Some at
   pub at_is : IsNumberWord at values.at
 
--- the command that was found is `plan`, and it has these values
-abbrev pub FindsPlan : Option (Text × List Row) → PlanValues → Type 0
-FindsPlan found values = (rows : List Row) × (found ≡ Some (codes "plan", rows)) × HasValues rows values
+-- the rows that a parse found hold the values of a timeline
+pub record HasTimeline (rows : List Row) (values : TimelineValues) : Type 0 where
+  pub config_is : first_of (codes "config") rows ≡ Some values.config.now
+  pub readings_are : AreReadings (first_of (codes "readings") rows) (readings_in values)
+
+-- the rows that a parse found have readings that are no list of numbers
+pub record HasBadReadings (rows : List Row) : Type 0 where
+  pub text : List ℕ
+  pub is : first_of (codes "readings") rows ≡ Some text
+  pub bad : (numbers : List ℕ) → ¬ IsNumberList text numbers
+
+-- what a parse found: the name of a command, and its rows
+abbrev pub Found : Type 0
+Found = Option (Text × List Row)
+
+-- the command of this name was found, with rows of which this holds
+abbrev pub Finds : Text → (List Row → Type 0) → Found → Type 0
+Finds name holds found = (rows : List Row) × (found ≡ Some (name, rows)) × holds rows
 
 -- this command was found
-abbrev pub FindsCommand : Option (Text × List Row) → Wanted → Type 0
-FindsCommand found (Plan values) = FindsPlan found values
+abbrev pub FindsCommand : Found → Wanted → Type 0
+FindsCommand found (Plan values) = Finds (codes "plan") (λ rows. HasPlan rows values) found
+FindsCommand found (Timeline values) = Finds (codes "timeline") (λ rows. HasTimeline rows values) found
 
--- the program's command line finds no fault in the words, and they are this command
-pub record Say (hashes : NamesAt) (words : List Text) (wanted : Wanted) : Type 0 where
-  pub fits : fault_of (program_app hashes) words ≡ []
-  pub finds : FindsCommand (subcommand_of (program_app hashes) words) wanted
+-- a timeline was found whose readings are no list of numbers
+abbrev pub FindsBadReadings : Found → Type 0
+FindsBadReadings found = Finds (codes "timeline") HasBadReadings found
 
--- the words say no command
-abbrev pub SayNothing : NamesAt → List Text → Type 0
-SayNothing hashes words = (wanted : Wanted) → ¬ Say hashes words wanted
+-- the program's command line finds no fault in the words, and of what it finds in them this holds
+pub record SayWhat (words : List Text) (holds : Found → Type 0) : Type 0 where
+  pub fits : fault_of program_app words ≡ []
+  pub finds : holds (subcommand_of program_app words)
 
--- what comes of reading words: the command that they say, or that they say none, unless memory is refused
-abbrev pub ReadsWith : NamesAt → List Text → Result Wanted WordsFault → Type 0
-ReadsWith hashes words (Ok wanted) = Say hashes words wanted
-ReadsWith hashes words (Err (Wrong error)) = SayNothing hashes words
-ReadsWith hashes words (Err Memory) = ⊤
+-- the words are this command
+abbrev pub Say : List Text → Wanted → Type 0
+Say words wanted = SayWhat words (λ found. FindsCommand found wanted)
 
+-- the words are a timeline whose readings are no list of numbers
+abbrev pub SayBadReadings : List Text → Type 0
+SayBadReadings words = SayWhat words FindsBadReadings
+
+-- the words say no command, nor one with such readings
+pub record SayNothing (words : List Text) : Type 0 where
+  pub no_command : (wanted : Wanted) → ¬ Say words wanted
+  pub no_readings : ¬ SayBadReadings words
+
+-- What comes of reading words: the command that they say, or that their readings are no list of numbers, or that they
+-- say neither, unless memory is refused.
 abbrev pub ReadsWords : List Text → Result Wanted WordsFault → Type 0
-ReadsWords words result = (hashes : NamesAt) × AreHashes hashes × ReadsWith hashes words result
+ReadsWords words (Ok wanted) = Say words wanted
+ReadsWords words (Err (Wrong error)) = SayNothing words
+ReadsWords words (Err Readings) = SayBadReadings words
+ReadsWords words (Err Memory) = ⊤
 
 -- the word is no option: it doesn't begin with a hyphen
 abbrev pub IsNoOption : Text → Type 0
 IsNoOption [] = ⊤
 IsNoOption (byte ∷ _) = byte ≢ 45
 
--- the words are `plan` and the six values of a plan, in order, and no pool's names look like an option
-pub record SaysPlainly (words : List Text) (values : PlanValues) : Type 0 where
-  pub start : Text
-  pub interval : Text
+-- the words are `plan` and its two options, and the file's name doesn't look like an option
+pub record SaysPlan (words : List Text) (values : PlanValues) : Type 0 where
   pub at : Text
-  pub words_are : words ≡ codes "plan" ∷ values.old.now ∷ values.new.now ∷ start ∷ interval ∷ name_of_hash values.hash ∷ at ∷ []
-  pub start_is : IsNumberWord start values.start
-  pub interval_is : IsNumberWord interval values.interval
+  pub words_are : words ≡ codes "plan" ∷ codes "--config" ∷ values.config.now ∷ codes "--at" ∷ at ∷ []
   pub at_is : IsNumberWord at values.at
-  pub old_is_none : IsNoOption values.old.now
-  pub new_is_none : IsNoOption values.new.now
+  pub config_is_none : IsNoOption values.config.now
 
--- both have these values
-pub record AgreesWith (values read : PlanValues) : Type 0 where
-  pub old : read.old.now ≡ values.old.now
-  pub new : read.new.now ≡ values.new.now
-  pub start : read.start ≡ values.start
-  pub interval : read.interval ≡ values.interval
-  pub hash : read.hash ≡ values.hash
-  pub at : read.at ≡ values.at
+-- the words are `timeline` and its options, of which the readings may be left out, and no value looks like an option
+abbrev pub SaysTimeline : List Text → Text → Option Text → Type 0
+SaysTimeline words config None = (words ≡ codes "timeline" ∷ codes "--config" ∷ config ∷ []) × IsNoOption config
+SaysTimeline words config (Some readings) =
+    (words ≡ codes "timeline" ∷ codes "--config" ∷ config ∷ codes "--readings" ∷ readings ∷ []) × IsNoOption config × IsNoOption readings
 
--- the plan of these values was read, unless memory was refused
-abbrev pub ReadsAs : PlanValues → Result Wanted WordsFault → Type 0
-ReadsAs values (Ok (Plan read)) = AgreesWith values read
-ReadsAs values (Err (Wrong error)) = ⊥
-ReadsAs values (Err Memory) = ⊤
+-- the words plainly are this command
+abbrev pub SaysPlainly : List Text → Wanted → Type 0
+SaysPlainly words (Plan values) = SaysPlan words values
+SaysPlainly words (Timeline values) =
+    (readings : Option Text) × SaysTimeline words values.config.now readings × AreReadings readings (readings_in values)
+
+-- both are the same command with the same values
+abbrev pub AgreesWith : Wanted → Wanted → Type 0
+AgreesWith (Plan values) (Plan read) = (read.config.now ≡ values.config.now) × (read.at ≡ values.at)
+AgreesWith (Timeline values) (Timeline read) = (read.config.now ≡ values.config.now) × (readings_in read ≡ readings_in values)
+AgreesWith _ _ = ⊥
+
+-- this command was read, unless memory was refused
+abbrev pub ReadsAs : Wanted → Result Wanted WordsFault → Type 0
+ReadsAs wanted (Ok read) = AgreesWith wanted read
+ReadsAs wanted (Err Memory) = ⊤
+ReadsAs wanted (Err fault) = ⊥

@@ -9,6 +9,7 @@ ghost use Rattle.mr_tool.specs.Run.{Runs};
 
 use crate::fault::Fault;
 use crate::run::{run_words, tell_fault, tell_not_text};
+use crate::sources::Sources;
 use mr_text::{Sink, Source};
 use std::alloc::{AllocError, Global};
 use std::env::Args;
@@ -23,15 +24,16 @@ fn words_of(alloc: Global, arguments: &[String]) -> Result<Vec<&str>, AllocError
 
 /// Runs the program on its arguments, of which the first is its own name and the others are its words, and gives its
 /// status. Where they couldn't be had, memory was refused, or one of them isn't UTF-8.
-pub fn run_arguments<I: Source, O: Sink, F: Sink>(
+pub fn run_arguments<S: Sources, I: Source, O: Sink, F: Sink>(
     alloc: Global,
     arguments: io::Result<Args<Global>>,
+    sources: &mut S,
     input: &mut I,
     output: &mut O,
     faults: &mut F,
 ) -> u8
-    ensures runs { let before = devices (I.told input.old) (O.told output.old) (F.told faults.old) in
-        let after = devices (I.told input.new) (O.told output.new) (F.told faults.new) in
+    ensures runs { let before = devices (S.told sources.old) (I.told input.old) (O.told output.old) (F.told faults.old) in
+        let after = devices (S.told sources.new) (I.told input.new) (O.told output.new) (F.told faults.new) in
         MatchResult arguments
         (λ given. Runs (map string_bytes (drop 1 (into_iter_items given))) before after result)
         (λ error. LacksArguments (error_kind error) before after result) }
@@ -50,5 +52,5 @@ pub fn run_arguments<I: Source, O: Sink, F: Sink>(
     let Ok(words) = words_of(alloc, arguments.as_slice()) else {
         return tell_fault(&Fault::Memory, faults);
     };
-    run_words(alloc, words.as_slice(), input, output, faults)
+    run_words(alloc, words.as_slice(), sources, input, output, faults)
 }

@@ -1,32 +1,31 @@
 //! What stops a command once its words were read.
 ghost use Rattle.std.specs.Prelude.{◌≡◌};
 
-use mr_phases::ScheduleError;
-use mr_pools::PoolError;
+use mr_plan::PlanError;
 use mr_text::{Sink, TextError};
 use thiserror::Error;
 
-/// Why a command stopped. Its text is the line that is printed, without its line end.
-#[derive(Clone, Debug, Drop, PartialEq, Eq, Error)]
+/// Why a command stopped. Its text says it without what is printed around it.
+#[derive(Debug, Drop, Error)]
 pub enum Fault {
     /// Memory was refused to the program itself.
-    #[error("migctl: memory")]
+    #[error("memory")]
     Memory,
     /// The standard input failed.
-    #[error("migctl: input")]
+    #[error("input")]
     Input,
     /// The standard output failed.
-    #[error("migctl: output")]
+    #[error("output")]
     Output,
+    /// A file can't be read. This is the line that is printed of it, whole.
+    #[error("{0}")]
+    File(String),
+    /// The configuration was refused.
+    #[error("plan: {0}")]
+    Plan(PlanError),
     /// The text of the request was refused.
-    #[error("migctl: text: {0}")]
+    #[error("text: {0}")]
     Text(TextError),
-    /// A pool or the routing was refused.
-    #[error("migctl: pools: {0}")]
-    Pools(PoolError),
-    /// The schedule was refused.
-    #[error("migctl: phases: {0}")]
-    Phases(ScheduleError),
 }
 
 impl Fault {
@@ -34,16 +33,16 @@ impl Fault {
     ghost use Rattle.mr_tool.specs.Fault.{fault_line};
 
     /// The line that is printed: the layer that found the fault, and the number and the name of the refusal.
-    pub fn line(&self) -> &'static str
+    pub fn line(&self) -> &str
         ensures { result.now ≡ fault_line self.now }
     {
         match self {
             Fault::Memory => "migctl: memory\n",
             Fault::Input => "migctl: input\n",
             Fault::Output => "migctl: output\n",
+            Fault::File(line) => line.as_str(),
+            Fault::Plan(refusal) => plan_line(*refusal),
             Fault::Text(refusal) => text_line(*refusal),
-            Fault::Pools(refusal) => pools_line(*refusal),
-            Fault::Phases(refusal) => phases_line(*refusal),
         }
     }
 
@@ -55,7 +54,7 @@ impl Fault {
     }
 }
 
-ghost use Rattle.mr_tool.specs.Fault.{text_fault_line, pools_fault_line, phases_fault_line};
+ghost use Rattle.mr_tool.specs.Fault.{text_fault_line, plan_fault_line};
 
 fn text_line(refusal: TextError) -> &'static str
     ensures { result.now ≡ text_fault_line refusal }
@@ -74,24 +73,22 @@ fn text_line(refusal: TextError) -> &'static str
     }
 }
 
-fn pools_line(refusal: PoolError) -> &'static str
-    ensures { result.now ≡ pools_fault_line refusal }
+fn plan_line(refusal: PlanError) -> &'static str
+    ensures { result.now ≡ plan_fault_line refusal }
 {
     match refusal {
-        PoolError::EmptyPool => "migctl: pools 1 EmptyPool\n",
-        PoolError::TooManyNodes => "migctl: pools 2 TooManyNodes\n",
-        PoolError::BadName => "migctl: pools 3 BadName\n",
-        PoolError::RepeatedName => "migctl: pools 4 RepeatedName\n",
-        PoolError::SharedName => "migctl: pools 5 SharedName\n",
-        PoolError::OutOfMemory => "migctl: pools 6 OutOfMemory\n",
-    }
-}
-
-fn phases_line(refusal: ScheduleError) -> &'static str
-    ensures { result.now ≡ phases_fault_line refusal }
-{
-    match refusal {
-        ScheduleError::ZeroInterval => "migctl: phases 1 ZeroInterval\n",
-        ScheduleError::TooLate => "migctl: phases 2 TooLate\n",
+        PlanError::NotJson => "migctl: plan 1 NotJson\n",
+        PlanError::WrongKind => "migctl: plan 2 WrongKind\n",
+        PlanError::MissingKey => "migctl: plan 3 MissingKey\n",
+        PlanError::UnknownKey => "migctl: plan 4 UnknownKey\n",
+        PlanError::BadPool(_) => "migctl: plan 5 BadPool\n",
+        PlanError::BadRoute => "migctl: plan 6 BadRoute\n",
+        PlanError::BadSchedule(_) => "migctl: plan 7 BadSchedule\n",
+        PlanError::BadHash => "migctl: plan 8 BadHash\n",
+        PlanError::BadSetup(_) => "migctl: plan 9 BadSetup\n",
+        PlanError::BadEvent(_) => "migctl: plan 10 BadEvent\n",
+        PlanError::TooLarge => "migctl: plan 11 TooLarge\n",
+        PlanError::EventRefused(_, _) => "migctl: plan 12 EventRefused\n",
+        PlanError::OutOfMemory => "migctl: plan 13 OutOfMemory\n",
     }
 }

@@ -2,18 +2,24 @@
 #![tactic(auto)]
 
 mod arguments;
+mod commands;
+mod config_file;
 mod fault;
 mod first_request;
+mod host_files;
 mod line;
 mod plan;
-mod planning;
-mod pool_words;
+mod printing;
+mod readings;
 mod run;
+mod sources;
 #[cfg(test)]
 mod tests;
+mod timeline;
 mod words;
 
 use arguments::run_arguments;
+use host_files::HostFiles;
 use mr_text::{OverReader, OverWriter};
 use std::env;
 use std::process::ExitCode;
@@ -22,6 +28,7 @@ fn main(rt: HostRuntime) -> ExitCode {
     let status = run_arguments(
         rt.alloc(),
         env::args(&rt),
+        &mut HostFiles::new(&rt),
         &mut OverReader::new(rt.stdin()),
         &mut OverWriter::new(rt.stdout()),
         &mut OverWriter::new(rt.stderr()),

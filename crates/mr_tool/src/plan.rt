@@ -1,73 +1,42 @@
-//! The plan of one request.
+//! The text of a plan.
 ghost use Rattle.std.specs.Prelude.{◌≡◌, ◌++◌, IfOk, OnOk, IsErrOf};
 ghost use Rattle.std.specs.List.{All};
+ghost use Rattle.mr_plan.specs.Plan.{plan_of};
 ghost use Rattle.mr_proxy.specs.Sheets.{IsPlaced};
-ghost use Rattle.mr_tool.specs.PlanText.{leg_lines, plan_text, WritesAtOnce};
+ghost use Rattle.mr_tool.specs.PlanText.{leg_lines, plan_text};
+ghost use Rattle.mr_tool.specs.Printing.{WritesAtOnce};
 
 use crate::line::{push_leg_line, push_phase_line};
-use mr_phases::{Schedule, judge};
+use crate::printing::{PrintFault, write_at_once};
+use mr_plan::{Config, RequestPlan};
 use mr_pools::Routing;
-use mr_proxy::{Leg, ProxyCore, ProxyError};
+use mr_proxy::LegSheet;
 use mr_text::{Request, Sink};
 use std::alloc::{AllocError, Global};
-use thiserror::Error;
-
-/// Why a plan wasn't written.
-#[derive(Clone, Copy, Debug, PartialEq, Eq, Error)]
-pub enum PlanError {
-    /// Memory was refused, and nothing was written.
-    #[error("out of memory")]
-    Memory,
-    /// The writer failed.
-    #[error("write fault")]
-    Write,
-}
-
-impl From<AllocError> for PlanError {
-    ghost use Rattle.std.specs.Prelude.{◌≡◌};
-    ghost use Rattle.mr_tool.specs.declared.plan.PlanError.TheVariants.{Memory};
-
-    ghost from_gives = { λ _ error. error ≡ Memory };
-
-    fn from(_error: AllocError) -> PlanError {
-        PlanError::Memory
-    }
-}
 
 /// Adds the lines of the legs, in order.
-fn push_leg_lines(text: &mut Vec<u8>, routing: &Routing, legs: &[Leg]) -> Result<(), AllocError>
-    requires { All (IsPlaced routing.now) legs.now }
-    ensures { OnOk result (text.new.items ≡ text.old.items ++ leg_lines routing.now legs.now) }
+fn push_leg_lines(
+    text: &mut Vec<u8>,
+    routing: &Routing,
+    sheets: &[LegSheet],
+) -> Result<(), AllocError>
+    requires { All (IsPlaced routing.now) sheets.now }
+    ensures { OnOk result (text.new.items ≡ text.old.items ++ leg_lines routing.now sheets.now) }
 {
-    for leg in legs {
-        push_leg_line(text, routing, leg.sheet())?;
+    for sheet in sheets {
+        push_leg_line(text, routing, sheet)?;
     }
     Ok(())
 }
 
-/// The text of the plan, whole. A quit isn't issued, since it has no legs.
-fn text_of_plan(
-    alloc: Global,
-    routing: Routing,
-    schedule: Schedule,
-    at: u64,
-    request: Request,
-) -> Result<Vec<u8>, AllocError>
-    ensures { IfOk result (λ text. text.items ≡ plan_text routing schedule at request) }
+/// The text of a plan, whole. The routing has its nodes.
+fn text_of_plan(alloc: Global, routing: &Routing, plan: &RequestPlan) -> Result<Vec<u8>, AllocError>
+    requires { All (IsPlaced routing.now) plan.now.sheets }
+    ensures { IfOk result (λ text. text.items ≡ plan_text routing.now plan.now) }
 {
     let mut text = Vec::new(alloc);
-    push_phase_line(&mut text, &judge(schedule, at))?;
-    if let Request::Quit = request {
-        return Ok(text);
-    }
-    let mut core = ProxyCore::new(alloc, 0, 0, routing, schedule, 1);
-    match core.issue(at, request) {
-        Ok(issued) => push_leg_lines(&mut text, core.routing(), issued.legs.as_slice())?,
-        Err((ProxyError::OutOfMemory, _)) => return Err(AllocError),
-        Err((ProxyError::NoRoom | ProxyError::NumbersSpent | ProxyError::NoSuchOp, _)) => {
-            unreachable!()
-        }
-    }
+    push_phase_line(&mut text, plan.phase(), plan.reading())?;
+    push_leg_lines(&mut text, routing, plan.sheets())?;
     Ok(text)
 }
 
@@ -76,20 +45,19 @@ fn text_of_plan(
 /// writes it.
 pub fn write_plan<W: Sink>(
     alloc: Global,
-    routing: Routing,
-    schedule: Schedule,
+    config: &Config,
     at: u64,
     request: Request,
     writer: &mut W,
-) -> Result<(), PlanError>
-    ensures plan { WritesAtOnce (plan_text routing schedule at request) (W.told writer.old) result (W.told writer.new) }
+) -> Result<(), PrintFault>
+    ensures plan { WritesAtOnce (plan_text config.now.routing (plan_of config.now at request)) (W.told writer.old) result (W.told writer.new) }
 
     // The writer is not even touched where memory is refused.
-    ensures memory { IsErrOf result PlanError.Memory → writer.new ≡ writer.old }
+    ensures memory { IsErrOf result PrintFault.Memory → writer.new ≡ writer.old }
 {
-    let text = text_of_plan(alloc, routing, schedule, at, request)?;
-    match writer.write_all(text.as_slice()) {
-        Ok(()) => Ok(()),
-        Err(_) => Err(PlanError::Write),
-    }
+    let Ok(plan) = mr_plan::plan(alloc, config, at, request) else {
+        return Err(PrintFault::Memory);
+    };
+    let text = text_of_plan(alloc, config.routing(), &plan)?;
+    write_at_once(text.as_slice(), writer)
 }

@@ -3,12 +3,14 @@ ghost use Rattle.std.specs.Prelude.{◌≡◌, ◌+◌, ◌≤◌, ◌⊎◌, �
 ghost use Rattle.mr_text.specs.Sink.{SinkView};
 ghost use Rattle.mr_text.specs.Source.{SourceView};
 ghost use Rattle.mr_tool.specs.Devices.{devices, IsTold, NoneFailed};
-ghost use Rattle.mr_tool.specs.Fault.{fault_line, not_text_line};
+ghost use Rattle.mr_tool.specs.Fault.{fault_line, not_text_line, readings_line};
 ghost use Rattle.mr_tool.specs.FirstRequest.{most_reads};
 ghost use Rattle.mr_tool.specs.Run.{EndsWith, Runs};
+ghost use Rattle.mr_tool.specs.Sources.{SourcesView};
 
+use crate::commands::{run_plan, run_timeline};
 use crate::fault::Fault;
-use crate::planning::plan;
+use crate::sources::Sources;
 use crate::words::{Wanted, WordsFault, read_words};
 use mr_text::{Sink, Source};
 use std::alloc::Global;
@@ -40,6 +42,15 @@ pub fn tell_not_text<F: Sink>(faults: &mut F) -> u8
     WRONG_WORDS
 }
 
+/// Tells that the readings are no list of numbers.
+fn tell_bad_readings<F: Sink>(faults: &mut F) -> u8
+    ensures status { result ≡ WRONG_WORDS }
+    ensures told { IsTold readings_line (F.told faults.old) (F.told faults.new) }
+{
+    let _ = faults.write_all("migctl: words --readings\n".as_bytes());
+    WRONG_WORDS
+}
+
 /// Tells why the words are wrong, or the help that they call for.
 fn tell_wrong_words<F: Sink>(alloc: Global, error: &clap::Error, faults: &mut F) -> u8
     ensures { ((result ≡ WRONG_WORDS) × ((text : List ℕ) × IsTold text (F.told faults.old) (F.told faults.new)))
@@ -54,8 +65,8 @@ fn tell_wrong_words<F: Sink>(alloc: Global, error: &clap::Error, faults: &mut F)
 
 /// The status of a command that ended so. Its fault is told.
 fn finish<F: Sink>(gave: Result<(), Fault>, faults: &mut F) -> u8
-    ensures { (input : SourceView) (output : SinkView)
-        → EndsWith gave result (devices input output (F.told faults.old)) (devices input output (F.told faults.new)) }
+    ensures { (sources : SourcesView) (input : SourceView) (output : SinkView)
+        → EndsWith gave result (devices sources input output (F.told faults.old)) (devices sources input output (F.told faults.new)) }
 {
     match gave {
         Ok(()) => DONE,
@@ -63,29 +74,36 @@ fn finish<F: Sink>(gave: Result<(), Fault>, faults: &mut F) -> u8
     }
 }
 
-/// Runs the command that the words ask for, of which the first names it, and gives the program's status. What it is to
-/// print goes to `output`, and a fault to `faults`. Faults are looked for in this order: the words, the old pool, the
-/// new pool, a name in both, the schedule, the request.
-pub fn run_words<I: Source, O: Sink, F: Sink>(
+/// Runs the command that the words ask for, of which the first names it, and gives the program's status. Files come
+/// from `sources`; what the command is to print goes to `output`, and a fault to `faults`. Faults are looked for in this
+/// order: the words, the file, the configuration, the request.
+pub fn run_words<S: Sources, I: Source, O: Sink, F: Sink>(
     alloc: Global,
     words: &[&str],
+    sources: &mut S,
     input: &mut I,
     output: &mut O,
     faults: &mut F,
 ) -> u8
     ensures runs { Runs (map (λ word. word.now) words.now)
-        (devices (I.told input.old) (O.told output.old) (F.told faults.old))
-        (devices (I.told input.new) (O.told output.new) (F.told faults.new)) result }
+        (devices (S.told sources.old) (I.told input.old) (O.told output.old) (F.told faults.old))
+        (devices (S.told sources.new) (I.told input.new) (O.told output.new) (F.told faults.new)) result }
     ensures reads { (I.told input.new).reads ≤ (I.told input.old).reads + most_reads }
 
     // What was wanted was done only where no device failed.
     ensures done { result ≡ DONE → NoneFailed
-        (devices (I.told input.old) (O.told output.old) (F.told faults.old))
-        (devices (I.told input.new) (O.told output.new) (F.told faults.new)) }
+        (devices (S.told sources.old) (I.told input.old) (O.told output.old) (F.told faults.old))
+        (devices (S.told sources.new) (I.told input.new) (O.told output.new) (F.told faults.new)) }
 {
     match read_words(alloc, words) {
-        Ok(Wanted::Plan(values)) => finish(plan(alloc, &values, input, output), faults),
+        Ok(Wanted::Plan(values)) => {
+            finish(run_plan(alloc, &values, sources, input, output), faults)
+        }
+        Ok(Wanted::Timeline(values)) => {
+            finish(run_timeline(alloc, &values, sources, output), faults)
+        }
         Err(WordsFault::Wrong(error)) => tell_wrong_words(alloc, &error, faults),
+        Err(WordsFault::Readings) => tell_bad_readings(faults),
         Err(WordsFault::Memory) => tell_fault(&Fault::Memory, faults),
     }
 }

@@ -1,39 +1,54 @@
 //! The words of the command line.
-ghost use Rattle.std.specs.Prelude.{◌≡◌, None, false, map, IfOk, IfSome, IfNone};
+ghost use Rattle.std.specs.Prelude.{◌≡◌, None, false, map, IfOk, IfSome, IfNone, option_map};
 ghost use Rattle.clap.specs.Words.{app_of, found_of, rows_of, rule_of, subcommand_rows_of};
-ghost use Rattle.mr_tool.specs.Command.{AreHashes, value_rule, number_rule, hash_rule, plan_app, program_app};
-ghost use Rattle.mr_tool.specs.Words.{HasValues, FindsPlan, FindsCommand, ReadsWords, SaysPlainly, ReadsAs};
+ghost use Rattle.mr_tool.specs.Command.{option_rule, config_rule, plan_app, timeline_app, program_app};
+ghost use Rattle.mr_tool.specs.Words.{HasPlan, ReadsWords, SaysPlainly, ReadsAs};
+ghost use Rattle.mr_tool.specs.WordSteps.{IsFaultOf, GivesReadings, GivesTimeline, GivesCommand};
 
+use crate::readings::numbers_in;
 use clap::error::ErrorKind;
 use clap::{Arg, ArgAction, ArgMatches, Command, Error, value_parser};
-use mr_pools::NamedHash;
 use std::alloc::{AllocError, Global};
-
-/// The names of the hashes.
-static HASHES: [&str; 2] = ["sum", "fnv1a32"];
 
 /// The values of the command `plan`.
 #[derive(Clone, Copy, Debug)]
 pub struct PlanValues<'a> {
-    /// The names of the old pool's nodes, with commas between them.
-    pub old: &'a str,
-    /// The names of the new pool's nodes, with commas between them.
-    pub new: &'a str,
-    /// The first second of the migration, since the epoch.
-    pub start: u64,
-    /// How long each of its two middle phases lasts, in seconds.
-    pub interval: u64,
-    /// The hash that places keys.
-    pub hash: NamedHash,
+    /// The path of the configuration's file.
+    pub config: &'a str,
     /// The moment of the plan, in seconds since the epoch.
     pub at: u64,
 }
 
+/// The values of the command `timeline`.
+#[derive(Debug, Drop)]
+pub struct TimelineValues<'a> {
+    /// The path of the configuration's file.
+    pub config: &'a str,
+    /// What clocks read, in seconds since the epoch, where it was given.
+    pub readings: Option<Vec<u64>>,
+}
+
+impl TimelineValues<'_> {
+    ghost use Rattle.mr_tool.specs.Words.{readings_in};
+
+    /// What clocks read, where it was given.
+    pub fn readings(&self) -> Option<&[u64]>
+        ensures { option_map (λ numbers. numbers.now) result ≡ readings_in self.now }
+    {
+        match &self.readings {
+            Some(readings) => Some(readings.as_slice()),
+            None => None,
+        }
+    }
+}
+
 /// What the words ask for: a command with its values.
-#[derive(Clone, Copy, Debug)]
+#[derive(Debug, Drop)]
 pub enum Wanted<'a> {
     /// Where a request goes.
     Plan(PlanValues<'a>),
+    /// When each phase is.
+    Timeline(TimelineValues<'a>),
 }
 
 /// Why the words give no command.
@@ -41,12 +56,12 @@ pub enum Wanted<'a> {
 pub enum WordsFault {
     /// The words are wrong, or call for help: its text is for the user.
     Wrong(Error),
+    /// The readings are no list of numbers.
+    Readings,
     /// Memory was refused.
     Memory,
 }
 
-ghost use Rattle.clap.specs.Values.{kind_of};
-ghost use Rattle.clap.specs.declared.error.kind.ErrorKind.TheVariants.{OutOfMemory};
 ghost use Rattle.mr_tool.specs.declared.words.WordsFault.TheVariants.{Memory};
 
 impl From<AllocError> for WordsFault {
@@ -58,7 +73,7 @@ impl From<AllocError> for WordsFault {
 }
 
 impl From<Error> for WordsFault {
-    ghost from_gives = { λ error fault. kind_of error ≡ OutOfMemory → fault ≡ Memory };
+    ghost from_gives = { λ error fault. IsFaultOf error fault };
 
     fn from(error: Error) -> WordsFault {
         if error.kind() == ErrorKind::OutOfMemory {
@@ -69,60 +84,70 @@ impl From<Error> for WordsFault {
     }
 }
 
-/// A value that has to be there.
-fn value<'a>(alloc: Global, id: &'a str, help: &'a str) -> Arg<'a>
-    ensures rule { rule_of result ≡ value_rule id.entry.now None }
+/// An option with a value, by its name, and what help calls its value.
+fn option<'a>(alloc: Global, name: &'a str, value: &'a str, help: &'a str) -> Arg<'a>
+    ensures rule { rule_of result ≡ option_rule name.entry.now None false }
     ensures local { result.global ≡ false }
 {
-    Arg::new(alloc, id)
-        .required(true)
+    Arg::new(alloc, name)
+        .long(name)
+        .value_name(value)
         .action(ArgAction::Set)
         .help(help)
 }
 
-/// A number that has to be there.
-fn number<'a>(alloc: Global, id: &'a str, help: &'a str) -> Arg<'a>
-    ensures rule { rule_of result ≡ number_rule id.entry.now }
+/// The option that names the file of the configuration.
+fn config_option<'a>(alloc: Global) -> Arg<'a>
+    ensures rule { rule_of result ≡ config_rule }
     ensures local { result.global ≡ false }
 {
-    value(alloc, id, help).value_parser(value_parser!(u64))
-}
-
-/// The name of a hash, which has to be there.
-fn hash<'a>(alloc: Global, id: &'a str, help: &'a str) -> Arg<'a>
-    ensures rule { (names : _) × AreHashes names × (rule_of result ≡ hash_rule id.entry.now names) }
-    ensures local { result.global ≡ false }
-{
-    value(alloc, id, help).value_parser(HASHES.as_slice())
+    let config = option(alloc, "config", "file", "The file of the configuration");
+    config.required(true)
 }
 
 /// The command `plan`.
 fn plan_command<'a>(alloc: Global) -> Result<Command<'a>, AllocError>
-    ensures { IfOk result (λ command. (names : _) × AreHashes names × (app_of command ≡ plan_app names)) }
+    ensures { IfOk result (λ command. app_of command ≡ plan_app) }
 {
+    let at = option(
+        alloc,
+        "at",
+        "seconds",
+        "When the request arrives, in seconds since the epoch",
+    );
     Command::new(alloc, "plan")
         .about("Prints where the request on the standard input goes")
-        .arg(value(alloc, "old", "The old pool: names with commas between them"))?
-        .arg(value(alloc, "new", "The new pool: names with commas between them"))?
-        .arg(number(alloc, "start", "The first second of the migration"))?
-        .arg(number(
-            alloc,
-            "interval",
-            "The seconds of each of its two middle phases",
-        ))?
-        .arg(hash(alloc, "hash", "The hash that places keys"))?
-        .arg(number(alloc, "at", "The second at which the request arrives"))
+        .arg(config_option(alloc))?
+        .arg(at.required(true).value_parser(value_parser!(u64)))
+}
+
+/// The command `timeline`.
+fn timeline_command<'a>(alloc: Global) -> Result<Command<'a>, AllocError>
+    ensures { IfOk result (λ command. app_of command ≡ timeline_app) }
+{
+    let readings = option(
+        alloc,
+        "readings",
+        "list",
+        "What clocks read, in seconds since the epoch, with commas between them",
+    );
+    Command::new(alloc, "timeline")
+        .about("Prints when each phase of the migration is")
+        .arg(config_option(alloc))?
+        .arg(readings)
 }
 
 /// The program with its commands. Its words begin with the command.
 fn program<'a>(alloc: Global) -> Result<Command<'a>, AllocError>
-    ensures { IfOk result (λ command. (names : _) × AreHashes names × (app_of command ≡ program_app names)) }
+    ensures { IfOk result (λ command. app_of command ≡ program_app) }
 {
     let plan = plan_command(alloc)?;
+    let timeline = timeline_command(alloc)?;
     let program = Command::new(alloc, "migctl")
         .bin_name("migctl")?
         .about("Plans the migration of a memcached pool")
-        .subcommand(plan)?;
+        .subcommand(plan)?
+        .subcommand(timeline)?;
     Ok(
         program
             .no_binary_name(true)
@@ -132,48 +157,71 @@ fn program<'a>(alloc: Global) -> Result<Command<'a>, AllocError>
 }
 
 /// The values of the command `plan`, where each of them was found.
-fn values_of<'a>(matches: &ArgMatches<'a>) -> Option<PlanValues<'a>>
-    ensures found { IfSome result (HasValues (rows_of (found_of matches.now))) }
-    ensures missing { IfNone result ((values : PlanValues) → ¬ HasValues (rows_of (found_of matches.now)) values) }
+fn plan_values<'a>(matches: &ArgMatches<'a>) -> Option<PlanValues<'a>>
+    ensures found { IfSome result (HasPlan (rows_of (found_of matches.now))) }
+    ensures missing { IfNone result ((values : PlanValues) → ¬ HasPlan (rows_of (found_of matches.now)) values) }
 {
     Some(PlanValues {
-        old: matches.get_str("old")?,
-        new: matches.get_str("new")?,
-        start: matches.get_one("start")?,
-        interval: matches.get_one("interval")?,
-        hash: NamedHash::from_name(matches.get_str("hash")?)?,
+        config: matches.get_str("config")?,
         at: matches.get_one("at")?,
     })
 }
 
-/// The command `plan`, where it was found with its values.
-fn plan_of<'a>(matches: &ArgMatches<'a>) -> Option<PlanValues<'a>>
-    ensures found { IfSome result (FindsPlan (subcommand_rows_of matches.now)) }
-    ensures missing { IfNone result ((values : PlanValues) → ¬ FindsPlan (subcommand_rows_of matches.now) values) }
+/// The readings among the values of the command `timeline`, where they were given.
+fn readings_of(alloc: Global, matches: &ArgMatches) -> Result<Option<Vec<u64>>, WordsFault>
+    ensures { GivesReadings (rows_of (found_of matches.now)) result }
 {
-    values_of(matches.subcommand_matches("plan")?)
-}
-
-/// The command that was found, where it has its values.
-fn wanted_of<'a>(matches: &ArgMatches<'a>) -> Option<Wanted<'a>>
-    ensures found { IfSome result (FindsCommand (subcommand_rows_of matches.now)) }
-    ensures missing { IfNone result ((wanted : Wanted) → ¬ FindsCommand (subcommand_rows_of matches.now) wanted) }
-{
-    match plan_of(matches) {
-        Some(values) => Some(Wanted::Plan(values)),
-        None => None,
+    let Some(text) = matches.get_str("readings") else {
+        return Ok(None);
+    };
+    match numbers_in(alloc, text)? {
+        Some(numbers) => Ok(Some(numbers)),
+        None => Err(WordsFault::Readings),
     }
 }
 
+/// The values of the command `timeline`, where they were found.
+fn timeline_values<'a>(
+    alloc: Global,
+    matches: &ArgMatches<'a>,
+) -> Result<Option<TimelineValues<'a>>, WordsFault>
+    ensures { GivesTimeline (rows_of (found_of matches.now)) result }
+{
+    let readings = readings_of(alloc, matches)?;
+    match matches.get_str("config") {
+        Some(config) => Ok(Some(TimelineValues { config, readings })),
+        None => Ok(None),
+    }
+}
+
+/// The command that was found, where it has its values.
+fn wanted_of<'a>(alloc: Global, matches: &ArgMatches<'a>) -> Result<Option<Wanted<'a>>, WordsFault>
+    ensures { GivesCommand (subcommand_rows_of matches.now) result }
+{
+    if let Some(found) = matches.subcommand_matches("plan") {
+        return match plan_values(found) {
+            Some(values) => Ok(Some(Wanted::Plan(values))),
+            None => Ok(None),
+        };
+    }
+    if let Some(found) = matches.subcommand_matches("timeline") {
+        return match timeline_values(alloc, found)? {
+            Some(values) => Ok(Some(Wanted::Timeline(values))),
+            None => Ok(None),
+        };
+    }
+    Ok(None)
+}
+
 /// Reads the words after the program's name, of which the first names the command. Wrong words are those that the
-/// command line has no place for, and memory is the other fault.
+/// command line has no place for; readings that are no list of numbers, and want of memory, are the other faults.
 pub fn read_words<'a>(alloc: Global, words: &'a [&'a str]) -> Result<Wanted<'a>, WordsFault>
     ensures exactly { ReadsWords (map (λ word. word.now) words.entry.now) result }
-    ensures plainly { (values : PlanValues) → SaysPlainly (map (λ word. word.now) words.entry.now) values → ReadsAs values result }
+    ensures plainly { (wanted : Wanted) → SaysPlainly (map (λ word. word.now) words.entry.now) wanted → ReadsAs wanted result }
 {
     let mut program = program(alloc)?;
     let matches = program.try_get_matches_from_mut(words)?;
-    match wanted_of(&matches) {
+    match wanted_of(alloc, &matches)? {
         Some(wanted) => Ok(wanted),
         None => {
             let error = program.error(ErrorKind::MissingSubcommand, "no command was given")?;

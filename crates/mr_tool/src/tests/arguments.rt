@@ -1,5 +1,6 @@
 //! The program, from its arguments.
-use super::{Ran, expect_run};
+use super::files_at::FilesAt;
+use super::{PLACES, Ran, expect_run};
 use crate::arguments::run_arguments;
 use mr_text::{OverReader, OverWriter};
 use std::alloc::Global;
@@ -11,7 +12,14 @@ fn run_with(alloc: Global, arguments: io::Result<Args<Global>>) -> Ran {
     let mut input = OverReader::new(&b"delete k\n"[..]);
     let mut output = OverWriter::new(Vec::new(alloc));
     let mut faults = OverWriter::new(Vec::new(alloc));
-    let status = run_arguments(alloc, arguments, &mut input, &mut output, &mut faults);
+    let status = run_arguments(
+        alloc,
+        arguments,
+        &mut FilesAt::new(PLACES.as_slice()),
+        &mut input,
+        &mut output,
+        &mut faults,
+    );
     Ran {
         status,
         output: output.into_inner(),
@@ -23,11 +31,11 @@ fn run_with(alloc: Global, arguments: io::Result<Args<Global>>) -> Ran {
 fn words_are_the_arguments_but_the_first(rt: HostRuntime) -> Result<(), Fail> {
     let alloc = rt.alloc();
     let mut arguments = Vec::new(alloc);
-    for argument in ["plan", "plan", "7001,7002", "7101", "0", "9", "sum", "40"] {
+    for argument in ["plan", "plan", "--config", "fleet.json", "--at", "1200"] {
         arguments.push(String::from_str(alloc, argument)?)?;
     }
     let ran = run_with(alloc, Ok(arguments.into_iter()));
-    let plan: &[u8] = b"phase new-only at 40\nleg 0 new 7101\n";
+    let plan: &[u8] = b"phase new-only at 1200\nleg 0 new 7103\n";
     expect_run(&rt, &ran, 0, plan, b"");
     let none: Vec<String> = Vec::new(alloc);
     let ran = run_with(alloc, Ok(none.into_iter()));

@@ -1,5 +1,6 @@
 //! What is left where a device fails.
-use super::{byte_by_byte, expect_run, plan_at, run_over};
+use super::files_at::FilesAt;
+use super::{PLACES, byte_by_byte, expect_run, plan_words, run_over};
 use crate::run::run_words;
 use mr_text::{FailsAt, OverReader, OverWriter};
 use std::alloc::Global;
@@ -57,56 +58,149 @@ fn expect_device(rt: &impl Abort, device: &TakesHalf, kept: &[u8], calls: usize)
 fn runs_with(
     rt: &impl Abort,
     alloc: Global,
+    words: &[&str],
     input: &[u8],
     fails_at: (usize, usize),
     status: u8,
     output: (&[u8], usize),
     faults: (&[u8], usize),
 ) {
+    let mut files = FilesAt::new(PLACES.as_slice());
     let mut written = OverWriter::new(TakesHalf::new(alloc, fails_at.0));
     let mut told = OverWriter::new(TakesHalf::new(alloc, fails_at.1));
-    let words = plan_at("sum", "999");
+    let mut input = OverReader::new(input);
     let ran = run_words(
         alloc,
-        &words,
-        &mut OverReader::new(input),
+        words,
+        &mut files,
+        &mut input,
         &mut written,
         &mut told,
     );
     assert_eq!(rt; ran, status);
+    assert_eq!(rt; files.calls(), 1);
     expect_device(rt, &written.into_inner(), output.0, output.1);
     expect_device(rt, &told.into_inner(), faults.0, faults.1);
 }
 
 #[test]
 fn each_write_fails(rt: HostRuntime) {
-    let alloc = rt.alloc();
+    let words = plan_words("fleet.json", "999");
     let get: &[u8] = b"get k\r\n";
     let plan: &[u8] = b"phase old-only at 999\nleg 0 old 7002\n";
-    runs_with(&rt, alloc, get, (2, 2), 0, (plan, 1), (b"", 0));
+    runs_with(&rt, rt.alloc(), &words, get, (2, 2), 0, (plan, 1), (b"", 0));
     let half = &plan[..plan.len() / 2];
     let line: &[u8] = b"migctl: output\n";
-    runs_with(&rt, alloc, get, (1, 2), 1, (half, 2), (line, 1));
-    runs_with(&rt, alloc, get, (1, 1), 1, (half, 2), (b"migctl:", 2));
+    runs_with(
+        &rt,
+        rt.alloc(),
+        &words,
+        get,
+        (1, 2),
+        1,
+        (half, 2),
+        (line, 1),
+    );
+    runs_with(
+        &rt,
+        rt.alloc(),
+        &words,
+        get,
+        (1, 1),
+        1,
+        (half, 2),
+        (b"migctl:", 2),
+    );
     let wrong: &[u8] = b"get\r\n";
     let line: &[u8] = b"migctl: text 4 WrongWords\n";
-    runs_with(&rt, alloc, wrong, (1, 2), 1, (b"", 0), (line, 1));
+    runs_with(
+        &rt,
+        rt.alloc(),
+        &words,
+        wrong,
+        (1, 2),
+        1,
+        (b"", 0),
+        (line, 1),
+    );
     let half = &line[..line.len() / 2];
-    runs_with(&rt, alloc, wrong, (1, 1), 1, (b"", 0), (half, 2));
+    runs_with(
+        &rt,
+        rt.alloc(),
+        &words,
+        wrong,
+        (1, 1),
+        1,
+        (b"", 0),
+        (half, 2),
+    );
+}
+
+#[test]
+fn each_write_of_a_timeline_fails(rt: HostRuntime) {
+    let words = ["timeline", "--config", "first.json"];
+    let times: &[u8] =
+        b"old-only none\nboth-read-old 0 3599\nboth-read-new 3600 7199\nnew-only 7200\n";
+    runs_with(
+        &rt,
+        rt.alloc(),
+        &words,
+        b"",
+        (2, 2),
+        0,
+        (times, 1),
+        (b"", 0),
+    );
+    let half = &times[..times.len() / 2];
+    let line: &[u8] = b"migctl: output\n";
+    runs_with(
+        &rt,
+        rt.alloc(),
+        &words,
+        b"",
+        (1, 2),
+        1,
+        (half, 2),
+        (line, 1),
+    );
+    let absent = ["timeline", "--config", "none.json"];
+    let line: &[u8] = b"migctl: file none.json\n";
+    runs_with(
+        &rt,
+        rt.alloc(),
+        &absent,
+        b"",
+        (1, 2),
+        1,
+        (b"", 0),
+        (line, 1),
+    );
+    let half = &line[..line.len() / 2];
+    runs_with(
+        &rt,
+        rt.alloc(),
+        &absent,
+        b"",
+        (1, 1),
+        1,
+        (b"", 0),
+        (half, 2),
+    );
 }
 
 #[test]
 fn each_read_fails(rt: HostRuntime) {
     let alloc = rt.alloc();
-    let words = plan_at("sum", "999");
+    let words = plan_words("fleet.json", "999");
     let input: &[u8] = b"get k\r\nget";
+    let mut files = FilesAt::new(PLACES.as_slice());
     for call in 1..8 {
         let mut source = FailsAt::new(byte_by_byte(input), call);
-        let ran = run_over(alloc, &words, &mut source);
+        let ran = run_over(alloc, &words, &mut files, &mut source);
         expect_run(&rt, &ran, 1, b"", b"migctl: input\n");
     }
     let mut source = FailsAt::new(byte_by_byte(input), 8);
-    let ran = run_over(alloc, &words, &mut source);
+    let ran = run_over(alloc, &words, &mut files, &mut source);
     expect_run(
         &rt,
         &ran,
@@ -114,6 +208,6 @@ fn each_read_fails(rt: HostRuntime) {
         b"phase old-only at 999\nleg 0 old 7002\n",
         b"",
     );
-    let ran = run_over(alloc, &words, &mut source);
+    let ran = run_over(alloc, &words, &mut files, &mut source);
     expect_run(&rt, &ran, 1, b"", b"migctl: input\n");
 }

@@ -1,4 +1,4 @@
-use Rattle.std.proofs.Common.{◌≡◌, ◌∙◌, List, ℕ, Ok, ap, drop, map, string_bytes, refl}
+use Rattle.std.proofs.Common.{◌≡◌, drop, map, string_bytes, refl}
 use Rattle.std.proofs.lemmas.Iterator.{items_from_collect}
 use Rattle.std.proofs.lemmas.Iterator.Adapters.{YieldsList-from_vec}
 use Rattle.std.specs.Vec.Iter.{into_iter_items}
@@ -7,12 +7,12 @@ use Rattle.mr_tool.proofs.arguments.run_arguments.Goals as goal
 
 pub returns-in_default-clause-runs : goal.returns-in_default-clause-runs
 returns-in_default-clause-runs g c =
-    rw c.in-Ok.is (memory_run (map string_bytes (drop 1 (into_iter_items c.in-Ok.given))) _ _ _ _ _ c.tell_fault-in_default.ensures.status c.tell_fault-in_default.ensures.told)
+    rw c.in-Ok.is (memory_run (map string_bytes (drop 1 (into_iter_items c.in-Ok.given))) _ _ _ _ _ _ c.tell_fault-in_default.ensures.status c.tell_fault-in_default.ensures.told)
 
 pub returns-in_default-words_of-clause-runs : goal.returns-in_default-words_of-clause-runs
 returns-in_default-words_of-clause-runs g c =
     rw c.in-Ok.is
-    (memory_run (map string_bytes (drop 1 (into_iter_items c.in-Ok.given))) _ _ _ _ _ c.tell_fault-in_default-words_of.ensures.status
+    (memory_run (map string_bytes (drop 1 (into_iter_items c.in-Ok.given))) _ _ _ _ _ _ c.tell_fault-in_default-words_of.ensures.status
     c.tell_fault-in_default-words_of.ensures.told)
 
 pub returns-clause-runs : goal.returns-clause-runs

@@ -1,4 +1,4 @@
-use Rattle.mr_tool.proofs.RequestLemmas.{feed_refusal, next_refusal, next_found}
+use Rattle.mr_tool.proofs.RequestLemmas.{next_refusal, next_found}
 use Rattle.mr_tool.proofs.first_request.next_with.Goals as goal
 
 pub returns-in-Ok : goal.returns-in-Ok

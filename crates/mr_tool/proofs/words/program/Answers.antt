@@ -1,18 +1,19 @@
 use Rattle.std.proofs.Common.{◌≡◌, ◌∙◌, ap, ap₂, true, codes}
 use Rattle.clap.specs.Words.{App, app_of, new_app, with_subcommand}
-use Rattle.mr_tool.specs.Command.{plan_app}
+use Rattle.mr_tool.specs.Command.{plan_app, timeline_app}
 use Rattle.mr_tool.proofs.WordLemmas.{third_is_false}
 use Rattle.mr_tool.proofs.words.program.Goals as goal
 
 pub returns : goal.returns
 returns c =
-    let p = c.in_ok-plan.ensures.0 in
-    let plan_is = c.in_ok-plan.ensures.2 in
+    let plan_is : app_of c.in_ok-plan.plan ≡ plan_app = c.in_ok-plan.ensures in
+    let timeline_is : app_of c.in_ok-timeline.timeline ≡ timeline_app = c.in_ok-timeline.ensures in
     let start : app_of c.about.result ≡ new_app (codes "migctl") = rw (c.about.ensures, c.in_ok-bin_name.ensures.0) c.new.ensures.app in
-    let whole : app_of c.in_ok-program.program ≡ with_subcommand (new_app (codes "migctl")) (plan_app p).top =
-    c.in_ok-program.ensures.shape (third_is_false _ _ _ _ (ap (λ (a : App). a.top.is_plain) plan_is)) ∙ ap₂ with_subcommand start (ap (λ (a : App). a.top) plan_is) in (
-      p,
-      c.in_ok-plan.ensures.1,
-      rw (c.arg_required_else_help.ensures, c.subcommand_required.ensures, c.no_binary_name.ensures)
-          (ap (λ (a : App). record a { top = record a.top { no_binary_name = true; subcommand_required = true; arg_required_else_help = true } }) whole),
-    )
+    let with_plan : app_of c.in_ok-subcommand.field-0 ≡ with_subcommand (new_app (codes "migctl")) plan_app.top =
+    c.in_ok-subcommand.ensures.shape (third_is_false _ _ _ _ (ap (λ (a : App). a.top.is_plain) plan_is))
+    ∙ ap₂ with_subcommand start (ap (λ (a : App). a.top) plan_is) in
+    let whole : app_of c.in_ok-program.program ≡ with_subcommand (with_subcommand (new_app (codes "migctl")) plan_app.top) timeline_app.top =
+    c.in_ok-program.ensures.shape (third_is_false _ _ _ _ (ap (λ (a : App). a.top.is_plain) timeline_is))
+    ∙ ap₂ with_subcommand with_plan (ap (λ (a : App). a.top) timeline_is) in
+    rw (c.arg_required_else_help.ensures, c.subcommand_required.ensures, c.no_binary_name.ensures)
+    (ap (λ (a : App). record a { top = record a.top { no_binary_name = true; subcommand_required = true; arg_required_else_help = true } }) whole)

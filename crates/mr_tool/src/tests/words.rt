@@ -1,0 +1,104 @@
+//! Words that say no command.
+use super::files_at::FilesAt;
+use super::{PLACES, expect_run, run, run_over};
+use mr_text::OverReader;
+
+#[test]
+fn words_are_refused_with_status_2(rt: HostRuntime) {
+    let cases: [&[&str]; 19] = [
+        &[],
+        &["--help"],
+        &["help"],
+        &["draw"],
+        &["plan"],
+        &["plan", "--help"],
+        &["plan", "--config", "fleet.json"],
+        &["plan", "--at", "999"],
+        &["plan", "--config", "fleet.json", "--at"],
+        &["plan", "--config", "fleet.json", "--at", "x"],
+        &["plan", "--config", "fleet.json", "--at", ""],
+        &["plan", "--config", "fleet.json", "--at", "-1"],
+        &[
+            "plan",
+            "--config",
+            "fleet.json",
+            "--at",
+            "18446744073709551616",
+        ],
+        &["plan", "--config", "fleet.json", "--at", "9", "9"],
+        &["plan", "--config", "a", "--config", "b", "--at", "9"],
+        &["plan", "7001,7002", "7101", "1000", "100", "sum", "999"],
+        &["timeline", "--readings", "9"],
+        &["timeline", "--config", "fleet.json", "--at", "9"],
+        &["timeline", "--config", "fleet.json", "--readings", "-1"],
+    ];
+    for words in cases {
+        let ran = run(rt.alloc(), words, b"delete k\n");
+        assert_eq!(rt; ran.status, 2, "{words:?}");
+        assert!(rt; ran.output.is_empty(), "{words:?}");
+        assert!(rt; !ran.faults.is_empty(), "{words:?}");
+    }
+}
+
+#[test]
+fn wrong_words_and_help_have_texts(rt: HostRuntime) {
+    let cases: [(&[&str], &[u8]); 4] = [
+        (
+            &["plan", "--config", "fleet.json", "--at", "x"],
+            b"error: invalid value 'x' for '--at <seconds>': invalid digit found in string\n\n\
+            For more information, try '--help'.\n",
+        ),
+        (
+            &["draw"],
+            b"error: unrecognized subcommand 'draw'\n\nUsage: migctl <COMMAND>\n\n\
+            For more information, try '--help'.\n",
+        ),
+        (
+            &["plan", "--help"],
+            b"Prints where the request on the standard input goes\n\n\
+            Usage: migctl plan --config <file> --at <seconds>\n\n\
+            Options:\n\
+            \x20     --config <file>  The file of the configuration\n\
+            \x20     --at <seconds>   When the request arrives, in seconds since the epoch\n\
+            \x20 -h, --help           Print help\n",
+        ),
+        (
+            &["timeline", "--help"],
+            b"Prints when each phase of the migration is\n\n\
+            Usage: migctl timeline [OPTIONS] --config <file>\n\n\
+            Options:\n\
+            \x20     --config <file>    The file of the configuration\n\
+            \x20     --readings <list>  What clocks read, in seconds since the epoch, with commas between them\n\
+            \x20 -h, --help             Print help\n",
+        ),
+    ];
+    for (words, text) in cases {
+        let ran = run(rt.alloc(), words, b"delete k\n");
+        expect_run(&rt, &ran, 2, b"", text);
+    }
+}
+
+/// The readings are looked at before the file, which isn't there.
+#[test]
+fn readings_are_numbers(rt: HostRuntime) {
+    let cases = [
+        "--readings=",
+        "--readings=,",
+        "--readings=1,",
+        "--readings=,1",
+        "--readings=1,,2",
+        "--readings=1, 2",
+        "--readings=1;2",
+        "--readings=x",
+        "--readings=1,-2",
+        "--readings=0,18446744073709551616",
+    ];
+    for readings in cases {
+        let words = ["timeline", "--config", "none.json", readings];
+        let mut files = FilesAt::new(PLACES.as_slice());
+        let mut input = OverReader::new(&b""[..]);
+        let ran = run_over(rt.alloc(), &words, &mut files, &mut input);
+        expect_run(&rt, &ran, 2, b"", b"migctl: words --readings\n");
+        assert_eq!(rt; files.calls(), 0);
+    }
+}
