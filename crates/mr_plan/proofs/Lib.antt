@@ -1,11 +1,8 @@
 pub mod CheckLemmas
-pub mod ConfigLemmas
 pub mod EventLemmas
-pub mod FieldLemmas
 pub mod HomeLemmas
 pub mod ListLemmas
 pub mod PlayLemmas
-pub mod PoolLemmas
 pub mod ReadingLemmas
 pub mod ScriptLemmas
 pub mod SetupLemmas

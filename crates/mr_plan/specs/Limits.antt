@@ -1,9 +1,5 @@
--- The limits of configurations, scripts and transcripts.
+-- The limits of scripts and transcripts.
 use Rattle.std.specs.Prelude.{ℕ}
-
--- how long each of the two middle phases lasts where a configuration doesn't say it, in seconds
-abbrev pub default_interval : ℕ
-default_interval = 3600
 
 -- the largest script or transcript, in bytes
 abbrev pub most_bytes : ℕ

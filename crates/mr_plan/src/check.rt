@@ -6,11 +6,11 @@ ghost use Rattle.mr_world.specs.Setup.{CanBeMade};
 ghost use Rattle.mr_plan.specs.Check.{tells, all_hold, is_safe, outcome_of_play, IsChecked, IsVouchedFor};
 ghost use Rattle.mr_plan.specs.Script.{IsPlayable};
 ghost use Rattle.mr_plan.specs.Transcripts.{outcome_check, played_in, RefusesPlayed, IsCheckOf, RefusesCheck};
-ghost use Rattle.mr_plan.specs.declared.error.PlanError.TheVariants.{OutOfMemory};
+ghost use Rattle.mr_config.specs.declared.error.PlanError.TheVariants.{OutOfMemory};
 
-use crate::config::json_of;
-use crate::error::PlanError;
-use crate::fields::{check_object, field};
+use mr_config::json_of;
+use mr_config::PlanError;
+use mr_config::fields::{check_object, field};
 use crate::limits::MAX_SCRIPT;
 use crate::play::play_events;
 use crate::script::read_parts;

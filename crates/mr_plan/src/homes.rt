@@ -1,22 +1,19 @@
 //! The nodes of a setup's proxies, looked up in its JSON values without making them.
 ghost use Rattle.std.specs.Prelude.{◌≡◌, map, option_map};
 ghost use Rattle.serde_json.specs.View.{view, items_view};
-ghost use Rattle.mr_plan.specs.Fields.{is_one_of};
 ghost use Rattle.mr_plan.specs.Homes.{name_at, servers_at, names_at, pools_at, config_at, values_name, node_at, are_housed, values_have_room};
-ghost use Rattle.mr_plan.specs.Pools.{names_in};
+ghost use Rattle.mr_config.specs.Pools.{names_in};
 ghost use Rattle.mr_plan.specs.Setups.{pools_name};
 
+use mr_config::name_pointed_to;
+use mr_config::names::is_among;
 use serde_json::Value;
 
 /// The name of the pool that a configuration's route names at this key.
 fn name_at<'a>(config: &'a Value, key: &str) -> Option<&'a str>
     ensures { option_map (λ name. name.now) result ≡ name_at key.now (view config.now) }
 {
-    config
-        .get("route")?
-        .get(key)?
-        .as_str()?
-        .strip_prefix("PoolRoute|")
+    name_pointed_to(config.get("route")?.get(key)?.as_str()?)
 }
 
 /// The nodes of a configuration's pool of this name.
@@ -27,7 +24,7 @@ fn servers_at<'a>(config: &'a Value, name: &str) -> Option<&'a Vec<Value>>
 }
 
 /// The names of the pool that a configuration's route names at this key.
-#[tactic(auto, using(crate::proofs::FieldLemmas::values_in_items))]
+#[tactic(auto, using(mr_config::proofs::FieldLemmas::values_in_items))]
 fn names_at<'a>(config: &'a Value, key: &str) -> &'a [Value]
     ensures { names_in (map view result.now) ≡ names_at key.now (view config.now) }
 {
@@ -38,18 +35,6 @@ fn names_at<'a>(config: &'a Value, key: &str) -> &'a [Value]
         Some(values) => values.as_slice(),
         None => &[],
     }
-}
-
-/// Whether the name is one of these.
-fn is_among(values: &[Value], name: &str) -> bool
-    ensures { result ≡ is_one_of (names_in (map view values.now)) name.now }
-{
-    for value in values {
-        if value.as_str().unwrap_or("") == name {
-            return true;
-        }
-    }
-    false
 }
 
 /// Whether a pool of the configuration has a node of this name.

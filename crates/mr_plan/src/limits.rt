@@ -1,7 +1,4 @@
-//! The limits of configurations, scripts and transcripts.
-
-/// How long each of the two middle phases lasts where a configuration doesn't say it, in seconds.
-pub const DEFAULT_INTERVAL: u64 = 3600;
+//! The limits of scripts and transcripts.
 
 /// The largest script or transcript, in bytes.
 pub const MAX_SCRIPT: usize = 16_777_216;

@@ -1,40 +1,14 @@
 //! The names of nodes that texts of JSON hold.
-ghost use Rattle.std.specs.Prelude.{◌≡◌, true, Ok, Err, IfOk, IfErr};
+ghost use Rattle.std.specs.Prelude.{◌≡◌, Ok, Err, IfOk, IfErr};
 ghost use Rattle.serde_json.specs.View.{view};
-ghost use Rattle.mr_plan.specs.Pools.{is_name_byte, are_name_bytes, is_node_name};
 ghost use Rattle.mr_plan.specs.Texts.{node_name_of_text, node_name_of};
 
-use crate::error::PlanError;
-use crate::fields::text;
-use mr_pools::{MAX_NAME, NodeName, PoolError};
+use mr_config::PlanError;
+use mr_config::fields::text;
+use mr_config::names::is_node_name;
+use mr_pools::{NodeName, PoolError};
 use serde_json::Value;
 use std::alloc::{AllocError, Global};
-
-/// Whether a byte may stand in a node's name.
-fn is_name_byte(byte: u8) -> bool
-    ensures { result ≡ is_name_byte byte }
-{
-    byte.is_ascii_graphic() && byte != b','
-}
-
-/// Whether each byte may stand in a node's name.
-fn are_name_bytes(name: &[u8]) -> bool
-    ensures { result ≡ are_name_bytes name.now }
-{
-    for byte in name {
-        if !is_name_byte(*byte) {
-            return false;
-        }
-    }
-    true
-}
-
-/// Whether the bytes name a node.
-fn is_node_name(name: &[u8]) -> bool
-    ensures { result ≡ is_node_name name.now }
-{
-    !name.is_empty() && name.len() <= MAX_NAME && are_name_bytes(name)
-}
 
 /// The text of the node's name that a value is.
 pub fn node_name_text(value: &Value) -> Result<&str, PlanError>

@@ -6,7 +6,7 @@ ghost use Rattle.mr_world.specs.Premises.{premises_of};
 ghost use Rattle.mr_world.specs.Setup.{CanBeMade};
 ghost use Rattle.mr_plan.specs.Transcript.{with_outcome, transcript_text, IsTranscript, RefusesTranscript};
 
-use crate::error::PlanError;
+use mr_config::PlanError;
 use crate::limits::MAX_SCRIPT;
 use crate::play::play_events;
 use crate::script::Script;

@@ -1,7 +1,8 @@
 //! Configurations, plans, timelines, scripts and transcripts.
 use mr_history::OpId;
 use mr_phases::{PhaseName, ScheduleError, Side};
-use mr_plan::{Config, KeptVerdict, PhaseTimes, PlanError, Span, advise, plan, timeline};
+use mr_config::{Config, PhaseTimes, PlanError, Span, advise, plan, timeline};
+use mr_plan::KeptVerdict;
 use mr_pools::{NamedHash, Pool, PoolError};
 use mr_text::{Key, KeyList, Request};
 use std::alloc::Global;

@@ -2,8 +2,8 @@
 use Rattle.std.specs.Prelude.{◌≡◌, ℕ, List, ◌++◌, codes, string_bytes}
 use Rattle.mr_text.specs.declared.error.TextError.{TextError}
 use Rattle.mr_text.specs.declared.error.TextError.TheVariants.{LineTooLong, BadKey, BadNumber, WrongWords, DataTooLong, BadDataEnd, UnknownCommand, Truncated, Closed, OutOfMemory}
-use Rattle.mr_plan.specs.declared.error.PlanError.{PlanError}
-use Rattle.mr_plan.specs.declared.error.PlanError.TheVariants as plan
+use Rattle.mr_config.specs.declared.error.PlanError.{PlanError}
+use Rattle.mr_config.specs.declared.error.PlanError.TheVariants as plan
 use Rattle.mr_tool.specs.declared.fault.Fault.{Fault}
 use Rattle.mr_tool.specs.declared.fault.Fault.TheVariants.{Memory, Input, Output, File, Plan, Text}
 

@@ -5,7 +5,7 @@ ghost use Rattle.mr_tool.specs.Fault.{IsFileFault};
 
 use crate::fault::Fault;
 use crate::sources::{LoadFault, Sources};
-use mr_plan::{Config, PlanError};
+use mr_config::{Config, PlanError};
 use std::alloc::Global;
 
 /// The largest configuration, in bytes.

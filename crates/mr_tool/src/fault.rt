@@ -1,7 +1,7 @@
 //! What stops a command once its words were read.
 ghost use Rattle.std.specs.Prelude.{◌≡◌};
 
-use mr_plan::PlanError;
+use mr_config::PlanError;
 use mr_text::{Sink, TextError};
 use thiserror::Error;
 

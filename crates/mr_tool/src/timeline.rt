@@ -1,6 +1,6 @@
 //! The text of a timeline.
 ghost use Rattle.std.specs.Prelude.{◌≡◌, ◌++◌, IfOk, OnOk, IsErrOf, length, option_map};
-ghost use Rattle.mr_plan.specs.Timeline.{advice_of};
+ghost use Rattle.mr_config.specs.Timeline.{advice_of};
 ghost use Rattle.mr_tool.specs.Printing.{WritesAtOnce};
 ghost use Rattle.mr_tool.specs.TimelineText.{times_text, reading_lines, advice_text, timeline_text};
 
@@ -9,7 +9,7 @@ use crate::line::{
 };
 use crate::printing::{PrintFault, write_at_once};
 use mr_phases::PhaseName;
-use mr_plan::{Config, PhaseTimes, advise, timeline};
+use mr_config::{Config, PhaseTimes, advise, timeline};
 use mr_text::Sink;
 use std::alloc::{AllocError, Global};
 
