@@ -14,14 +14,14 @@ use Rattle.mr_world.specs.declared.premises.Premises.{Premises}
 use Rattle.mr_plan.proofs.PlayLemmas.{plays_run}
 use Rattle.mr_plan.specs.Check.{tells, all_hold, is_safe, outcome_of_play, outcome_of, IsChecked, IsVouchedFor}
 use Rattle.mr_plan.specs.Play.{PlaysTo, IsPlay}
-use Rattle.mr_plan.specs.Shown.{entries_json, notes_json, premises_json, verdict_json}
-use Rattle.mr_plan.specs.Verdict.{JudgesSo}
+use Rattle.mr_shown.specs.Shown.{entries_json, notes_json, premises_json, verdict_json}
+use Rattle.mr_shown.specs.Verdict.{JudgesSo}
 use Rattle.mr_plan.specs.declared.check.Checked.{Checked}
 use Rattle.mr_plan.specs.declared.check.Outcome.{Outcome}
 use Rattle.mr_plan.specs.declared.check.Outcome.TheVariants.{EventRefused, NotesDiffer, HistoryDiffers, PremisesDiffer, VerdictDiffers, PremiseFalse, NotSafe, Accepted}
 use Rattle.mr_plan.specs.declared.play.Stop.{Stop}
-use Rattle.mr_plan.specs.declared.verdict.KeptVerdict.{KeptVerdict}
-use Rattle.mr_plan.specs.declared.verdict.KeptVerdict.TheVariants.{Safe, Stale, Invented}
+use Rattle.mr_shown.specs.declared.verdict.KeptVerdict.{KeptVerdict}
+use Rattle.mr_shown.specs.declared.verdict.KeptVerdict.TheVariants.{Safe, Stale, Invented}
 
 -- the first test that fails decides, and none of the others is Accepted
 record Passes (a b c d e f : Bool) : Type 0 where

@@ -4,6 +4,7 @@ pub mod HomeLemmas
 pub mod ListLemmas
 pub mod PlayLemmas
 pub mod ReadingLemmas
+pub mod RefusalLemmas
 pub mod ScriptLemmas
 pub mod SetupLemmas
 pub mod ShownLemmas

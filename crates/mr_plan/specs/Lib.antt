@@ -12,9 +12,7 @@ pub mod Script
 pub mod ScriptDraft
 pub mod SetupDraft
 pub mod Setups
-pub mod Shown
 pub mod Texts
 pub mod Transcript
 pub mod Transcripts
 pub mod Values
-pub mod Verdict

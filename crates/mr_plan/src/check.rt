@@ -8,15 +8,13 @@ ghost use Rattle.mr_plan.specs.Script.{IsPlayable};
 ghost use Rattle.mr_plan.specs.Transcripts.{outcome_check, played_in, RefusesPlayed, IsCheckOf, RefusesCheck};
 ghost use Rattle.mr_config.specs.declared.error.PlanError.TheVariants.{OutOfMemory};
 
-use mr_config::json_of;
-use mr_config::PlanError;
-use mr_config::fields::{check_object, field};
 use crate::limits::MAX_SCRIPT;
 use crate::play::play_events;
 use crate::script::read_parts;
-use crate::shown::{history_value, notes_value, premises_value, verdict_value};
 use crate::values::is_same;
-use crate::verdict::KeptVerdict;
+use mr_config::fields::{check_object, field};
+use mr_config::{PlanError, json_of};
+use mr_shown::{KeptVerdict, history_value, notes_value, premises_value, verdict_value};
 use mr_world::{Event, Note, Premises, Setup, World};
 use serde_json::Value;
 use std::alloc::{AllocError, Global};

@@ -8,9 +8,8 @@ ghost use Rattle.mr_plan.specs.Lists.{all_of};
 ghost use Rattle.mr_plan.specs.Setups.{config_or, proxy_of};
 ghost use Rattle.mr_plan.specs.SetupDraft.{config_chosen, proxy_drafted, CanOwnBeMade};
 
-use mr_config::{Config, Draft, draft_of};
-use mr_config::PlanError;
 use mr_config::fields::{check_object, field, whole_number};
+use mr_config::{Config, Draft, PlanError, draft_of};
 use mr_world::ProxySetup;
 use serde_json::Value;
 use std::alloc::{AllocError, Global};

@@ -6,12 +6,11 @@ ghost use Rattle.mr_world.specs.Premises.{premises_of};
 ghost use Rattle.mr_world.specs.Setup.{CanBeMade};
 ghost use Rattle.mr_plan.specs.Transcript.{with_outcome, transcript_text, IsTranscript, RefusesTranscript};
 
-use mr_config::PlanError;
 use crate::limits::MAX_SCRIPT;
 use crate::play::play_events;
 use crate::script::Script;
-use crate::shown::{history_value, notes_value, premises_value, verdict_value};
-use crate::verdict::KeptVerdict;
+use mr_config::PlanError;
+use mr_shown::{KeptVerdict, history_value, notes_value, premises_value, verdict_value};
 use mr_world::{Event, Note, Setup, World};
 use serde_json::{Value, put};
 use std::alloc::{AllocError, Global};

@@ -2,7 +2,7 @@
 use mr_history::OpId;
 use mr_phases::{PhaseName, ScheduleError, Side};
 use mr_config::{Config, PhaseTimes, PlanError, Span, advise, plan, timeline};
-use mr_plan::KeptVerdict;
+use mr_shown::KeptVerdict;
 use mr_pools::{NamedHash, Pool, PoolError};
 use mr_text::{Key, KeyList, Request};
 use std::alloc::Global;

@@ -1,0 +1,117 @@
+-- What happened, as JSON.
+use Rattle.std.specs.Prelude.{ℕ, List, map, codes}
+use Rattle.std.specs.Str.{encode_utf8_all}
+use Rattle.serde_json.specs.Data.{Data, boolean, number, string, array, object, unsigned, Items, no_items, item, no_members, member}
+use Rattle.serde_json.specs.Find.{of_integer}
+use Rattle.serde_json.specs.View.{items_of}
+use Rattle.mr_text.specs.CauseText.{text_of}
+use Rattle.mr_text.specs.declared.item.Item.{Item}
+use Rattle.mr_text.specs.declared.reply.Reply.{Reply}
+use Rattle.mr_text.specs.declared.reply.Reply.TheVariants as reply
+use Rattle.mr_text.specs.declared.request.Request.{Request}
+use Rattle.mr_text.specs.declared.request.Request.TheVariants as request
+use Rattle.mr_phases.specs.SideText.{side_text}
+use Rattle.mr_history.specs.declared.entry.Author.{Author}
+use Rattle.mr_history.specs.declared.entry.Author.TheVariants.{Beginning, By}
+use Rattle.mr_history.specs.declared.entry.Entry.{Entry}
+use Rattle.mr_history.specs.declared.entry.Entry.TheVariants as entry
+use Rattle.mr_history.specs.declared.op_id.OpId.{OpId}
+use Rattle.mr_world.specs.declared.note.Note.{Note}
+use Rattle.mr_world.specs.declared.note.Note.TheVariants.{Nothing, Issued, Performed, Waiting, Answered, Stranger}
+use Rattle.mr_world.specs.declared.premises.Premises.{Premises}
+use Rattle.mr_shown.specs.declared.verdict.KeptVerdict.{KeptVerdict}
+use Rattle.mr_shown.specs.declared.verdict.KeptVerdict.TheVariants.{Safe, Stale, Invented}
+
+-- bytes as a text of which each character is one byte, its code point being the byte
+abbrev pub bytes_json : List ℕ → Data
+bytes_json bytes = string (encode_utf8_all bytes)
+
+abbrev pub number_json : ℕ → Data
+number_json n = number (unsigned n)
+
+abbrev pub op_json : OpId → Data
+op_json op = array (item (number_json op.proxy) (item (number_json op.incarnation) (item (number_json op.number) no_items)))
+
+abbrev pub keys_json : List (List ℕ) → Items
+keys_json keys = items_of (map bytes_json keys)
+
+abbrev pub request_json : Request → Data
+request_json (request.Get keys) = object (member (codes "keys") (array (keys_json keys)) (member (codes "kind") (string (codes "get")) no_members))
+request_json (request.Set key flags exptime block noreply) =
+    object
+    (member (codes "data") (bytes_json block)
+    (member (codes "exptime") (number (of_integer exptime))
+    (member (codes "flags") (number_json flags)
+    (member (codes "key") (bytes_json key)
+    (member (codes "kind") (string (codes "set"))
+    (member (codes "noreply") (boolean noreply) no_members))))))
+request_json (request.Delete key noreply) =
+    object (member (codes "key") (bytes_json key) (member (codes "kind") (string (codes "delete")) (member (codes "noreply") (boolean noreply) no_members)))
+request_json request.Quit = object (member (codes "kind") (string (codes "quit")) no_members)
+
+-- an item with its key, flags and data
+abbrev pub item_json : Item → Data
+item_json i = object (member (codes "data") (bytes_json i.block) (member (codes "flags") (number_json i.flags) (member (codes "key") (bytes_json i.key) no_members)))
+
+abbrev pub items_json : List Item → Items
+items_json items = items_of (map item_json items)
+
+-- a proxy's answer is one of the first four or a server's error
+abbrev pub reply_json : Reply → Data
+reply_json (reply.Items items) = object (member (codes "items") (array (items_json items)) no_members)
+reply_json reply.Stored = string (codes "stored")
+reply_json reply.Deleted = string (codes "deleted")
+reply_json reply.NotFound = string (codes "not_found")
+reply_json (reply.ServerError cause) = object (member (codes "server_error") (bytes_json (text_of cause)) no_members)
+reply_json (reply.ClientError cause) = object (member (codes "client_error") (bytes_json (text_of cause)) no_members)
+reply_json reply.Error = string (codes "error")
+
+abbrev pub author_json : Author → Data
+author_json Beginning = string (codes "beginning")
+author_json (By op) = op_json op
+
+abbrev pub entry_json : Entry → Data
+entry_json (entry.Issued op proxy request) =
+    object
+    (member (codes "entry") (string (codes "issued"))
+    (member (codes "op") (op_json op) (member (codes "proxy") (number_json proxy) (member (codes "request") (request_json request) no_members))))
+entry_json (entry.Stored by key flags block) =
+    object
+    (member (codes "by") (author_json by)
+    (member (codes "data") (bytes_json block)
+    (member (codes "entry") (string (codes "stored")) (member (codes "flags") (number_json flags) (member (codes "key") (bytes_json key) no_members)))))
+entry_json (entry.Removed op side key) =
+    object
+    (member (codes "entry") (string (codes "removed"))
+    (member (codes "key") (bytes_json key) (member (codes "op") (op_json op) (member (codes "side") (string (side_text side)) no_members))))
+entry_json (entry.Answered op reply) =
+    object (member (codes "entry") (string (codes "answered")) (member (codes "op") (op_json op) (member (codes "reply") (reply_json reply) no_members)))
+
+abbrev pub entries_json : List Entry → Items
+entries_json entries = items_of (map entry_json entries)
+
+abbrev pub note_json : Note → Data
+note_json Nothing = string (codes "nothing")
+note_json (Issued op first count) =
+    object (member (codes "issued") (op_json op) (member (codes "messages") (array (item (number_json first) (item (number_json count) no_items))) no_members))
+note_json (Performed reply) = object (member (codes "performed") (number_json reply) no_members)
+note_json Waiting = string (codes "waiting")
+note_json (Answered op) = object (member (codes "answered") (op_json op) no_members)
+note_json Stranger = string (codes "stranger")
+
+abbrev pub notes_json : List Note → Items
+notes_json notes = items_of (map note_json notes)
+
+abbrev pub premises_json : Premises → Data
+premises_json p =
+    object
+    (member (codes "forward") (boolean p.forward)
+    (member (codes "near") (boolean p.near) (member (codes "new_empty") (boolean p.new_empty) (member (codes "same") (boolean p.same) no_members))))
+
+abbrev pub verdict_json : KeptVerdict → Data
+verdict_json Safe = string (codes "safe")
+verdict_json (Stale get key delete) =
+    object
+    (member (codes "stale") (object (member (codes "delete") (op_json delete) (member (codes "get") (op_json get) (member (codes "key") (bytes_json key) no_members)))) no_members)
+verdict_json (Invented get key) =
+    object (member (codes "invented") (object (member (codes "get") (op_json get) (member (codes "key") (bytes_json key) no_members))) no_members)
