@@ -1,15 +1,16 @@
 //! Configurations, plans, timelines, scripts and transcripts.
+use mr_config::{Config, PhaseTimes, PlanError, Span, advise, plan, timeline};
 use mr_history::OpId;
 use mr_phases::{PhaseName, ScheduleError, Side};
-use mr_config::{Config, PhaseTimes, PlanError, Span, advise, plan, timeline};
-use mr_shown::KeptVerdict;
 use mr_pools::{NamedHash, Pool, PoolError};
+use mr_shown::KeptVerdict;
 use mr_text::{Key, KeyList, Request};
 use std::alloc::Global;
 use std::process::Abort;
 use std::test::Fail;
 
 mod configurations;
+mod errors;
 mod plans;
 mod transcripts;
 

@@ -33,7 +33,7 @@ abbrev held_4 : Text → Text → Held
 held_4 config at = record (held_3 config) { pending = Some (codes "at", at ∷ []) }
 
 -- a value that its parser takes is no fault
-value_taken : (word : Text) → accepts false numbers word ≡ true → values_kinds false numbers (word ∷ []) ≡ []
+pub value_taken : (word : Text) → accepts false numbers word ≡ true → values_kinds false numbers (word ∷ []) ≡ []
 value_taken word taken = rw taken refl
 
 module _ (config at : Text) (config_plain : IsPlainWord config) (at_plain : IsPlainWord at) (at_number : accepts false numbers at ≡ true) where
@@ -92,14 +92,14 @@ module _ (config at : Text) (config_plain : IsPlainWord config) (at_plain : IsPl
   rows_found = ap (λ (w : Walk). Some (codes "plan", finished leaf.rules w.held)) walk_is
 
 -- a number is no option
-number_word : (word : Text) → IsNumeral 10 (without_leading_plus word) → IsNoOption word
+pub number_word : (word : Text) → IsNumeral 10 (without_leading_plus word) → IsNoOption word
 number_word [] h = tt
 number_word (byte ∷ rest) h = λ e. no_hyphen rest (subst (λ (b : ℕ). IsNumeral 10 (without_leading_plus (b ∷ rest))) e h)
   where
     no_hyphen : (rest : Text) → IsNumeral 10 (without_leading_plus (45 ∷ rest)) → ⊥
     no_hyphen rest h = let bad : 36 < 10 = h.1.0 in absurd (omega arith)
 
-number_taken : (word : Text) (number : ℕ) → IsNumberWord word number → accepts false numbers word ≡ true
+pub number_taken : (word : Text) (number : ℕ) → IsNumberWord word number → accepts false numbers word ≡ true
 number_taken word number is =
     let fits : digits_value 10 (without_leading_plus word) < 2 ^ 64 = rw (← is.value) is.fits in
     Accepts-accepts false numbers word (is.digits, fits, omega arith, omega arith)

@@ -7,6 +7,8 @@ use Rattle.clap.specs.Values.{kind_of}
 use Rattle.clap.specs.Words.{Text, fault_of, is_simple, subcommand_of}
 use Rattle.clap.specs.declared.error.Error.{Error}
 use Rattle.clap.specs.declared.error.kind.ErrorKind.TheVariants.{OutOfMemory}
+use Rattle.mr_tool.proofs.PlainExplain.{explanation_said}
+use Rattle.mr_tool.proofs.PlainFile.{check_said, run_said}
 use Rattle.mr_tool.proofs.PlainPlan.{plan_said}
 use Rattle.mr_tool.proofs.PlainTimeline.{timeline_said}
 use Rattle.mr_tool.proofs.WordLemmas.{one_said, said_not_bad}
@@ -14,7 +16,7 @@ use Rattle.mr_tool.specs.Command.{program_app}
 use Rattle.mr_tool.specs.Words.{FindsBadReadings, FindsCommand, Found, ReadsAs, ReadsWords, Say, SayNothing, SaysPlainly, SayWhat}
 use Rattle.mr_tool.specs.WordSteps.{GivesCommand, IsFaultOf}
 use Rattle.mr_tool.specs.declared.words.Wanted.{Wanted}
-use Rattle.mr_tool.specs.declared.words.Wanted.TheVariants.{Plan, Timeline}
+use Rattle.mr_tool.specs.declared.words.Wanted.TheVariants.{Plan, Timeline, Run, Check, Explain}
 use Rattle.mr_tool.specs.declared.words.WordsFault.{WordsFault}
 use Rattle.mr_tool.specs.declared.words.WordsFault.TheVariants.{Wrong, Readings, Memory}
 
@@ -74,6 +76,9 @@ words_fail words found fault (Err Memory) fits is gives h = tt
 plainly_said : (words : List Text) (wanted : Wanted) → SaysPlainly words wanted → Say words wanted
 plainly_said words (Plan values) says = plan_said words values says
 plainly_said words (Timeline values) says = timeline_said words values says.0 says.1 says.2
+plainly_said words (Run file) says = run_said words file says
+plainly_said words (Check file) says = check_said words file says
+plainly_said words (Explain explanation) says = explanation_said words explanation says
 
 -- what is read of words that plainly say a command
 pub reads_as : (words : List Text) (result : Result Wanted WordsFault) → ReadsWords words result → (wanted : Wanted) → SaysPlainly words wanted → ReadsAs wanted result

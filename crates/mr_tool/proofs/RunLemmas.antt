@@ -1,17 +1,23 @@
 -- What each step of a run says of the whole.
-use Rattle.std.proofs.Common.{◌≡◌, ℕ, List, Result, Ok, Err, refl, ap, subst, sym, inl, inr, ◌⊎◌}
+use Rattle.std.proofs.Common.{◌≡◌, ℕ, List, Option, Some, None, Result, Ok, Err, refl, ap, subst, sym, inl, inr, ◌⊎◌}
 use Rattle.mr_text.specs.Sink.{SinkView, IsOneWrite}
 use Rattle.mr_text.specs.Source.{SourceView}
 use Rattle.mr_text.specs.declared.error.WriteFault.{WriteFault}
 use Rattle.mr_config.specs.Config.{ConfigView}
+use Rattle.mr_tool.specs.declared.ended.Ended.{Ended}
+use Rattle.mr_tool.specs.declared.ended.Ended.TheVariants.{Done, NotAccepted}
 use Rattle.mr_tool.specs.declared.fault.Fault.{Fault}
 use Rattle.mr_tool.specs.declared.fault.Fault.TheVariants.{Memory}
+use Rattle.mr_tool.specs.Given.{IsGiven, path_in}
+use Rattle.mr_tool.specs.GivenText.{Makes, WritesText}
 use Rattle.mr_tool.specs.declared.words.PlanValues.{PlanValues}
 use Rattle.mr_tool.specs.declared.words.TimelineValues.{TimelineValues}
 use Rattle.mr_tool.specs.declared.words.Wanted.{Wanted}
 use Rattle.mr_tool.specs.declared.words.Wanted.TheVariants as wanted
 use Rattle.mr_tool.specs.ConfigFile.{LoadsConfig}
 use Rattle.mr_tool.specs.Devices.{Devices, devices, IsTold, Tells, NoneFailed}
+use Rattle.mr_tool.specs.Explain.{Told, told_by}
+use Rattle.mr_tool.specs.ExplainCommand.{WritesExplanation}
 use Rattle.mr_tool.specs.PlanCommand.{WritesPlan}
 use Rattle.mr_tool.specs.TimelineCommand.{WritesTimeline}
 use Rattle.mr_tool.specs.Run.{Gives, EndsWith, RunsCommand, Runs}
@@ -41,22 +47,63 @@ timeline_steady timeline before between h silent = record {
   faults = ap (λ (s : SinkView). s.failures) silent;
 }
 
-command_steady : (wanted : Wanted) (before between : Devices) → Gives wanted before between (Ok tt) → between.faults ≡ before.faults → NoneFailed before between
-command_steady (wanted.Plan values) before between h silent = plan_steady values before between h silent
-command_steady (wanted.Timeline values) before between h silent = timeline_steady values before between h silent
+explanation_steady : (told : Told) (before between : Devices) → WritesExplanation told before between (Ok tt) → between.faults ≡ before.faults
+    → NoneFailed before between
+explanation_steady told before between h silent = record {
+  sources = ap (λ (s : SourcesView). s.failures) h.unasked;
+  input = ap (λ (s : SourceView). s.failures) h.unread;
+  output = h.writes.0.steady;
+  faults = ap (λ (s : SinkView). s.failures) silent;
+}
 
-ended_steady : (wanted : Wanted) (before between after : Devices) (result : Result (Unit {0}) Fault) (status : ℕ) → Gives wanted before between result
-    → between.faults ≡ before.faults → EndsWith result status between after → status ≡ 0 → NoneFailed before after
-ended_steady wanted before between after (Ok _) status gives silent ends done =
-    subst (λ (d : Devices). NoneFailed before d) (sym ends.1) (command_steady wanted before between gives silent)
-ended_steady wanted before between after (Err fault) status gives silent ends done = let failed = ends.0 in cc
+-- bytes that were given were given without a failure
+record IsSteady (before after : Devices) : Type 0 where
+  pub sources : after.sources.failures ≡ before.sources.failures
+  pub input : after.input.failures ≡ before.input.failures
 
-pub done_steady : (words : List (List ℕ)) (before after : Devices) (status : ℕ) → Runs words before after status → status ≡ 0 → NoneFailed before after
+given_steady : (file : Option (List ℕ)) (bytes : List ℕ) (before after : Devices) → IsGiven file bytes before after → IsSteady before after
+given_steady (Some path) bytes before after given = record { sources = given.0.gives.3; input = ap (λ (s : SourceView). s.failures) given.1 }
+given_steady None bytes before after (inl all, unasked) = record { sources = ap (λ (s : SourcesView). s.failures) unasked; input = all.steady }
+given_steady None bytes before after (inr most, unasked) = record { sources = ap (λ (s : SourcesView). s.failures) unasked; input = most.steady }
+
+text_steady : (makes : Makes) (file : Option (List ℕ)) (ended : Ended) (before between : Devices) → WritesText makes file ended before between (Ok tt)
+    → between.faults ≡ before.faults → NoneFailed before between
+text_steady makes file ended before between h silent =
+    let steady = given_steady file h.bytes before between h.given in
+    record { sources = steady.sources; input = steady.input; output = h.writes.0.steady; faults = ap (λ (s : SinkView). s.failures) silent }
+
+command_steady : (wanted : Wanted) (ended : Ended) (before between : Devices) → Gives wanted before between (Ok ended) → between.faults ≡ before.faults
+    → NoneFailed before between
+command_steady (wanted.Plan values) Done before between h silent = plan_steady values before between h silent
+command_steady (wanted.Plan values) NotAccepted before between h silent = absurd h
+command_steady (wanted.Timeline values) Done before between h silent = timeline_steady values before between h silent
+command_steady (wanted.Timeline values) NotAccepted before between h silent = absurd h
+command_steady (wanted.Run file) ended before between h silent = text_steady _ (path_in file) ended before between h silent
+command_steady (wanted.Check file) ended before between h silent = text_steady _ (path_in file) ended before between h silent
+command_steady (wanted.Explain explanation) Done before between h silent = explanation_steady (told_by explanation) before between h silent
+command_steady (wanted.Explain explanation) NotAccepted before between h silent = absurd h
+
+no_fault : (status : ℕ) → status ≡ 1 → (status ≡ 0) ⊎ (status ≡ 3) → ⊥
+no_fault status fault (inl done) = cc
+no_fault status fault (inr not_accepted) = cc
+
+not_wrong : (status : ℕ) → status ≡ 2 → (status ≡ 0) ⊎ (status ≡ 3) → ⊥
+not_wrong status wrong (inl done) = cc
+not_wrong status wrong (inr not_accepted) = cc
+
+ended_steady : (wanted : Wanted) (before between after : Devices) (result : Result Ended Fault) (status : ℕ) → Gives wanted before between result
+    → between.faults ≡ before.faults → EndsWith result status between after → (status ≡ 0) ⊎ (status ≡ 3) → NoneFailed before after
+ended_steady wanted before between after (Ok ended) status gives silent ends done =
+    subst (λ (d : Devices). NoneFailed before d) (sym ends.1) (command_steady wanted ended before between gives silent)
+ended_steady wanted before between after (Err fault) status gives silent ends done = absurd (no_fault status ends.0 done)
+
+pub done_steady : (words : List (List ℕ)) (before after : Devices) (status : ℕ) → Runs words before after status → (status ≡ 0) ⊎ (status ≡ 3)
+    → NoneFailed before after
 done_steady words before after status (inl runs) done =
     ended_steady runs.wanted before runs.between after runs.result status runs.gives runs.silent runs.ends done
-done_steady words before after status (inr (inl refuses)) done = let wrong = refuses.is_status in cc
-done_steady words before after status (inr (inr (inl refuses))) done = let wrong = refuses.is_status in cc
-done_steady words before after status (inr (inr (inr memory))) done = let failed = memory.0 in cc
+done_steady words before after status (inr (inl refuses)) done = absurd (not_wrong status refuses.is_status done)
+done_steady words before after status (inr (inr (inl refuses))) done = absurd (not_wrong status refuses.is_status done)
+done_steady words before after status (inr (inr (inr memory))) done = absurd (no_fault status memory.0 done)
 
 -- one call tells the text that it hands over
 pub told_by_call : (text bytes : List ℕ) (old new : SinkView) (answer : Result (Unit {0}) WriteFault) → bytes ≡ text → IsOneWrite bytes old answer new
@@ -69,7 +116,7 @@ pub tells_alone : (text : List ℕ) (sources : SourcesView) (input : SourceView)
 tells_alone text sources input output old new told = record { told = told; unasked = refl; unread = refl; unwritten = refl }
 
 -- the run of a command that words say
-pub command_run : (words : List (List ℕ)) (wanted said : Wanted) (before between after : Devices) (result : Result (Unit {0}) Fault) (status : ℕ)
+pub command_run : (words : List (List ℕ)) (wanted said : Wanted) (before between after : Devices) (result : Result Ended Fault) (status : ℕ)
     → Say words wanted → wanted ≡ said → Gives said before between result → between.faults ≡ before.faults → EndsWith result status between after
     → RunsCommand words before after status
 command_run words wanted said before between after result status says is gives silent ends = record {

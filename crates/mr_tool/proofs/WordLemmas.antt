@@ -1,19 +1,22 @@
 -- What a parse by `clap` says of the words.
-use Rattle.std.proofs.Common.{◌≡◌, ℕ, ◌<◌, ◌^◌, ◌&&◌, ◌∙◌, Bool, true, false, not, List, [], ◌∷◌, Option, Some, None, ap, refl, subst, sym, codes}
-use Rattle.std.specs.Prelude.{Box, option_map}
+use Rattle.std.proofs.Common.{◌≡◌, ℕ, ◌<◌, ◌^◌, ◌&&◌, ◌∙◌, Bool, true, false, not, List, [], ◌∷◌, Option, Some, None, ap, ap₂, refl, subst, sym, codes}
+use Rattle.std.specs.Prelude.{Box, IfNone, IfSome, option_map}
 use Rattle.std.specs.Box.{box_value}
 use Rattle.std.specs.Str.Parse.{IsNumeral, digits_value, without_leading_plus}
 use Rattle.clap.specs.Matches.{subcommand_name_of}
 use Rattle.clap.specs.Simple.{subcommand_rows}
-use Rattle.clap.specs.Words.{Row, Text, first_of, subcommand_rows_of}
+use Rattle.clap.specs.Words.{Row, Text, first_of, one_of, subcommand_rows_of}
 use Rattle.clap.specs.declared.parser.matches.ArgMatches.{ArgMatches}
 use Rattle.clap.specs.declared.parser.matches.ArgMatches.TheViews.{out-ArgMatches, out-SubCommand}
 use Rattle.clap.specs.declared.parser.matches.SubCommand.{SubCommand}
-use Rattle.mr_tool.specs.Words.{AgreesWith, AreNumberWords, AreReadings, FindsBadReadings, FindsCommand, Found, HasBadReadings, HasPlan, HasTimeline, IsNumberList, IsNumberWord, Say, SayBadReadings, readings_in}
+use Rattle.mr_tool.proofs.TableLemmas.{table_complete}
+use Rattle.mr_tool.specs.Explain.{Told, explanation_of, told_by}
+use Rattle.mr_tool.specs.declared.explain.Explanation.{Explanation}
+use Rattle.mr_tool.specs.Words.{AgreesWith, AreNumberWords, AreReadings, FindsBadReadings, FindsCommand, Found, HasBadReadings, HasExplanation, HasPlan, HasTimeline, IsNumberList, IsNumberWord, Say, SayBadReadings, readings_in}
 use Rattle.mr_tool.specs.declared.words.PlanValues.{PlanValues}
 use Rattle.mr_tool.specs.declared.words.TimelineValues.{TimelineValues}
 use Rattle.mr_tool.specs.declared.words.Wanted.{Wanted}
-use Rattle.mr_tool.specs.declared.words.Wanted.TheVariants.{Plan, Timeline}
+use Rattle.mr_tool.specs.declared.words.Wanted.TheVariants.{Plan, Timeline, Run, Check, Explain}
 
 row_of_subcommand : {Z : Type 0} (o : Option (Box SubCommand Z)) (name : List ℕ) (rows : List Row)
     → option_map (λ (b : Box SubCommand Z). (out-SubCommand (box_value b)).name.now) o ≡ Some name
@@ -81,11 +84,35 @@ same_readings (Some text) (Some r) (Some s) are also = ap (λ (numbers : List �
 other_name : {X : Type 0} (found : Option (Text × X)) (a b : Text) (r s : X) → found ≡ Some (a, r) → found ≡ Some (b, s) → a ≡ b
 other_name {X = X} found a b r s e f = ap (λ (p : Text × X). p.0) (same_inside (a, r) (b, s) found e f)
 
-is_no_timeline : codes "plan" ≡ codes "timeline" → ⊥
-is_no_timeline e = cc
+-- the name of a command
+abbrev name_of : Wanted → Text
+name_of (Plan values) = codes "plan"
+name_of (Timeline values) = codes "timeline"
+name_of (Run file) = codes "run"
+name_of (Check file) = codes "check"
+name_of (Explain explanation) = codes "explain"
+
+-- what was found of a command begins with its name
+found_named : (found : Found) (wanted : Wanted) → FindsCommand found wanted → (rows : List Row) × (found ≡ Some (name_of wanted, rows))
+found_named found (Plan values) h = (h.0, h.1)
+found_named found (Timeline values) h = (h.0, h.1)
+found_named found (Run file) h = (h.0, h.1)
+found_named found (Check file) h = (h.0, h.1)
+found_named found (Explain explanation) h = (h.0, h.1)
+
+one_name : (found : Found) (wanted : Wanted) (name : Text) (rows : List Row) → FindsCommand found wanted → found ≡ Some (name, rows) → name_of wanted ≡ name
+one_name found wanted name rows h is = let named = found_named found wanted h in other_name found _ _ _ _ named.1 is
 
 same_rows : (found : Found) (name : Text) (a b : List Row) → found ≡ Some (name, a) → found ≡ Some (name, b) → a ≡ b
 same_rows found name a b e f = ap (λ (p : Text × List Row). p.1) (same_inside (name, a) (name, b) found e f)
+
+-- one layer and one number name one refusal
+same_told : (rows : List Row) (told same : Told) → HasExplanation rows told → HasExplanation rows same → told ≡ same
+same_told rows told same is also =
+    let layer : told.layer ≡ same.layer = same_inside _ _ _ is.layer_is also.layer_is in
+    let word : is.number ≡ also.number = same_inside _ _ _ is.number_row also.number_row in
+    let number : told.number ≡ same.number = same_number _ _ _ _ word is.number_is also.number_is in
+    same_inside told same (explanation_of told.layer told.number) is.is_told (ap₂ explanation_of layer number ∙ also.is_told)
 
 -- what was found is one command
 one_found : (found : Found) (read wanted : Wanted) → FindsCommand found read → FindsCommand found wanted → AgreesWith wanted read
@@ -99,8 +126,14 @@ one_found found (Timeline read) (Timeline values) r p =
       same_inside _ _ _ r.2.config_is also.config_is,
       same_readings _ _ _ r.2.readings_are also.readings_are,
     )
-one_found found (Plan read) (Timeline values) r p = is_no_timeline (other_name found _ _ _ _ r.1 p.1)
-one_found found (Timeline read) (Plan values) r p = is_no_timeline (other_name found _ _ _ _ p.1 r.1)
+one_found found (Run read) (Run file) r p = sym r.2 ∙ (ap (first_of (codes "file")) (same_rows found _ r.0 p.0 r.1 p.1) ∙ p.2)
+one_found found (Check read) (Check file) r p = sym r.2 ∙ (ap (first_of (codes "file")) (same_rows found _ r.0 p.0 r.1 p.1) ∙ p.2)
+one_found found (Explain read) (Explain explanation) r p =
+    let also : HasExplanation r.0 (told_by explanation) =
+    subst (λ (rows : List Row). HasExplanation rows (told_by explanation)) (same_rows found _ p.0 r.0 p.1 r.1) p.2 in
+    same_told r.0 (told_by read) (told_by explanation) r.2 also
+one_found found read wanted r p =
+    let named = found_named found wanted p in let same : name_of read ≡ name_of wanted = one_name found read (name_of wanted) named.0 r named.1 in cc
 
 -- words say one command
 pub one_said : (words : List Text) (read wanted : Wanted) → Say words read → Say words wanted → AgreesWith wanted read
@@ -118,10 +151,11 @@ readings_not_bad : (rows : List Row) (readings : Option (List ℕ)) → AreReadi
 readings_not_bad rows readings are bad = some_readings _ readings bad.text bad.is bad.bad are
 
 pub said_not_bad : (words : List Text) (wanted : Wanted) → Say words wanted → ¬ SayBadReadings words
-said_not_bad words (Plan values) says bad = is_no_timeline (other_name _ _ _ _ _ says.finds.1 bad.finds.1)
 said_not_bad words (Timeline values) says bad =
     let also : HasBadReadings says.finds.0 = subst HasBadReadings (same_rows _ _ bad.finds.0 says.finds.0 bad.finds.1 says.finds.1) bad.finds.2 in
     readings_not_bad says.finds.0 (readings_in values) says.finds.2.readings_are also
+said_not_bad words wanted says bad =
+    let same : name_of wanted ≡ codes "timeline" = one_name _ wanted (codes "timeline") bad.finds.0 says.finds bad.finds.1 in cc
 
 -- the readings that were given, and those that weren't
 pub readings_given : (text : Option Text) (word : Text) (numbers : List ℕ) → Some word ≡ text → IsNumberList word numbers → AreReadings text (Some numbers)
@@ -139,15 +173,69 @@ plan_not_said : (found : Found) (rows : List Row) → found ≡ Some (codes "pla
     → (wanted : Wanted) → ¬ FindsCommand found wanted
 plan_not_said found rows is none (Plan values) finds =
     none values (subst (λ (r : List Row). HasPlan r values) (same_rows found _ finds.0 rows finds.1 is) finds.2)
-plan_not_said found rows is none (Timeline values) finds = is_no_timeline (other_name found _ _ _ _ is finds.1)
+plan_not_said found rows is none wanted finds = let same : name_of wanted ≡ codes "plan" = one_name found wanted (codes "plan") rows finds is in cc
+
+-- a command of another name than `timeline` has no readings
+no_readings_of : (found : Found) (name : Text) (rows : List Row) → found ≡ Some (name, rows) → ¬ (name ≡ codes "timeline") → ¬ FindsBadReadings found
+no_readings_of found name rows is other finds = other (other_name found _ _ _ _ is finds.1)
+
+plan_is_no_timeline : ¬ (codes "plan" ≡ codes "timeline")
+plan_is_no_timeline e = cc
+
+explain_is_no_timeline : ¬ (codes "explain" ≡ codes "timeline")
+explain_is_no_timeline e = cc
 
 -- a plan without its values
 pub plan_not_found : (m : ArgMatches) (rows : List Row) → subcommand_rows_of m ≡ Some (codes "plan", rows) → ((values : PlanValues) → ¬ HasPlan rows values)
     → FindsNothing (subcommand_rows_of m)
 plan_not_found m rows is none = record {
   no_command = plan_not_said (subcommand_rows_of m) rows is none;
-  no_readings = λ finds. is_no_timeline (other_name (subcommand_rows_of m) _ _ _ _ is finds.1);
+  no_readings = no_readings_of (subcommand_rows_of m) (codes "plan") rows is plan_is_no_timeline;
 }
+
+explanation_not_said : (found : Found) (rows : List Row) → found ≡ Some (codes "explain", rows)
+    → ((explanation : Explanation) → ¬ HasExplanation rows (told_by explanation)) → (wanted : Wanted) → ¬ FindsCommand found wanted
+explanation_not_said found rows is none (Explain explanation) finds =
+    none explanation (subst (λ (r : List Row). HasExplanation r (told_by explanation)) (same_rows found _ finds.0 rows finds.1 is) finds.2)
+explanation_not_said found rows is none wanted finds =
+    let same : name_of wanted ≡ codes "explain" = one_name found wanted (codes "explain") rows finds is in cc
+
+-- a fault that no layer has
+pub explanation_not_found : (m : ArgMatches) (rows : List Row) → subcommand_rows_of m ≡ Some (codes "explain", rows)
+    → ((explanation : Explanation) → ¬ HasExplanation rows (told_by explanation)) → FindsNothing (subcommand_rows_of m)
+explanation_not_found m rows is none = record {
+  no_command = explanation_not_said (subcommand_rows_of m) rows is none;
+  no_readings = no_readings_of (subcommand_rows_of m) (codes "explain") rows is explain_is_no_timeline;
+}
+
+-- the explanation that a layer and a number name, and that they name none
+pub explanation_read : (rows : List Row) (layer word : Text) (number : ℕ) (found : Option Explanation) → Some layer ≡ first_of (codes "layer") rows
+    → Some word ≡ one_of (codes "number") rows → IsNumberWord word number → option_map told_by found ≡ explanation_of layer number
+    → IfSome found (λ explanation. HasExplanation rows (told_by explanation))
+explanation_read rows layer word number None layer_is word_is number_is found = tt
+explanation_read rows layer word number (Some explanation) layer_is word_is number_is found =
+    let told = told_by explanation in
+    let own : (told.layer ≡ layer) × (told.number ≡ number) =
+    subst (λ (o : Option Told). IfSome o (λ t. (t.layer ≡ layer) × (t.number ≡ number))) (sym found) (table_complete.own layer number) in
+    record {
+      number = word;
+      layer_is = sym layer_is ∙ ap (λ (text : Text). Some text) (sym own.0);
+      number_row = sym word_is;
+      number_is = subst (λ (n : ℕ). IsNumberWord word n) (sym own.1) number_is;
+      is_told = ap₂ explanation_of own.0 own.1 ∙ sym found;
+    }
+
+pub no_explanation_read : (rows : List Row) (layer word : Text) (number : ℕ) (found : Option Explanation) → Some layer ≡ first_of (codes "layer") rows
+    → Some word ≡ one_of (codes "number") rows → IsNumberWord word number → option_map told_by found ≡ explanation_of layer number
+    → IfNone found ((explanation : Explanation) → ¬ HasExplanation rows (told_by explanation))
+no_explanation_read rows layer word number (Some explanation) layer_is word_is number_is found = tt
+no_explanation_read rows layer word number None layer_is word_is number_is found = λ explanation has.
+    let told = told_by explanation in
+    let same_layer : told.layer ≡ layer = same_inside _ _ _ has.layer_is (sym layer_is) in
+    let same_word : has.number ≡ word = same_inside _ _ _ has.number_row (sym word_is) in
+    let number_same : told.number ≡ number = same_number _ _ _ _ same_word has.number_is number_is in
+    let some : explanation_of layer number ≡ Some told = ap₂ explanation_of (sym same_layer) (sym number_same) ∙ has.is_told in
+    cc
 
 -- a timeline without the name of its file
 pub timeline_lacks_config : (rows : List Row) (readings : Option (List ℕ)) → AreReadings (first_of (codes "readings") rows) readings

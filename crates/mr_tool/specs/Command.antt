@@ -26,6 +26,14 @@ at_rule = option_rule (codes "at") (Some numbers) true
 abbrev pub readings_rule : Rule
 readings_rule = option_rule (codes "readings") None false
 
+-- a file, which may be left out; help gives it one name
+abbrev pub file_rule : Rule
+file_rule = record (new_rule (codes "file")) { value_names = 1; action = Some Set }
+
+-- a command of this name that is given a file, or else the input
+abbrev pub file_app : List ℕ → App
+file_app name = with_rule (new_app name) file_rule
+
 -- the command `plan`
 abbrev pub plan_app : App
 plan_app = with_rule (with_rule (new_app (codes "plan")) config_rule) at_rule
@@ -34,8 +42,28 @@ plan_app = with_rule (with_rule (new_app (codes "plan")) config_rule) at_rule
 abbrev pub timeline_app : App
 timeline_app = with_rule (with_rule (new_app (codes "timeline")) config_rule) readings_rule
 
+-- the command `run`
+abbrev pub run_app : App
+run_app = file_app (codes "run")
+
+-- the command `check`
+abbrev pub check_app : App
+check_app = file_app (codes "check")
+
+-- a word of its own, by its name, which has to be there
+abbrev pub word_rule : List ℕ → Option ValueParser → Rule
+word_rule name read_by = record (new_rule name) { action = Some Set; parser = read_by; required = true }
+
+-- the command `explain`
+abbrev pub explain_app : App
+explain_app = with_rule (with_rule (new_app (codes "explain")) (word_rule (codes "layer") None)) (word_rule (codes "number") (Some numbers))
+
 -- the program, whose words begin with the command, and which asks for one
 abbrev pub program_app : App
 program_app =
-    let whole = with_subcommand (with_subcommand (new_app (codes "migctl")) plan_app.top) timeline_app.top in
+    let with_plan = with_subcommand (new_app (codes "migctl")) plan_app.top in
+    let with_timeline = with_subcommand with_plan timeline_app.top in
+    let with_run = with_subcommand with_timeline run_app.top in
+    let with_check = with_subcommand with_run check_app.top in
+    let whole = with_subcommand with_check explain_app.top in
     record whole { top = record whole.top { no_binary_name = true; subcommand_required = true; arg_required_else_help = true } }

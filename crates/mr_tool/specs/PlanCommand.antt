@@ -9,6 +9,8 @@ use Rattle.mr_tool.specs.ConfigFile.{LoadsConfig}
 use Rattle.mr_tool.specs.Devices.{Devices}
 use Rattle.mr_tool.specs.FirstRequest.{ReadsRequest}
 use Rattle.mr_tool.specs.PlanText.{plan_text}
+use Rattle.mr_tool.specs.declared.ended.Ended.{Ended}
+use Rattle.mr_tool.specs.declared.ended.Ended.TheVariants.{Done, NotAccepted}
 use Rattle.mr_tool.specs.declared.fault.Fault.{Fault}
 use Rattle.mr_tool.specs.declared.fault.Fault.TheVariants.{Memory, Input, Output, File, Plan, Text}
 use Rattle.mr_tool.specs.declared.words.PlanValues.{PlanValues}
@@ -47,8 +49,9 @@ pub record LacksPlan (plan : PlanValues) (before after : Devices) : Type 0 where
 -- What the command does. It writes the plan of the first request, or finds the first of the faults in this order: the
 -- file, the configuration, the request, the output. The file is loaded once, nothing is read before its configuration
 -- is found good, and nothing is written but the plan.
-abbrev pub PlanGives : PlanValues → Devices → Devices → Result (Unit {0}) Fault → Type 0
-PlanGives plan before after (Ok _) = WritesPlan plan before after (Ok tt)
+abbrev pub PlanGives : PlanValues → Devices → Devices → Result Ended Fault → Type 0
+PlanGives plan before after (Ok Done) = WritesPlan plan before after (Ok tt)
+PlanGives plan before after (Ok NotAccepted) = ⊥
 PlanGives plan before after (Err Output) = (fault : WriteFault) × WritesPlan plan before after (Err fault)
 PlanGives plan before after (Err (File line)) = LacksConfig plan.config.now (File line) before after
 PlanGives plan before after (Err (Plan refusal)) = LacksConfig plan.config.now (Plan refusal) before after

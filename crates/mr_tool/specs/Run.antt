@@ -1,14 +1,23 @@
 -- What a run does with its words and its devices.
-use Rattle.std.specs.Prelude.{◌≡◌, ℕ, ◌⊎◌, List, Result, Ok, Err}
+use Rattle.std.specs.Prelude.{◌≡◌, ℕ, ◌+◌, ◌≤◌, ◌⊎◌, List, Option, Some, None, Result, Ok, Err}
+use Rattle.mr_tool.specs.CheckCommand.{CheckGives}
 use Rattle.mr_tool.specs.Devices.{Devices, Tells}
+use Rattle.mr_tool.specs.Explain.{told_by}
+use Rattle.mr_tool.specs.ExplainCommand.{ExplainGives}
 use Rattle.mr_tool.specs.Fault.{fault_line, readings_line}
+use Rattle.mr_tool.specs.FirstRequest.{most_reads}
+use Rattle.mr_tool.specs.Given.{path_in}
 use Rattle.mr_tool.specs.PlanCommand.{PlanGives}
+use Rattle.mr_tool.specs.RunCommand.{RunGives}
 use Rattle.mr_tool.specs.TimelineCommand.{TimelineGives}
+use Rattle.mr_tool.specs.WholeInput.{most_taken}
 use Rattle.mr_tool.specs.Words.{Say, SayBadReadings, SayNothing}
+use Rattle.mr_tool.specs.declared.ended.Ended.{Ended}
+use Rattle.mr_tool.specs.declared.ended.Ended.TheVariants.{Done, NotAccepted}
 use Rattle.mr_tool.specs.declared.fault.Fault.{Fault}
 use Rattle.mr_tool.specs.declared.fault.Fault.TheVariants.{Memory}
 use Rattle.mr_tool.specs.declared.words.Wanted.{Wanted}
-use Rattle.mr_tool.specs.declared.words.Wanted.TheVariants.{Plan, Timeline}
+use Rattle.mr_tool.specs.declared.words.Wanted.TheVariants.{Plan, Timeline, Run, Check, Explain}
 
 -- the status of a run that did what was wanted
 abbrev pub DONE : ℕ
@@ -22,14 +31,26 @@ FAULT = 1
 abbrev pub WRONG_WORDS : ℕ
 WRONG_WORDS = 2
 
+-- the status of a check that doesn't accept its transcript
+abbrev pub NOT_ACCEPTED : ℕ
+NOT_ACCEPTED = 3
+
+-- the status of a run whose command met no fault
+abbrev pub status_of : Ended → ℕ
+status_of Done = DONE
+status_of NotAccepted = NOT_ACCEPTED
+
 -- what each command does with the files, the input and the output
-abbrev pub Gives : Wanted → Devices → Devices → Result (Unit {0}) Fault → Type 0
+abbrev pub Gives : Wanted → Devices → Devices → Result Ended Fault → Type 0
 Gives (Plan values) before after result = PlanGives values before after result
 Gives (Timeline values) before after result = TimelineGives values before after result
+Gives (Run file) before after result = RunGives (path_in file) before after result
+Gives (Check file) before after result = CheckGives (path_in file) before after result
+Gives (Explain explanation) before after result = ExplainGives (told_by explanation) before after result
 
 -- how a run ends once its command did: the line of a fault is told, and nothing is done after
-abbrev pub EndsWith : Result (Unit {0}) Fault → ℕ → Devices → Devices → Type 0
-EndsWith (Ok _) status before after = (status ≡ DONE) × (after ≡ before)
+abbrev pub EndsWith : Result Ended Fault → ℕ → Devices → Devices → Type 0
+EndsWith (Ok ended) status before after = (status ≡ status_of ended) × (after ≡ before)
 EndsWith (Err fault) status before after = (status ≡ FAULT) × Tells (fault_line fault) before after
 
 -- the words say a command, and it was run; it has nothing of the device for faults
@@ -37,7 +58,7 @@ pub record RunsCommand (words : List (List ℕ)) (before after : Devices) (statu
   pub wanted : Wanted
   pub says : Say words wanted
   pub between : Devices
-  pub result : Result (Unit {0}) Fault
+  pub result : Result Ended Fault
   pub gives : Gives wanted before between result
   pub silent : between.faults ≡ before.faults
   pub ends : EndsWith result status between after
@@ -60,3 +81,20 @@ abbrev pub Runs : List (List ℕ) → Devices → Devices → ℕ → Type 0
 Runs words before after status =
     RunsCommand words before after status ⊎ RefusesWords words before after status ⊎ RefusesReadings words before after status
     ⊎ EndsWith (Err Memory) status before after
+
+-- the most reads of a command that is given a file, or else the input
+abbrev pub reads_without : Option (List ℕ) → ℕ
+reads_without (Some path) = 0
+reads_without None = most_taken
+
+-- the most reads of the input that a command makes
+abbrev pub most_reads_of : Wanted → ℕ
+most_reads_of (Plan values) = most_reads
+most_reads_of (Timeline values) = 0
+most_reads_of (Run file) = reads_without (path_in file)
+most_reads_of (Check file) = reads_without (path_in file)
+most_reads_of (Explain explanation) = 0
+
+-- the input is read no oftener than the command may that the words say
+abbrev pub ReadsFew : List (List ℕ) → Devices → Devices → Type 0
+ReadsFew words before after = (wanted : Wanted) → Say words wanted → after.input.reads ≤ before.input.reads + most_reads_of wanted

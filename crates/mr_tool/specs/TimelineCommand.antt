@@ -8,6 +8,8 @@ use Rattle.mr_tool.specs.Devices.{Devices}
 use Rattle.mr_tool.specs.PlanCommand.{LacksConfig}
 use Rattle.mr_tool.specs.TimelineText.{timeline_text}
 use Rattle.mr_tool.specs.Words.{readings_in}
+use Rattle.mr_tool.specs.declared.ended.Ended.{Ended}
+use Rattle.mr_tool.specs.declared.ended.Ended.TheVariants.{Done}
 use Rattle.mr_tool.specs.declared.fault.Fault.{Fault}
 use Rattle.mr_tool.specs.declared.fault.Fault.TheVariants.{Memory, Output, File, Plan}
 use Rattle.mr_tool.specs.declared.words.TimelineValues.{TimelineValues}
@@ -28,10 +30,10 @@ pub record LacksTimeline (timeline : TimelineValues) (before after : Devices) : 
 
 -- What the command does. It writes the timeline, or finds the first of the faults in this order: the file, the
 -- configuration, the output. The file is loaded once, nothing is read, and nothing is written but the timeline.
-abbrev pub TimelineGives : TimelineValues → Devices → Devices → Result (Unit {0}) Fault → Type 0
-TimelineGives timeline before after (Ok _) = WritesTimeline timeline before after (Ok tt)
+abbrev pub TimelineGives : TimelineValues → Devices → Devices → Result Ended Fault → Type 0
+TimelineGives timeline before after (Ok Done) = WritesTimeline timeline before after (Ok tt)
 TimelineGives timeline before after (Err Output) = (fault : WriteFault) × WritesTimeline timeline before after (Err fault)
 TimelineGives timeline before after (Err (File line)) = LacksConfig timeline.config.now (File line) before after
 TimelineGives timeline before after (Err (Plan refusal)) = LacksConfig timeline.config.now (Plan refusal) before after
 TimelineGives timeline before after (Err Memory) = LacksConfig timeline.config.now Memory before after ⊎ LacksTimeline timeline before after
-TimelineGives timeline before after (Err fault) = ⊥
+TimelineGives timeline before after _ = ⊥

@@ -4,10 +4,12 @@ use Rattle.std.specs.List.{slice_split}
 use Rattle.std.specs.Str.Parse.{IsNumeral, digits_value, without_leading_plus}
 use Rattle.clap.specs.Words.{Row, Text, fault_of, first_of, one_of, subcommand_of}
 use Rattle.mr_tool.specs.Command.{program_app}
+use Rattle.mr_tool.specs.Explain.{Told, told_by, explanation_of}
+use Rattle.mr_tool.specs.Given.{path_in}
 use Rattle.mr_tool.specs.declared.words.PlanValues.{PlanValues}
 use Rattle.mr_tool.specs.declared.words.TimelineValues.{TimelineValues}
 use Rattle.mr_tool.specs.declared.words.Wanted.{Wanted}
-use Rattle.mr_tool.specs.declared.words.Wanted.TheVariants.{Plan, Timeline}
+use Rattle.mr_tool.specs.declared.words.Wanted.TheVariants.{Plan, Timeline, Run, Check, Explain}
 use Rattle.mr_tool.specs.declared.words.WordsFault.{WordsFault}
 use Rattle.mr_tool.specs.declared.words.WordsFault.TheVariants.{Wrong, Readings, Memory}
 
@@ -59,6 +61,18 @@ pub record HasBadReadings (rows : List Row) : Type 0 where
   pub is : first_of (codes "readings") rows ≡ Some text
   pub bad : (numbers : List ℕ) → ¬ IsNumberList text numbers
 
+-- the rows that a parse found name this file, or none
+abbrev pub HasFile : List Row → Option Text → Type 0
+HasFile rows file = first_of (codes "file") rows ≡ file
+
+-- the rows that a parse found name a refusal that is told of
+pub record HasExplanation (rows : List Row) (told : Told) : Type 0 where
+  pub number : List ℕ
+  pub layer_is : first_of (codes "layer") rows ≡ Some told.layer
+  pub number_row : one_of (codes "number") rows ≡ Some number
+  pub number_is : IsNumberWord number told.number
+  pub is_told : explanation_of told.layer told.number ≡ Some told
+
 -- what a parse found: the name of a command, and its rows
 abbrev pub Found : Type 0
 Found = Option (Text × List Row)
@@ -71,6 +85,9 @@ Finds name holds found = (rows : List Row) × (found ≡ Some (name, rows)) × h
 abbrev pub FindsCommand : Found → Wanted → Type 0
 FindsCommand found (Plan values) = Finds (codes "plan") (λ rows. HasPlan rows values) found
 FindsCommand found (Timeline values) = Finds (codes "timeline") (λ rows. HasTimeline rows values) found
+FindsCommand found (Run file) = Finds (codes "run") (λ rows. HasFile rows (path_in file)) found
+FindsCommand found (Check file) = Finds (codes "check") (λ rows. HasFile rows (path_in file)) found
+FindsCommand found (Explain explanation) = Finds (codes "explain") (λ rows. HasExplanation rows (told_by explanation)) found
 
 -- a timeline was found whose readings are no list of numbers
 abbrev pub FindsBadReadings : Found → Type 0
@@ -120,16 +137,34 @@ SaysTimeline words config None = (words ≡ codes "timeline" ∷ codes "--config
 SaysTimeline words config (Some readings) =
     (words ≡ codes "timeline" ∷ codes "--config" ∷ config ∷ codes "--readings" ∷ readings ∷ []) × IsNoOption config × IsNoOption readings
 
+-- the words are the command's name and a file, which may be left out, and its name doesn't look like an option
+abbrev pub SaysFile : Text → List Text → Option Text → Type 0
+SaysFile name words None = words ≡ name ∷ []
+SaysFile name words (Some file) = (words ≡ name ∷ file ∷ []) × IsNoOption file
+
+-- the words are `explain`, and the layer and the number of a refusal that is told of
+pub record SaysExplain (words : List Text) (told : Told) : Type 0 where
+  pub number : Text
+  pub words_are : words ≡ codes "explain" ∷ told.layer ∷ number ∷ []
+  pub number_is : IsNumberWord number told.number
+  pub is_told : explanation_of told.layer told.number ≡ Some told
+
 -- the words plainly are this command
 abbrev pub SaysPlainly : List Text → Wanted → Type 0
 SaysPlainly words (Plan values) = SaysPlan words values
 SaysPlainly words (Timeline values) =
     (readings : Option Text) × SaysTimeline words values.config.now readings × AreReadings readings (readings_in values)
+SaysPlainly words (Run file) = SaysFile (codes "run") words (path_in file)
+SaysPlainly words (Check file) = SaysFile (codes "check") words (path_in file)
+SaysPlainly words (Explain explanation) = SaysExplain words (told_by explanation)
 
 -- both are the same command with the same values
 abbrev pub AgreesWith : Wanted → Wanted → Type 0
 AgreesWith (Plan values) (Plan read) = (read.config.now ≡ values.config.now) × (read.at ≡ values.at)
 AgreesWith (Timeline values) (Timeline read) = (read.config.now ≡ values.config.now) × (readings_in read ≡ readings_in values)
+AgreesWith (Run file) (Run read) = path_in read ≡ path_in file
+AgreesWith (Check file) (Check read) = path_in read ≡ path_in file
+AgreesWith (Explain explanation) (Explain read) = told_by read ≡ told_by explanation
 AgreesWith _ _ = ⊥
 
 -- this command was read, unless memory was refused

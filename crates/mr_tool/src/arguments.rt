@@ -1,11 +1,10 @@
 //! The program, from its arguments to its status.
-ghost use Rattle.std.specs.Prelude.{◌≡◌, ◌+◌, ◌≤◌, drop, map, string_bytes, IfOk, MatchResult};
+ghost use Rattle.std.specs.Prelude.{◌≡◌, drop, map, string_bytes, IfOk, MatchResult};
 ghost use Rattle.std.specs.IoError.{error_kind};
 ghost use Rattle.std.specs.Vec.Iter.{into_iter_items};
 ghost use Rattle.mr_tool.specs.Devices.{devices};
-ghost use Rattle.mr_tool.specs.FirstRequest.{most_reads};
 ghost use Rattle.mr_tool.specs.Program.{LacksArguments};
-ghost use Rattle.mr_tool.specs.Run.{Runs};
+ghost use Rattle.mr_tool.specs.Run.{ReadsFew, Runs};
 
 use crate::fault::Fault;
 use crate::run::{run_words, tell_fault, tell_not_text};
@@ -37,7 +36,9 @@ pub fn run_arguments<S: Sources, I: Source, O: Sink, F: Sink>(
         MatchResult arguments
         (λ given. Runs (map string_bytes (drop 1 (into_iter_items given))) before after result)
         (λ error. LacksArguments (error_kind error) before after result) }
-    ensures reads { (I.told input.new).reads ≤ (I.told input.old).reads + most_reads }
+    ensures reads { IfOk arguments (λ given. ReadsFew (map string_bytes (drop 1 (into_iter_items given)))
+        (devices (S.told sources.old) (I.told input.old) (O.told output.old) (F.told faults.old))
+        (devices (S.told sources.new) (I.told input.new) (O.told output.new) (F.told faults.new))) }
 {
     let given = match arguments {
         Ok(given) => given,

@@ -7,14 +7,14 @@ ghost use Rattle.mr_tool.specs.PlanText.{phase_line, leg_line};
 ghost use Rattle.mr_tool.specs.TimelineText.{span_line, old_only_line, new_only_line, reading_line, near_text, spread_line};
 
 use itoa::Buffer;
-use mr_phases::PhaseName;
 use mr_config::{Advice, Span};
+use mr_phases::PhaseName;
 use mr_pools::Routing;
 use mr_proxy::LegSheet;
 use std::alloc::AllocError;
 
 /// Adds a number in decimal digits.
-fn push_number(text: &mut Vec<u8>, number: u64) -> Result<(), AllocError>
+pub fn push_number(text: &mut Vec<u8>, number: u64) -> Result<(), AllocError>
     ensures { OnOk result (text.new.items ≡ text.old.items ++ decimal number) }
 {
     let mut buffer = Buffer::new();

@@ -2,20 +2,29 @@
 #![tactic(auto)]
 
 mod arguments;
+mod check_text;
 mod commands;
 mod config_file;
+mod ended;
+mod explain;
+mod explanations;
 mod fault;
 mod first_request;
+mod given;
+mod help;
 mod host_files;
 mod line;
+mod loading;
 mod plan;
 mod printing;
 mod readings;
 mod run;
+mod script_text;
 mod sources;
 #[cfg(test)]
 mod tests;
 mod timeline;
+mod whole_input;
 mod words;
 
 use arguments::run_arguments;

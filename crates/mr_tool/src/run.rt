@@ -1,14 +1,14 @@
 //! A run, from its words to the status of the program.
-ghost use Rattle.std.specs.Prelude.{◌≡◌, ◌+◌, ◌≤◌, ◌⊎◌, ℕ, List, map};
+ghost use Rattle.std.specs.Prelude.{◌≡◌, ◌⊎◌, ℕ, List, map};
 ghost use Rattle.mr_text.specs.Sink.{SinkView};
 ghost use Rattle.mr_text.specs.Source.{SourceView};
 ghost use Rattle.mr_tool.specs.Devices.{devices, IsTold, NoneFailed};
 ghost use Rattle.mr_tool.specs.Fault.{fault_line, not_text_line, readings_line};
-ghost use Rattle.mr_tool.specs.FirstRequest.{most_reads};
-ghost use Rattle.mr_tool.specs.Run.{EndsWith, Runs};
+ghost use Rattle.mr_tool.specs.Run.{EndsWith, ReadsFew, Runs};
 ghost use Rattle.mr_tool.specs.Sources.{SourcesView};
 
-use crate::commands::{run_plan, run_timeline};
+use crate::commands::{run_check, run_explain, run_plan, run_script, run_timeline};
+use crate::ended::Ended;
 use crate::fault::Fault;
 use crate::sources::Sources;
 use crate::words::{Wanted, WordsFault, read_words};
@@ -23,6 +23,9 @@ pub const FAULT: u8 = 1;
 
 /// The status for wrong words or a call for help.
 pub const WRONG_WORDS: u8 = 2;
+
+/// The status of a check that doesn't accept its transcript.
+pub const NOT_ACCEPTED: u8 = 3;
 
 /// Tells a fault, which is all that is done of it.
 pub fn tell_fault<F: Sink>(fault: &Fault, faults: &mut F) -> u8
@@ -64,19 +67,21 @@ fn tell_wrong_words<F: Sink>(alloc: Global, error: &clap::Error, faults: &mut F)
 }
 
 /// The status of a command that ended so. Its fault is told.
-fn finish<F: Sink>(gave: Result<(), Fault>, faults: &mut F) -> u8
+fn finish<F: Sink>(gave: Result<Ended, Fault>, faults: &mut F) -> u8
     ensures { (sources : SourcesView) (input : SourceView) (output : SinkView)
         → EndsWith gave result (devices sources input output (F.told faults.old)) (devices sources input output (F.told faults.new)) }
 {
     match gave {
-        Ok(()) => DONE,
+        Ok(Ended::Done) => DONE,
+        Ok(Ended::NotAccepted) => NOT_ACCEPTED,
         Err(fault) => tell_fault(&fault, faults),
     }
 }
 
 /// Runs the command that the words ask for, of which the first names it, and gives the program's status. Files come
 /// from `sources`; what the command is to print goes to `output`, and a fault to `faults`. Faults are looked for in this
-/// order: the words, the file, the configuration, the request.
+/// order: the words; then for a plan the file, the configuration, the request; for a timeline the file, the configuration;
+/// for a run or a check the file, or the input where none is named, and then the script or the transcript; last the output.
 pub fn run_words<S: Sources, I: Source, O: Sink, F: Sink>(
     alloc: Global,
     words: &[&str],
@@ -88,10 +93,12 @@ pub fn run_words<S: Sources, I: Source, O: Sink, F: Sink>(
     ensures runs { Runs (map (λ word. word.now) words.now)
         (devices (S.told sources.old) (I.told input.old) (O.told output.old) (F.told faults.old))
         (devices (S.told sources.new) (I.told input.new) (O.told output.new) (F.told faults.new)) result }
-    ensures reads { (I.told input.new).reads ≤ (I.told input.old).reads + most_reads }
+    ensures reads { ReadsFew (map (λ word. word.now) words.now)
+        (devices (S.told sources.old) (I.told input.old) (O.told output.old) (F.told faults.old))
+        (devices (S.told sources.new) (I.told input.new) (O.told output.new) (F.told faults.new)) }
 
-    // What was wanted was done only where no device failed.
-    ensures done { result ≡ DONE → NoneFailed
+    // What was wanted was done only where no device failed, and so was a check that doesn't accept.
+    ensures done { (result ≡ DONE) ⊎ (result ≡ NOT_ACCEPTED) → NoneFailed
         (devices (S.told sources.old) (I.told input.old) (O.told output.old) (F.told faults.old))
         (devices (S.told sources.new) (I.told input.new) (O.told output.new) (F.told faults.new)) }
 {
@@ -101,6 +108,11 @@ pub fn run_words<S: Sources, I: Source, O: Sink, F: Sink>(
         }
         Ok(Wanted::Timeline(values)) => {
             finish(run_timeline(alloc, &values, sources, output), faults)
+        }
+        Ok(Wanted::Run(file)) => finish(run_script(alloc, file, sources, input, output), faults),
+        Ok(Wanted::Check(file)) => finish(run_check(alloc, file, sources, input, output), faults),
+        Ok(Wanted::Explain(explanation)) => {
+            finish(run_explain(alloc, &explanation, output), faults)
         }
         Err(WordsFault::Wrong(error)) => tell_wrong_words(alloc, &error, faults),
         Err(WordsFault::Readings) => tell_bad_readings(faults),

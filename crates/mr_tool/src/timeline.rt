@@ -8,8 +8,8 @@ use crate::line::{
     push_new_only_line, push_old_only_line, push_reading_line, push_span_line, push_spread_line,
 };
 use crate::printing::{PrintFault, write_at_once};
-use mr_phases::PhaseName;
 use mr_config::{Config, PhaseTimes, advise, timeline};
+use mr_phases::PhaseName;
 use mr_text::Sink;
 use std::alloc::{AllocError, Global};
 

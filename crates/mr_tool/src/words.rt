@@ -1,10 +1,13 @@
 //! The words of the command line.
 ghost use Rattle.std.specs.Prelude.{◌≡◌, None, false, map, IfOk, IfSome, IfNone, option_map};
 ghost use Rattle.clap.specs.Words.{app_of, found_of, rows_of, rule_of, subcommand_rows_of};
-ghost use Rattle.mr_tool.specs.Command.{option_rule, config_rule, plan_app, timeline_app, program_app};
-ghost use Rattle.mr_tool.specs.Words.{HasPlan, ReadsWords, SaysPlainly, ReadsAs};
+ghost use Rattle.mr_tool.specs.Command.{option_rule, config_rule, file_rule, file_app, word_rule, plan_app, timeline_app, explain_app, program_app};
+ghost use Rattle.mr_tool.specs.Explain.{told_by};
+ghost use Rattle.mr_tool.specs.Words.{HasPlan, HasExplanation, ReadsWords, SaysPlainly, ReadsAs};
 ghost use Rattle.mr_tool.specs.WordSteps.{IsFaultOf, GivesReadings, GivesTimeline, GivesCommand};
 
+use crate::explain::{Explanation, find_explanation};
+use crate::help::{CHECK_NOTES, EXPLAIN_NOTES, PLAN_NOTES, RUN_NOTES, TIMELINE_NOTES};
 use crate::readings::numbers_in;
 use clap::error::ErrorKind;
 use clap::{Arg, ArgAction, ArgMatches, Command, Error, value_parser};
@@ -49,6 +52,12 @@ pub enum Wanted<'a> {
     Plan(PlanValues<'a>),
     /// When each phase is.
     Timeline(TimelineValues<'a>),
+    /// The transcript of the script in a file, or of the one on the input.
+    Run(Option<&'a str>),
+    /// What is found of the transcript in a file, or of the one on the input.
+    Check(Option<&'a str>),
+    /// What a fault means.
+    Explain(Explanation<'static>),
 }
 
 /// Why the words give no command.
@@ -84,6 +93,12 @@ impl From<Error> for WordsFault {
     }
 }
 
+/// What help says of the command `run`.
+const RUN_ABOUT: &str = "Plays a script and prints its transcript";
+
+/// What help says of the command `check`.
+const CHECK_ABOUT: &str = "Plays a transcript again and prints what is found of it";
+
 /// An option with a value, by its name, and what help calls its value.
 fn option<'a>(alloc: Global, name: &'a str, value: &'a str, help: &'a str) -> Arg<'a>
     ensures rule { rule_of result ≡ option_rule name.entry.now None false }
@@ -117,6 +132,7 @@ fn plan_command<'a>(alloc: Global) -> Result<Command<'a>, AllocError>
     );
     Command::new(alloc, "plan")
         .about("Prints where the request on the standard input goes")
+        .after_help(PLAN_NOTES)
         .arg(config_option(alloc))?
         .arg(at.required(true).value_parser(value_parser!(u64)))
 }
@@ -133,8 +149,53 @@ fn timeline_command<'a>(alloc: Global) -> Result<Command<'a>, AllocError>
     );
     Command::new(alloc, "timeline")
         .about("Prints when each phase of the migration is")
+        .after_help(TIMELINE_NOTES)
         .arg(config_option(alloc))?
         .arg(readings)
+}
+
+/// A command that is given a file by its path, or else the input.
+fn file_command<'a>(
+    alloc: Global,
+    name: &'a str,
+    holds: &'a str,
+    about: &'a str,
+    notes: &'a str,
+) -> Result<Command<'a>, AllocError>
+    ensures { IfOk result (λ command. app_of command ≡ file_app name.entry.now) }
+{
+    let file = Arg::new(alloc, "file")
+        .value_name(holds)
+        .action(ArgAction::Set)
+        .help("The file that holds it; without one it is on the standard input");
+    Command::new(alloc, name)
+        .about(about)
+        .after_help(notes)
+        .arg(file)
+}
+
+/// A word of its own, by its name.
+fn word<'a>(alloc: Global, name: &'a str, help: &'a str) -> Arg<'a>
+    ensures rule { rule_of result ≡ word_rule name.entry.now None }
+    ensures local { result.global ≡ false }
+{
+    Arg::new(alloc, name)
+        .required(true)
+        .action(ArgAction::Set)
+        .help(help)
+}
+
+/// The command `explain`.
+fn explain_command<'a>(alloc: Global) -> Result<Command<'a>, AllocError>
+    ensures { IfOk result (λ command. app_of command ≡ explain_app) }
+{
+    let layer = word(alloc, "layer", "The layer that the fault's line names");
+    let number = word(alloc, "number", "The number behind it");
+    Command::new(alloc, "explain")
+        .about("Prints what a fault means, and what to look at first")
+        .after_help(EXPLAIN_NOTES)
+        .arg(layer)?
+        .arg(number.value_parser(value_parser!(u64)))
 }
 
 /// The program with its commands. Its words begin with the command.
@@ -143,11 +204,17 @@ fn program<'a>(alloc: Global) -> Result<Command<'a>, AllocError>
 {
     let plan = plan_command(alloc)?;
     let timeline = timeline_command(alloc)?;
+    let run = file_command(alloc, "run", "script", RUN_ABOUT, RUN_NOTES)?;
+    let check = file_command(alloc, "check", "transcript", CHECK_ABOUT, CHECK_NOTES)?;
+    let explain = explain_command(alloc)?;
     let program = Command::new(alloc, "migctl")
         .bin_name("migctl")?
         .about("Plans the migration of a memcached pool")
         .subcommand(plan)?
-        .subcommand(timeline)?;
+        .subcommand(timeline)?
+        .subcommand(run)?
+        .subcommand(check)?
+        .subcommand(explain)?;
     Ok(
         program
             .no_binary_name(true)
@@ -194,6 +261,14 @@ fn timeline_values<'a>(
     }
 }
 
+/// The explanation that the values of the command `explain` name, where there is one.
+fn explanation_in(matches: &ArgMatches) -> Option<Explanation<'static>>
+    ensures found { IfSome result (λ explanation. HasExplanation (rows_of (found_of matches.now)) (told_by explanation)) }
+    ensures missing { IfNone result ((explanation : Explanation) → ¬ HasExplanation (rows_of (found_of matches.now)) (told_by explanation)) }
+{
+    find_explanation(matches.get_str("layer")?, matches.get_one("number")?)
+}
+
 /// The command that was found, where it has its values.
 fn wanted_of<'a>(alloc: Global, matches: &ArgMatches<'a>) -> Result<Option<Wanted<'a>>, WordsFault>
     ensures { GivesCommand (subcommand_rows_of matches.now) result }
@@ -210,6 +285,18 @@ fn wanted_of<'a>(alloc: Global, matches: &ArgMatches<'a>) -> Result<Option<Wante
             None => Ok(None),
         };
     }
+    if let Some(found) = matches.subcommand_matches("run") {
+        return Ok(Some(Wanted::Run(found.get_str("file"))));
+    }
+    if let Some(found) = matches.subcommand_matches("check") {
+        return Ok(Some(Wanted::Check(found.get_str("file"))));
+    }
+    if let Some(found) = matches.subcommand_matches("explain") {
+        return match explanation_in(found) {
+            Some(explanation) => Ok(Some(Wanted::Explain(explanation))),
+            None => Ok(None),
+        };
+    }
     Ok(None)
 }
 
@@ -223,8 +310,12 @@ pub fn read_words<'a>(alloc: Global, words: &'a [&'a str]) -> Result<Wanted<'a>,
     let matches = program.try_get_matches_from_mut(words)?;
     match wanted_of(alloc, &matches)? {
         Some(wanted) => Ok(wanted),
+        // The command line asks for a command and its values, so what is missing is the fault that `explain` names.
         None => {
-            let error = program.error(ErrorKind::MissingSubcommand, "no command was given")?;
+            let error = program.error(
+                ErrorKind::InvalidValue,
+                "no layer has a fault of this number: 'migctl explain --help' names the layers",
+            )?;
             Err(WordsFault::Wrong(error))
         }
     }

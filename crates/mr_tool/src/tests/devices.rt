@@ -1,5 +1,6 @@
 //! What is left where a device fails.
 use super::files_at::FilesAt;
+use super::plays::{ACCEPTED, SCRIPT, TRANSCRIPT};
 use super::{PLACES, byte_by_byte, expect_run, plan_words, run_over};
 use crate::run::run_words;
 use mr_text::{FailsAt, OverReader, OverWriter};
@@ -186,6 +187,32 @@ fn each_write_of_a_timeline_fails(rt: HostRuntime) {
         (b"", 0),
         (half, 2),
     );
+}
+
+/// Asserts that a command whose output takes half of its text and fails then calls it no more.
+fn expect_half(rt: &impl Abort, alloc: Global, command: &str, input: &[u8], text: &[u8]) {
+    let mut written = OverWriter::new(TakesHalf::new(alloc, 1));
+    let mut told = OverWriter::new(TakesHalf::new(alloc, 2));
+    let mut input = OverReader::new(input);
+    let status = run_words(
+        alloc,
+        &[command],
+        &mut FilesAt::new(&[]),
+        &mut input,
+        &mut written,
+        &mut told,
+    );
+    assert_eq!(rt; status, 1);
+    expect_device(rt, &written.into_inner(), &text[..text.len() / 2], 2);
+    expect_device(rt, &told.into_inner(), b"migctl: output\n", 1);
+}
+
+#[test]
+fn each_write_of_a_play_fails(rt: HostRuntime) {
+    // The line end of the transcript is in the other half.
+    let transcript = TRANSCRIPT.as_bytes();
+    expect_half(&rt, rt.alloc(), "run", SCRIPT.as_bytes(), transcript);
+    expect_half(&rt, rt.alloc(), "check", transcript, ACCEPTED);
 }
 
 #[test]

@@ -5,7 +5,7 @@ use mr_text::OverReader;
 
 #[test]
 fn words_are_refused_with_status_2(rt: HostRuntime) {
-    let cases: [&[&str]; 19] = [
+    let cases: [&[&str]; 22] = [
         &[],
         &["--help"],
         &["help"],
@@ -31,6 +31,9 @@ fn words_are_refused_with_status_2(rt: HostRuntime) {
         &["timeline", "--readings", "9"],
         &["timeline", "--config", "fleet.json", "--at", "9"],
         &["timeline", "--config", "fleet.json", "--readings", "-1"],
+        &["run", "a", "b"],
+        &["check", "--at", "9"],
+        &["check", "--help"],
     ];
     for words in cases {
         let ran = run(rt.alloc(), words, b"delete k\n");
@@ -42,7 +45,7 @@ fn words_are_refused_with_status_2(rt: HostRuntime) {
 
 #[test]
 fn wrong_words_and_help_have_texts(rt: HostRuntime) {
-    let cases: [(&[&str], &[u8]); 4] = [
+    let cases: [(&[&str], &[u8]); 5] = [
         (
             &["plan", "--config", "fleet.json", "--at", "x"],
             b"error: invalid value 'x' for '--at <seconds>': invalid digit found in string\n\n\
@@ -60,7 +63,15 @@ fn wrong_words_and_help_have_texts(rt: HostRuntime) {
             Options:\n\
             \x20     --config <file>  The file of the configuration\n\
             \x20     --at <seconds>   When the request arrives, in seconds since the epoch\n\
-            \x20 -h, --help           Print help\n",
+            \x20 -h, --help           Print help\n\
+            \n\
+            Seconds are whole seconds since the epoch, 1970-01-01 00:00:00 UTC.\n\
+            The standard input holds one request in memcached's text protocol. What follows it is ignored.\n\
+            \n\
+            Status: 0 done, 1 a fault, 2 wrong words or help. A fault is one line on the standard error.\n\
+            \n\
+            Example:\n\
+            \x20 printf 'delete k\\r\\n' | migctl plan --config fleet.json --at 1000\n",
         ),
         (
             &["timeline", "--help"],
@@ -69,7 +80,33 @@ fn wrong_words_and_help_have_texts(rt: HostRuntime) {
             Options:\n\
             \x20     --config <file>    The file of the configuration\n\
             \x20     --readings <list>  What clocks read, in seconds since the epoch, with commas between them\n\
-            \x20 -h, --help             Print help\n",
+            \x20 -h, --help             Print help\n\
+            \n\
+            Seconds are whole seconds since the epoch, 1970-01-01 00:00:00 UTC.\n\
+            The standard input isn't read.\n\
+            \n\
+            Status: 0 done, 1 a fault, 2 wrong words or help. A fault is one line on the standard error.\n\
+            \n\
+            Example:\n\
+            \x20 migctl timeline --config fleet.json --readings 999,1100\n",
+        ),
+        (
+            &["explain", "--help"],
+            b"Prints what a fault means, and what to look at first\n\n\
+            Usage: migctl explain <layer> <number>\n\n\
+            Arguments:\n\
+            \x20 <layer>   The layer that the fault's line names\n\
+            \x20 <number>  The number behind it\n\n\
+            Options:\n\
+            \x20 -h, --help  Print help\n\
+            \n\
+            The line of a fault is 'migctl: <layer> <number> <name>'. The layers are text, pools, clock,\n\
+            phases, node, proxy, world and plan. Neither word is a time. The standard input isn't read.\n\
+            \n\
+            Status: 0 done, 1 a fault, 2 wrong words or help. A fault is one line on the standard error.\n\
+            \n\
+            Example:\n\
+            \x20 migctl explain plan 5\n",
         ),
     ];
     for (words, text) in cases {

@@ -2,6 +2,8 @@ use Rattle.std.proofs.Common.{◌≡◌, drop, map, string_bytes, refl}
 use Rattle.std.proofs.lemmas.Iterator.{items_from_collect}
 use Rattle.std.proofs.lemmas.Iterator.Adapters.{YieldsList-from_vec}
 use Rattle.std.specs.Vec.Iter.{into_iter_items}
+use Rattle.mr_tool.proofs.FewReads.{same_words_few}
+use Rattle.mr_tool.specs.Devices.{devices}
 use Rattle.mr_tool.proofs.RunLemmas.{memory_run, same_words_run}
 use Rattle.mr_tool.proofs.arguments.run_arguments.Goals as goal
 
@@ -22,3 +24,14 @@ returns-clause-runs g c =
     let same : map (λ word. word.now) c.as_slice-2.result.now ≡ map string_bytes (drop 1 (into_iter_items c.in-Ok.given)) =
     rw (c.as_slice-2.ensures.value, c.in-Ok-words_of.ensures, c.as_slice.ensures.value, collected) refl in
     rw c.in-Ok.is (same_words_run _ _ _ _ _ same c.run_words.ensures.runs)
+
+pub returns-clause-reads : goal.returns-clause-reads
+returns-clause-reads g c =
+    let collected : c.in-Ok-collect.arguments.items ≡ into_iter_items c.in-Ok.given =
+    (rw c.in-Ok-collect.is at (items_from_collect c.collect.result c.collect.ensures.ran (YieldsList-from_vec (into_iter_items c.in-Ok.given) refl c.in-Ok.given.rest.ok.0))) in
+    let same : map (λ word. word.now) c.as_slice-2.result.now ≡ map string_bytes (drop 1 (into_iter_items c.in-Ok.given)) =
+    rw (c.as_slice-2.ensures.value, c.in-Ok-words_of.ensures, c.as_slice.ensures.value, collected) refl in
+    let before = devices (g.S.Sources.told c.args.sources.now) (g.I.Source.told c.args.input.now) (g.O.Sink.told c.args.output.now) (g.F.Sink.told c.args.faults.now) in
+    let after = devices (g.S.Sources.told c.run_words.new.sources) (g.I.Source.told c.run_words.new.input) (g.O.Sink.told c.run_words.new.output)
+    (g.F.Sink.told c.run_words.new.faults) in
+    rw c.in-Ok.is (same_words_few _ _ before after same c.run_words.ensures.reads)

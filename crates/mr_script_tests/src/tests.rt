@@ -1,0 +1,31 @@
+//! Why texts are no scripts, and which of two reasons is told. Most texts are one script with some parts changed.
+use mr_config::PlanError;
+use mr_script_test_parts::{Change, SCRIPT, refusal};
+use std::alloc::{AllocError, Global};
+use std::process::Abort;
+
+mod events;
+mod order;
+mod refusals;
+
+/// The text with another part in the place of one that has to stand in it.
+fn changed(
+    rt: &impl Abort,
+    alloc: Global,
+    text: &str,
+    part: &str,
+    new: &str,
+) -> Result<String, AllocError> {
+    assert!(rt; text.contains(part), "no {part}");
+    text.replacen(alloc, part, new, 1)
+}
+
+/// Why the script with one part changed is none.
+fn refusal_with(
+    rt: &impl Abort,
+    alloc: Global,
+    part: &str,
+    new: &str,
+) -> Result<Option<PlanError>, AllocError> {
+    Ok(refusal(alloc, changed(rt, alloc, SCRIPT, part, new)?.as_str()))
+}

@@ -1,0 +1,10 @@
+//! How a command ends that meets no fault.
+
+/// What a command came to that met no fault.
+#[derive(Clone, Copy, Debug, PartialEq, Eq)]
+pub enum Ended {
+    /// What was wanted was done.
+    Done,
+    /// A transcript was checked, and it isn't accepted.
+    NotAccepted,
+}
