@@ -1,5 +1,5 @@
 -- What a proxy without a book keeps, from step to step.
-use Rattle.std.proofs.Common.{◌≡◌, ◌≢◌, ℕ, ◌+◌, ◌-◌, ◌^◌, ◌==◌, ◌||◌, nat_le, length, Bool, true, false, if◌then◌else◌, ◌++◌, ◌∷◌, [], map, All, Option, Some, None, refl, sym, ap, subst, ◌∙◌}
+use Rattle.std.proofs.Common.{◌≡◌, ◌≢◌, ℕ, ◌+◌, ◌-◌, ◌^◌, ◌==◌, ◌||◌, nat_le, length, Bool, true, false, if◌then◌else◌, Option, Some, None, refl, sym, ap, ◌∙◌}
 use Rattle.std.proofs.lemmas.List.Elements.{All-push}
 use Rattle.mr_text.specs.declared.request.Request.{Request}
 use Rattle.mr_history.specs.declared.op_id.OpId.{OpId}
@@ -9,8 +9,8 @@ use Rattle.mr_proxy.specs.declared.sheet.LegId.{LegId}
 use Rattle.mr_proxy.specs.Issue.{sheets_of, pending_of, after_issue}
 use Rattle.mr_proxy.specs.Pending.{PendingView, is_complete}
 use Rattle.mr_proxy.specs.ProxyView.{ProxyView}
-use Rattle.mr_proxy.specs.Transitions.{place_of_op, pending_with, open_sheet, noted_by, settled, after_take, left_by, after_give_up}
-use Rattle.mr_workers.specs.Recorded.{Gave, PendingStands, CoreStands}
+use Rattle.mr_proxy.specs.Transitions.{place_of_op, pending_with, open_sheet, noted_by, settled, after_take, after_give_up}
+use Rattle.mr_workers.specs.Recorded.{Gave, PendingStands}
 use Rattle.mr_workers.specs.Issuing.{IsDeskRefusal}
 use Rattle.mr_workers.specs.Shared.{IsHeld, why_turned_down}
 use Rattle.mr_workers.specs.declared.desk_error.DeskError.{DeskError}

@@ -1,3 +1,4 @@
 pub mod ClosingLemmas
+pub mod DirectLemmas
 pub mod HeldLemmas
 pub mod KeptLemmas

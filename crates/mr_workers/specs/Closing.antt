@@ -4,7 +4,7 @@ use Rattle.mr_history.specs.declared.op_id.OpId.{OpId}
 use Rattle.mr_proxy.specs.Answer.{AnswerView}
 use Rattle.mr_proxy.specs.Pending.{is_same_op}
 use Rattle.mr_proxy.specs.ProxyView.{ProxyView, opening_of, AreAlike}
-use Rattle.mr_workers.specs.Replay.{is_issue, answers_of}
+use Rattle.mr_workers.specs.Replay.{answers_of}
 use Rattle.mr_workers.specs.declared.closed.Closed.{Closed}
 use Rattle.mr_workers.specs.declared.closed.Closed.TheVariants.{Whole, Differs}
 use Rattle.mr_workers.specs.declared.step.Step.{Step}

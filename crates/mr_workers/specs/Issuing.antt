@@ -8,7 +8,6 @@ use Rattle.mr_proxy.specs.declared.sheet.LegSheet.{LegSheet}
 use Rattle.mr_workers.specs.Recorded.{Recorded}
 use Rattle.mr_workers.specs.declared.desk_error.DeskError.{DeskError}
 use Rattle.mr_workers.specs.declared.desk_error.DeskError.TheVariants.{ClockFault, NumbersSpent, NoRoom, BookFull, OutOfMemory}
-use Rattle.mr_workers.specs.declared.step.Step.{Step}
 use Rattle.mr_workers.specs.declared.step.Step.TheVariants.{Issue}
 
 -- the most steps that the book may need once a request of so many legs is issued: one for each leg that may answer yet

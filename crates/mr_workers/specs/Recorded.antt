@@ -1,5 +1,5 @@
 -- A proxy with the book of its steps.
-use Rattle.std.specs.Prelude.{◌≡◌, ◌≢◌, ℕ, ◌+◌, ◌≤◌, List, [], ◌∷◌, ◌++◌, length, count_by, All, Option, Some, None, nat_le, if◌then◌else◌, ⊤}
+use Rattle.std.specs.Prelude.{◌≡◌, ℕ, ◌+◌, ◌≤◌, List, length, count_by, All, Option, Some, None}
 use Rattle.mr_join.specs.declared.leg_reply.LegReply.{LegReply}
 use Rattle.mr_proxy.specs.Answer.{AnswerView}
 use Rattle.mr_proxy.specs.Pending.{PendingView}

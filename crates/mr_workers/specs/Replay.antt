@@ -1,5 +1,5 @@
 -- What the steps of a book make of a proxy.
-use Rattle.std.specs.Prelude.{◌≡◌, ◌≢◌, ℕ, List, [], ◌∷◌, ◌++◌, fold, Bool, true, false, Option, Some, None}
+use Rattle.std.specs.Prelude.{◌≡◌, ◌≢◌, List, [], ◌∷◌, fold, Bool, true, false, Option, Some, None}
 use Rattle.mr_text.specs.declared.request.Request.TheVariants.{Quit}
 use Rattle.mr_proxy.specs.Answer.{AnswerView}
 use Rattle.mr_proxy.specs.Issue.{refusal_of, after_issue}

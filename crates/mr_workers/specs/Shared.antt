@@ -1,5 +1,5 @@
 -- A proxy without a book.
-use Rattle.std.specs.Prelude.{◌≡◌, ℕ, ◌+◌, ◌-◌, ◌^◌, ◌==◌, ◌||◌, nat_le, length, Option, Some, None, if◌then◌else◌}
+use Rattle.std.specs.Prelude.{◌≡◌, ℕ, ◌-◌, ◌^◌, ◌==◌, ◌||◌, nat_le, length, Option, Some, None, if◌then◌else◌}
 use Rattle.mr_proxy.specs.ProxyView.{ProxyView}
 use Rattle.mr_workers.specs.Recorded.{Gave, CoreStands}
 use Rattle.mr_workers.specs.declared.desk_error.DeskError.{DeskError}

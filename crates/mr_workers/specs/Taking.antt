@@ -1,14 +1,12 @@
 -- What a recorded proxy does with a leg that came back, and with a request that is given up.
-use Rattle.std.specs.Prelude.{◌≡◌, ◌≢◌, ℕ, List, [], ◌∷◌, ◌++◌, Bool, true, false, Option, Some, None}
+use Rattle.std.specs.Prelude.{◌≡◌, ◌≢◌, [], ◌∷◌, ◌++◌, false, Some}
 use Rattle.mr_history.specs.declared.op_id.OpId.{OpId}
-use Rattle.mr_proxy.specs.Answer.{AnswerView}
 use Rattle.mr_proxy.specs.ProxyView.{ProxyView}
 use Rattle.mr_proxy.specs.Transitions.{open_sheet, taken_of, after_take, after_give_up}
 use Rattle.mr_proxy.specs.declared.sheet.LegBack.{LegBack}
 use Rattle.mr_proxy.specs.declared.taken.Taken.{Taken}
 use Rattle.mr_proxy.specs.declared.taken.Taken.TheVariants.{Waiting, Answered, Stranger}
 use Rattle.mr_workers.specs.Recorded.{Gave, Recorded, AnswerStands}
-use Rattle.mr_workers.specs.declared.step.Step.{Step}
 use Rattle.mr_workers.specs.declared.step.Step.TheVariants.{Take, GiveUp}
 
 -- What becomes of a leg that came back: what the proxy makes of its reply, and a stranger where the sheet isn't that of an

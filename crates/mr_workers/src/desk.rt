@@ -1,5 +1,5 @@
 //! What sessions of many threads issue their requests through.
-ghost use Rattle.std.specs.Prelude.{◌≡◌, ◌≢◌, ◌+◌, ◌≤◌, ◌⊎◌, ℕ, length, Some, None, option_map, MatchResult, IfSome, IfOk, IfErr, OnErr};
+ghost use Rattle.std.specs.Prelude.{◌≡◌, ◌≢◌, ◌+◌, ◌≤◌, ◌⊎◌, ℕ, Bool, length, Some, None, option_map, MatchResult, IfSome, IfOk, IfErr, OnErr};
 ghost use Rattle.mr_text.specs.declared.request.Request.{Request};
 ghost use Rattle.mr_workers.specs.Desk.{DeskIssues, DeskRefuses, DeskTakes, DeskGivesUp};
 ghost use Rattle.mr_workers.specs.Recorded.{AnswerStands};
@@ -19,6 +19,13 @@ use std::sync::Wait;
 /// A proxy that many threads share. Its lock is held for one step, and never while a leg is carried. It is made for
 /// one type of carrier, and all replies in its answers are such that a carrier of this type may give.
 pub trait Desk<C: Carrier> {
+    /// Whether a book is kept, which answers are held against when it is closed.
+    ghost recorded: { Bool };
+
+    /// Whether a book is kept, which answers are held against when it is closed.
+    fn is_recorded(&self) -> bool
+        ensures { result ≡ recorded };
+
     /// The share of a session that issued nothing yet.
     fn share(&self) -> Share
         ensures { result ≡ 0 };

@@ -86,6 +86,14 @@ impl<C: Carrier> RecordedProxy<C> {
 }
 
 impl<C: Carrier> Desk<C> for RecordedProxy<C> {
+    ghost use Rattle.std.specs.Prelude.{true};
+
+    ghost recorded = { true };
+
+    fn is_recorded(&self) -> bool {
+        true
+    }
+
     fn share(&self) -> Share {
         Share::new()
     }

@@ -37,6 +37,14 @@ impl<C: Carrier> SharedProxy<C> {
 }
 
 impl<C: Carrier> Desk<C> for SharedProxy<C> {
+    ghost use Rattle.std.specs.Prelude.{false};
+
+    ghost recorded = { false };
+
+    fn is_recorded(&self) -> bool {
+        false
+    }
+
     fn share(&self) -> Share {
         Share::new()
     }

@@ -70,16 +70,18 @@ fn pools<C: Carrier + Drop>(
     Ok(both)
 }
 
+/// A set of the item that these tests use.
+fn set_of(alloc: Global, name: &[u8]) -> Result<NodeCommand, Fail> {
+    Ok(NodeCommand::Set {
+        key: Key::new(alloc, name)?,
+        flags: 7,
+        exptime: 0,
+        block: Block::new(alloc, b"v")?,
+    })
+}
+
 fn set(rt: &impl Wait, alloc: Global, node: &SharedNode, name: &[u8]) -> Result<(), Fail> {
-    let _ = node.desk(rt).perform(
-        0,
-        NodeCommand::Set {
-            key: Key::new(alloc, name)?,
-            flags: 7,
-            exptime: 0,
-            block: Block::new(alloc, b"v")?,
-        },
-    )?;
+    let _ = node.desk(rt).perform(0, set_of(alloc, name)?)?;
     Ok(())
 }
 
@@ -137,6 +139,19 @@ fn play<'x, R: Wait + Abort>(
     set(rt, alloc, second, b"k")?;
     let shared: SharedProxy<LocalCarrier<'_, FixedClock, R>> = SharedProxy::new(core_of(alloc)?);
     hits_until_deleted(rt, alloc, &shared, &mut carriers)
+}
+
+#[test]
+fn a_shared_node_keeps_what_it_held(rt: HostRuntime) -> Result<(), Fail> {
+    let alloc = rt.alloc();
+    let mut node = CacheNode::new(alloc, 4)?;
+    let _ = node.perform(0, set_of(alloc, b"k")?)?;
+    let shared = SharedNode::new(node);
+    let found = shared.desk(&rt).get(0, &Key::new(alloc, b"k")?)?;
+    holds(&rt, matches!(found, LegReply::Hit { flags: 7, .. }));
+    let missed = shared.desk(&rt).get(0, &Key::new(alloc, b"a")?)?;
+    holds(&rt, matches!(missed, LegReply::Miss));
+    Ok(())
 }
 
 #[test]

@@ -1,4 +1,4 @@
-use Rattle.std.proofs.Common.{◌≡◌, true, false, refl, rules, arith}
+use Rattle.std.proofs.Common.{◌≡◌, true, false, rules}
 use Rattle.std.specs.Prelude.{Contains}
 use Rattle.mr_workers.proofs.ClosingLemmas.{one_more, not_all}
 use Rattle.mr_workers.proofs.closing.are_among.Goals as goal

@@ -1,4 +1,4 @@
-use Rattle.std.proofs.Common.{◌≡◌, map, drop}
+use Rattle.std.proofs.Common.{◌≡◌, drop}
 use Rattle.mr_workers.specs.Closing.{has_op}
 use Rattle.mr_workers.proofs.closing.has_op.Given as goal
 

@@ -1,4 +1,4 @@
-use Rattle.std.proofs.Common.{rules, ◌≡◌, ◌+◌, ◌≤◌, ◌++◌, ◌∷◌, [], length, vec_len, vec_capacity, arith}
+use Rattle.std.proofs.Common.{rules, vec_capacity, arith}
 use Rattle.mr_proxy.proofs.OpenLemmas.{give_up_closes_lem}
 use Rattle.mr_workers.proofs.KeptLemmas.{keeps_give_up, given_answer_stands}
 use Rattle.mr_workers.proofs.recorded_state.RecordedState.give_up.Goals as goal

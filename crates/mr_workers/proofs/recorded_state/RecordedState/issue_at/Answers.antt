@@ -1,4 +1,4 @@
-use Rattle.std.proofs.Common.{rules, ◌≡◌, ◌+◌, ◌≤◌, ◌++◌, ◌∷◌, [], length, vec_len, vec_capacity, arith}
+use Rattle.std.proofs.Common.{rules, vec_capacity}
 use Rattle.mr_workers.proofs.KeptLemmas.{keeps_issue}
 use Rattle.mr_workers.proofs.recorded_state.RecordedState.issue_at.Goals as goal
 

@@ -1,8 +1,7 @@
-use Rattle.std.proofs.Common.{rules, ◌≡◌, ◌+◌, ◌≤◌, ◌++◌, ◌∷◌, [], ap, ◌∙◌, subst, length, vec_len, vec_capacity, arith}
+use Rattle.std.proofs.Common.{rules, ap, ◌∙◌, vec_capacity, arith}
 use Rattle.mr_proxy.specs.Transitions.{taken_of, after_take}
-use Rattle.mr_proxy.specs.declared.taken.Taken.TheVariants.{Waiting, Answered, Stranger}
-use Rattle.mr_workers.specs.Recorded.{IsKept}
-use Rattle.mr_workers.proofs.KeptLemmas.{keeps_take, take_has_room, stranger_stays, last_answer_stands, last_answer_in_time}
+use Rattle.mr_proxy.specs.declared.taken.Taken.TheVariants.{Waiting, Answered}
+use Rattle.mr_workers.proofs.KeptLemmas.{keeps_take, take_has_room, stranger_stays, last_answer_stands}
 use Rattle.mr_workers.proofs.recorded_state.RecordedState.take_own.Goals as goal
 
 pub invariant_of-self : goal.invariant_of-self

@@ -1,4 +1,3 @@
-use Rattle.std.proofs.Common.{rules}
 use Rattle.mr_workers.proofs.HeldLemmas.{held_give_up}
 use Rattle.mr_workers.proofs.KeptLemmas.{given_answer_stands}
 use Rattle.mr_workers.proofs.shared_state.SharedState.give_up.Goals as goal

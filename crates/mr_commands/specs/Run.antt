@@ -1,0 +1,100 @@
+-- What a run does with its words and its devices.
+use Rattle.std.specs.Prelude.{◌≡◌, ℕ, ◌+◌, ◌≤◌, ◌⊎◌, List, Option, Some, None, Result, Ok, Err}
+use Rattle.mr_commands.specs.CheckCommand.{CheckGives}
+use Rattle.mr_commands.specs.Devices.{Devices, Tells}
+use Rattle.mr_commands.specs.Explain.{told_by}
+use Rattle.mr_commands.specs.ExplainCommand.{ExplainGives}
+use Rattle.mr_commands.specs.Fault.{fault_line, readings_line}
+use Rattle.mr_commands.specs.FirstRequest.{most_reads}
+use Rattle.mr_commands.specs.Given.{path_in}
+use Rattle.mr_commands.specs.PlanCommand.{PlanGives}
+use Rattle.mr_commands.specs.RunCommand.{RunGives}
+use Rattle.mr_commands.specs.TimelineCommand.{TimelineGives}
+use Rattle.mr_commands.specs.WholeInput.{most_taken}
+use Rattle.mr_commands.specs.Words.{Say, SayBadReadings, SayNothing}
+use Rattle.mr_commands.specs.declared.ended.Ended.{Ended}
+use Rattle.mr_commands.specs.declared.ended.Ended.TheVariants.{Done, NotAccepted}
+use Rattle.mr_commands.specs.declared.fault.Fault.{Fault}
+use Rattle.mr_commands.specs.declared.fault.Fault.TheVariants.{Memory}
+use Rattle.mr_commands.specs.declared.words.Wanted.{Wanted}
+use Rattle.mr_commands.specs.declared.words.Wanted.TheVariants.{Plan, Timeline, Run, Check, Explain}
+
+-- the status of a run that did what was wanted
+abbrev pub DONE : ℕ
+DONE = 0
+
+-- the status of a run that found a fault
+abbrev pub FAULT : ℕ
+FAULT = 1
+
+-- the status for wrong words or a call for help
+abbrev pub WRONG_WORDS : ℕ
+WRONG_WORDS = 2
+
+-- the status of a check that doesn't accept its transcript
+abbrev pub NOT_ACCEPTED : ℕ
+NOT_ACCEPTED = 3
+
+-- the status of a run whose command met no fault
+abbrev pub status_of : Ended → ℕ
+status_of Done = DONE
+status_of NotAccepted = NOT_ACCEPTED
+
+-- what each command does with the files, the input and the output
+abbrev pub Gives : Wanted → Devices → Devices → Result Ended Fault → Type 0
+Gives (Plan values) before after result = PlanGives values before after result
+Gives (Timeline values) before after result = TimelineGives values before after result
+Gives (Run file) before after result = RunGives (path_in file) before after result
+Gives (Check file) before after result = CheckGives (path_in file) before after result
+Gives (Explain explanation) before after result = ExplainGives (told_by explanation) before after result
+
+-- how a run ends once its command did: the line of a fault is told, and nothing is done after
+abbrev pub EndsWith : Result Ended Fault → ℕ → Devices → Devices → Type 0
+EndsWith (Ok ended) status before after = (status ≡ status_of ended) × (after ≡ before)
+EndsWith (Err fault) status before after = (status ≡ FAULT) × Tells (fault_line fault) before after
+
+-- the words say a command, and it was run; it has nothing of the device for faults
+pub record RunsCommand (words : List (List ℕ)) (before after : Devices) (status : ℕ) : Type 0 where
+  pub wanted : Wanted
+  pub says : Say words wanted
+  pub between : Devices
+  pub result : Result Ended Fault
+  pub gives : Gives wanted before between result
+  pub silent : between.faults ≡ before.faults
+  pub ends : EndsWith result status between after
+
+-- the words say no command, and one text is told of that
+pub record RefusesWords (words : List (List ℕ)) (before after : Devices) (status : ℕ) : Type 0 where
+  pub says_nothing : SayNothing words
+  pub is_status : status ≡ WRONG_WORDS
+  pub text : List ℕ
+  pub tells : Tells text before after
+
+-- the words say a timeline whose readings are no list of numbers, and that is told
+pub record RefusesReadings (words : List (List ℕ)) (before after : Devices) (status : ℕ) : Type 0 where
+  pub says : SayBadReadings words
+  pub is_status : status ≡ WRONG_WORDS
+  pub tells : Tells readings_line before after
+
+-- the run of these words: their command, or what is told of wrong words, unless memory was refused while they were read
+abbrev pub Runs : List (List ℕ) → Devices → Devices → ℕ → Type 0
+Runs words before after status =
+    RunsCommand words before after status ⊎ RefusesWords words before after status ⊎ RefusesReadings words before after status
+    ⊎ EndsWith (Err Memory) status before after
+
+-- the most reads of a command that is given a file, or else the input
+abbrev pub reads_without : Option (List ℕ) → ℕ
+reads_without (Some path) = 0
+reads_without None = most_taken
+
+-- the most reads of the input that a command makes
+abbrev pub most_reads_of : Wanted → ℕ
+most_reads_of (Plan values) = most_reads
+most_reads_of (Timeline values) = 0
+most_reads_of (Run file) = reads_without (path_in file)
+most_reads_of (Check file) = reads_without (path_in file)
+most_reads_of (Explain explanation) = 0
+
+-- the input is read no oftener than the command may that the words say
+abbrev pub ReadsFew : List (List ℕ) → Devices → Devices → Type 0
+ReadsFew words before after = (wanted : Wanted) → Say words wanted → after.input.reads ≤ before.input.reads + most_reads_of wanted

@@ -1,0 +1,33 @@
+//! The commands of the program `migctl`, over the files, the input and the outputs that it is handed: from its arguments
+//! (`run_arguments`) or its words (`run_words`) to its status.
+#![tactic(auto)]
+
+mod arguments;
+mod check_text;
+mod commands;
+mod config_file;
+mod ended;
+mod explain;
+mod explanations;
+mod fault;
+mod first_request;
+mod given;
+mod help;
+mod host_files;
+mod line;
+mod loading;
+mod plan;
+mod printing;
+mod readings;
+mod run;
+mod script_text;
+mod sources;
+mod timeline;
+mod whole_input;
+mod words;
+
+pub use arguments::run_arguments;
+pub use config_file::MOST_CONFIG_BYTES;
+pub use host_files::HostFiles;
+pub use run::{DONE, FAULT, NOT_ACCEPTED, WRONG_WORDS, run_words};
+pub use sources::{LoadFault, MOST_LOADED, Sources};

@@ -1,0 +1,38 @@
+//! The files of the system.
+use super::{Ran, expect_run, run_over};
+use mr_commands::{HostFiles, LoadFault, MOST_LOADED, Sources};
+use mr_text::OverReader;
+use std::test::Fail;
+
+#[test]
+fn files_of_the_system_are_loaded(rt: HostRuntime) -> Result<(), Fail> {
+    let alloc = rt.alloc();
+    let mut files = HostFiles::new(&rt);
+    let empty = files.load(alloc, "/dev/null").expect(&rt, "an empty file");
+    assert!(rt; empty.is_empty());
+    let endless = files
+        .load(alloc, "/dev/zero")
+        .expect(&rt, "an endless file");
+    assert_eq!(rt; endless.len(), MOST_LOADED);
+    for path in ["/", "/no such file", ""] {
+        let fault = files.load(alloc, path).err();
+        assert_eq!(rt; fault, Some(LoadFault::Unreadable), "{path}");
+    }
+    Ok(())
+}
+
+#[test]
+fn files_of_the_system_are_configurations(rt: HostRuntime) {
+    let cases: [(&str, &[u8]); 3] = [
+        ("/dev/null", b"migctl: plan 1 NotJson\n"),
+        ("/dev/zero", b"migctl: plan 11 TooLarge\n"),
+        ("/", b"migctl: file /\n"),
+    ];
+    for (path, line) in cases {
+        let mut files = HostFiles::new(&rt);
+        let mut input = OverReader::new(&b""[..]);
+        let words = ["timeline", "--config", path];
+        let ran: Ran = run_over(rt.alloc(), &words, &mut files, &mut input);
+        expect_run(&rt, &ran, 1, b"", line);
+    }
+}

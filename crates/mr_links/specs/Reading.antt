@@ -1,0 +1,91 @@
+-- What is read of a node's stream until its next reply is whole.
+use Rattle.std.specs.Prelude.{◌≡◌, ℕ, ◌+◌, ◌<◌, ◌≤◌, ◌⊎◌, List, [], ◌++◌, length}
+use Rattle.std.specs.Io.KnownBytes.{Consumes, Keeps, IsAtEnd}
+use Rattle.mr_text.specs.Replies.{SpellsReply, RefusesReply}
+use Rattle.mr_text.specs.Source.{SourceView, AreOffered, least_with}
+use Rattle.mr_text.specs.Stream.{BeginsWith, IsUnfinished}
+use Rattle.mr_text.specs.declared.error.TextError.{TextError}
+use Rattle.mr_text.specs.declared.reply.Reply.{Reply}
+use Rattle.mr_node.specs.Session.{read_length as room_of_read}
+use Rattle.mr_workers.specs.declared.error.WorkerError.{WorkerError}
+use Rattle.mr_workers.specs.declared.error.WorkerError.TheVariants.{LinkBroken, Mismatch, ReadFault, TurnsSpent, OutOfMemory}
+
+-- how many bytes there is room for in each read
+abbrev pub read_length : ℕ
+read_length = room_of_read
+
+-- no reply is whole yet, and nothing is refused: more bytes may make either
+abbrev pub NeedsMore : List ℕ → Type 0
+NeedsMore bytes = IsUnfinished SpellsReply RefusesReply bytes
+
+-- one read brought this piece
+pub record BringsPiece (piece : List ℕ) (old new : SourceView) : Type 0 where
+  pub some : 1 ≤ length piece
+  pub few : length piece ≤ read_length
+  pub takes : new.taken ≡ old.taken ++ piece
+  pub leaves : Consumes old.left new.left piece
+  pub once : new.reads ≡ old.reads + 1
+  pub offered : new.least_room ≡ least_with old.least_room read_length
+  pub steady : new.failures ≡ old.failures
+
+-- one read met the end of the stream
+pub record MeetsEnd (old new : SourceView) : Type 0 where
+  pub at_end : IsAtEnd new.left
+  pub takes : new.taken ≡ old.taken
+  pub leaves : Consumes old.left new.left []
+  pub once : new.reads ≡ old.reads + 1
+  pub offered : new.least_room ≡ least_with old.least_room read_length
+  pub steady : new.failures ≡ old.failures
+
+-- one read failed
+pub record FailsToRead (old new : SourceView) : Type 0 where
+  pub takes : new.taken ≡ old.taken
+  pub keeps : Keeps old.left new.left
+  pub once : new.reads ≡ old.reads + 1
+  pub offered : new.least_room ≡ least_with old.least_room read_length
+  pub failed : new.failures ≡ old.failures + 1
+
+-- So many reads brought these bytes. Each was made where what was kept and what had come needed more.
+pub data Brings (kept : List ℕ) (old : SourceView) : ℕ → List ℕ → SourceView → Type 0 where
+  begins : Brings kept old 0 [] old
+  reads : {count : ℕ} {came : List ℕ} {between new : SourceView} (piece : List ℕ)
+      → Brings kept old count came between → NeedsMore (kept ++ came) → BringsPiece piece between new
+      → Brings kept old (count + 1) (came ++ piece) new
+
+-- reads brought these bytes, no more of them than there are turns
+pub record HasBrought (turns : ℕ) (kept came : List ℕ) (old new : SourceView) : Type 0 where
+  pub count : ℕ
+  pub brings : Brings kept old count came new
+  pub allowed : count ≤ turns
+  pub takes : new.taken ≡ old.taken ++ came
+  pub leaves : Consumes old.left new.left came
+  pub counted : new.reads ≡ old.reads + count
+  pub offered : AreOffered read_length old.least_room → AreOffered read_length new.least_room
+  pub steady : new.failures ≡ old.failures
+
+-- one more read was needed, and was made as the last
+pub record NeedsRead (turns : ℕ) (kept : List ℕ) (Last : SourceView → SourceView → Type 0) (old new : SourceView) : Type 0 where
+  pub came : List ℕ
+  pub between : SourceView
+  pub brought : HasBrought turns kept came old between
+  pub needs : NeedsMore (kept ++ came)
+  pub last : Last between new
+  pub allowed : new.reads ≤ old.reads + turns
+
+-- a reply is whole at the front of the bytes
+abbrev pub HoldsReply : List ℕ → Type 0
+HoldsReply bytes = (reply : Reply) × (after : List ℕ) × BeginsWith SpellsReply bytes reply after
+
+-- Why there is no reply: a read failed, the stream ended, all turns are spent while more is needed, what came is refused as
+-- no reply, or there was no memory for the reply or for what a read brought.
+module _ (turns : ℕ) (kept : List ℕ) (old : SourceView) where
+  abbrev pub HasNoReply : WorkerError → SourceView → Type 0
+  HasNoReply ReadFault new = NeedsRead turns kept FailsToRead old new
+  HasNoReply LinkBroken new = NeedsRead turns kept MeetsEnd old new
+  HasNoReply TurnsSpent new =
+      (came : List ℕ) × HasBrought turns kept came old new × NeedsMore (kept ++ came) × (new.reads ≡ old.reads + turns)
+  HasNoReply Mismatch new =
+      (came : List ℕ) × HasBrought turns kept came old new × (refusal : TextError) × RefusesReply refusal (kept ++ came)
+  HasNoReply OutOfMemory new =
+      (came : List ℕ) × HasBrought turns kept came old new × (HoldsReply (kept ++ came) ⊎ (old.reads < new.reads))
+  HasNoReply other new = ⊥

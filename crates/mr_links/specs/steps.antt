@@ -1,0 +1,3 @@
+-- What single steps do: definitions that no public clause cites.
+pub mod Exchange
+pub mod Reading

@@ -1,0 +1,4 @@
+pub mod StepLemmas
+pub mod AskLemmas
+pub mod SumLemmas
+pub mod EndLemmas

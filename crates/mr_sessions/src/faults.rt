@@ -1,0 +1,18 @@
+//! The faults of a session, as a client's session tells them.
+ghost use Rattle.std.specs.Prelude.{◌≡◌};
+ghost use Rattle.mr_sessions.specs.ClientSession.{error_of};
+
+use mr_node::session::SessionFault;
+use mr_workers::WorkerError;
+
+/// A fault of a session, as a client's session tells it.
+pub(crate) fn error_of(fault: SessionFault) -> WorkerError
+    ensures { result ≡ error_of fault }
+{
+    match fault {
+        SessionFault::ReadFault => WorkerError::ReadFault,
+        SessionFault::WriteFault => WorkerError::WriteFault,
+        SessionFault::TurnsSpent => WorkerError::TurnsSpent,
+        SessionFault::OutOfMemory => WorkerError::OutOfMemory,
+    }
+}

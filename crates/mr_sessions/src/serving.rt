@@ -1,0 +1,315 @@
+//! The service of one client.
+ghost use Rattle.std.specs.Prelude.{◌≡◌, ◌≢◌, ◌+◌, ◌*◌, ◌≤◌, ℕ, List, [], length, true, false, Some, None, Ok, Err, IfSome, vec_capacity};
+ghost use Rattle.mr_text.specs.Source.{AreOffered};
+ghost use Rattle.mr_text.specs.Stream.{StandsFor};
+ghost use Rattle.mr_text.specs.declared.request.Request.{Request};
+ghost use Rattle.mr_node.specs.Output.{is_silent, IsServed};
+ghost use Rattle.mr_node.specs.Session.{station, read_length};
+ghost use Rattle.mr_proxy.specs.Answer.{reply_of};
+ghost use Rattle.mr_workers.specs.DeskError.{cause_of};
+ghost use Rattle.mr_workers.specs.Recorded.{AnswerStands};
+ghost use Rattle.mr_sessions.specs.Account.{account, AreCarried};
+ghost use Rattle.mr_sessions.specs.Asking.{Asks, AsksInVain};
+ghost use Rattle.mr_sessions.specs.ClientSession.{ClientSessionIs, unanswered_count, given_up_count};
+ghost use Rattle.mr_sessions.specs.steps.ClientStep.{AskedSo, AnsweredSo, ClientRefusalIs, ClientRequestIs, ClientStepIs};
+
+use crate::carrying::carry_out;
+use crate::faults::error_of;
+use crate::served::Served;
+use crate::till::{Till, keep, make_room};
+use mr_clock::Clock;
+use mr_history::OpId;
+use mr_node::session::{Step, answer_refusal, is_silent, read_piece, write_answer};
+use mr_node::{Ended, READ_LENGTH};
+use mr_proxy::{Answer, Issued};
+use mr_text::{Reply, Request, RequestReader, Sink, Source, TextError, WriteFault};
+use mr_workers::{Carrier, Carriers, Desk, DeskError, WorkerError};
+use std::alloc::Global;
+use std::sync::Wait;
+
+/// Whether the answer is to the request of this name and text.
+fn is_answer_to(answer: &Answer, op: OpId, request: &Request) -> bool
+    ensures { result ≡ true → answer.now.request ≡ request.now }
+{
+    let own = answer.op();
+    own.proxy == op.proxy
+        && own.incarnation == op.incarnation
+        && own.number == op.number
+        && answer.request().same_as(request)
+}
+
+/// Carries the legs of a request, and gives its answer. None where there is none, or what there is isn't its own.
+fn answer_to<C: Carrier, D: Desk<C>, L: Carriers<C>, R: Wait>(
+    rt: &R,
+    desk: &D,
+    carriers: &mut L,
+    legs_out: &mut u64,
+    request: &Request,
+    issued: Issued,
+) -> Option<Answer>
+    requires { 1 ≤ length issued.legs.items }
+    ensures of_request { IfSome result (λ answer. answer.request ≡ request.now) }
+    ensures stands { IfSome result (AnswerStands C.gave) }
+    ensures carried { IfSome result (λ answer. AreCarried (L.losses carriers.old) (L.brought carriers.old) answer.given_up
+        (L.losses carriers.new) (L.brought carriers.new)) }
+    ensures lost { L.losses carriers.old ≤ L.losses carriers.new }
+    ensures came { L.brought carriers.old ≤ L.brought carriers.new }
+    ensures tried { L.losses carriers.old + L.brought carriers.old + 1 ≤ L.losses carriers.new + L.brought carriers.new }
+{
+    let op = issued.op;
+    let answer = carry_out(rt, desk, carriers, legs_out, issued)?;
+    if is_answer_to(&answer, op, request) {
+        Some(answer)
+    } else {
+        None
+    }
+}
+
+/// Writes what the client is told, unless it wants no answer. WriteFault where the sink failed.
+fn write_unless_silent<W: Sink>(
+    request: &Request,
+    answer: &Answer,
+    writer: &mut W,
+) -> Result<(), WorkerError>
+    ensures { AnsweredSo request.now (reply_of answer.now) (W.told writer.old) (W.told writer.new) result }
+{
+    if is_silent(request) {
+        return Ok(());
+    }
+    match answer.write(writer) {
+        Ok(()) => Ok(()),
+        Err(WriteFault) => Err(WorkerError::WriteFault),
+    }
+}
+
+/// Tells the client why its request was refused, unless it wants no answer. WriteFault where the sink failed.
+fn write_refusal<W: Sink>(
+    request: &Request,
+    refusal: DeskError,
+    writer: &mut W,
+) -> Result<(), WorkerError>
+    ensures { AnsweredSo request.now (Reply.ServerError (cause_of refusal)) (W.told writer.old) (W.told writer.new) result }
+{
+    let answer = if is_silent(request) {
+        None
+    } else {
+        Some(Reply::ServerError(refusal.cause()))
+    };
+    match write_answer(answer, writer) {
+        Ok(()) => Ok(()),
+        Err(fault) => Err(error_of(fault)),
+    }
+}
+
+/// Issues a request, carries its legs, and writes its answer. The answer is kept whether it could be written or not. A
+/// refused issue is answered by its cause. WriteFault where the sink failed, BookDiffers where the request has no answer.
+#[tactic(auto, using(crate::proofs::AskLemmas::answered_so, crate::proofs::AskLemmas::refused_so, crate::proofs::AskLemmas::vain_so))]
+fn ask<C: Carrier, D: Desk<C>, K: Clock, W: Sink, L: Carriers<C>, R: Wait>(
+    rt: &R,
+    desk: &D,
+    clock: &mut K,
+    writer: &mut W,
+    carriers: &mut L,
+    till: &mut Till,
+    request: &Request,
+) -> Result<(), WorkerError>
+    requires asks { request.now ≢ Request.Quit }
+    requires room { D.recorded ≡ true → length till.old.answers.items + 1 ≤ vec_capacity till.old.answers }
+    ensures { AskedSo (Asks K.reads K.failures C.gave D.recorded) (AsksInVain K.reads K.failures)
+        (station clock.old (account till.old.share till.old.answers.items (L.losses carriers.old) (L.brought carriers.old)) (W.told writer.old))
+        (station clock.new (account till.new.share till.new.answers.items (L.losses carriers.new) (L.brought carriers.new)) (W.told writer.new))
+        request.now result }
+{
+    match desk.issue(rt, &mut till.share, clock, request) {
+        Err(refusal) => write_refusal(request, refusal, writer),
+        Ok(issued) => {
+            let Some(answer) = answer_to(rt, desk, carriers, &mut till.legs_out, request, issued)
+            else {
+                return Err(WorkerError::BookDiffers);
+            };
+            let written = write_unless_silent(request, &answer, writer);
+            keep(&mut till.answers, desk.is_recorded(), answer);
+            written
+        }
+    }
+}
+
+/// Serves a request and writes its answer, unless the client wants none. A quit ends the session. The room for the answer is
+/// made before the request is issued; where it is refused, nothing is done.
+#[tactic(auto, using(crate::proofs::StepLemmas::asked, crate::proofs::StepLemmas::asked_well, mr_node::proofs::ServiceLemmas::served_unless_quit))]
+fn serve_request<C: Carrier, D: Desk<C>, K: Clock, W: Sink, L: Carriers<C>, R: Wait>(
+    rt: &R,
+    desk: &D,
+    clock: &mut K,
+    writer: &mut W,
+    carriers: &mut L,
+    till: &mut Till,
+    request: &Request,
+) -> Result<Step, WorkerError>
+    ensures { ClientRequestIs (Asks K.reads K.failures C.gave D.recorded) (AsksInVain K.reads K.failures)
+        (station clock.old (account till.old.share till.old.answers.items (L.losses carriers.old) (L.brought carriers.old)) (W.told writer.old))
+        (station clock.new (account till.new.share till.new.answers.items (L.losses carriers.new) (L.brought carriers.new)) (W.told writer.new))
+        request.now result }
+{
+    if let Request::Quit = request {
+        return Ok(Step::Ends(Ended::Quit));
+    }
+    if make_room(&mut till.answers, desk.is_recorded()).is_err() {
+        return Err(WorkerError::OutOfMemory);
+    }
+    ask(rt, desk, clock, writer, carriers, till, request)?;
+    Ok(Step::Served)
+}
+
+/// Answers a refused request, if it gets an answer. Unless reading goes on behind it, it ends the session.
+#[tactic(auto, using(crate::proofs::StepLemmas::refused_told))]
+fn refuse<W: Sink>(refusal: TextError, writer: &mut W) -> Result<Step, WorkerError>
+    ensures { ClientRefusalIs refusal (W.told writer.old) result (W.told writer.new) }
+{
+    match answer_refusal(refusal, writer) {
+        Ok(step) => Ok(step),
+        Err(fault) => Err(error_of(fault)),
+    }
+}
+
+/// Serves the next request that is whole.
+fn serve_next<C: Carrier, D: Desk<C>, K: Clock, W: Sink, L: Carriers<C>, R: Wait>(
+    rt: &R,
+    desk: &D,
+    clock: &mut K,
+    requests: &mut RequestReader,
+    writer: &mut W,
+    carriers: &mut L,
+    till: &mut Till,
+) -> Result<Step, WorkerError>
+    requires { requests.old.closed ≡ false }
+    ensures { (rest : List ℕ) → StandsFor requests.old rest
+        → ClientStepIs (Asks K.reads K.failures C.gave D.recorded) (AsksInVain K.reads K.failures)
+        (station clock.old (account till.old.share till.old.answers.items (L.losses carriers.old) (L.brought carriers.old)) (W.told writer.old))
+        (station clock.new (account till.new.share till.new.answers.items (L.losses carriers.new) (L.brought carriers.new)) (W.told writer.new))
+        requests.old.ended rest requests.new result }
+{
+    match requests.next() {
+        Ok(None) => Ok(Step::Waits),
+        Ok(Some(request)) => serve_request(rt, desk, clock, writer, carriers, till, &request),
+        Err(refusal) => refuse(refusal, writer),
+    }
+}
+
+/// Serves what the reader gives, as `serve_client` does, and notes in the till what was issued and taken.
+fn serve_all<C: Carrier, D: Desk<C>, K: Clock, S: Source, W: Sink, L: Carriers<C>, R: Wait>(
+    rt: &R,
+    alloc: Global,
+    desk: &D,
+    clock: &mut K,
+    reader: &mut S,
+    writer: &mut W,
+    carriers: &mut L,
+    till: &mut Till,
+    turns: u64,
+) -> Result<Ended, WorkerError>
+    ensures session { ClientSessionIs (Asks K.reads K.failures C.gave D.recorded) (AsksInVain K.reads K.failures) (S.told reader.old) (S.told reader.new)
+        (station clock.old (account till.old.share till.old.answers.items (L.losses carriers.old) (L.brought carriers.old)) (W.told writer.old))
+        (station clock.new (account till.new.share till.new.answers.items (L.losses carriers.new) (L.brought carriers.new)) (W.told writer.new)) result }
+    ensures reads { (S.told reader.new).reads ≤ (S.told reader.old).reads + turns }
+    ensures brought { (S.told reader.new).reads + length (S.told reader.old).taken ≤ (S.told reader.old).reads + length (S.told reader.new).taken + 1 }
+    ensures spent { result ≡ Err WorkerError.TurnsSpent → (S.told reader.new).reads ≡ (S.told reader.old).reads + turns }
+    ensures turns { result ≡ Err WorkerError.TurnsSpent → length (S.told reader.old).taken + turns ≤ length (S.told reader.new).taken }
+    ensures bytes { length (S.told reader.new).taken ≤ length (S.told reader.old).taken + turns * read_length }
+    ensures room { AreOffered read_length (S.told reader.old).least_room → AreOffered read_length (S.told reader.new).least_room }
+    ensures read_fault { result ≡ Err WorkerError.ReadFault → (S.told reader.new).failures ≡ (S.told reader.old).failures + 1 }
+    ensures no_read_fault { result ≢ Err WorkerError.ReadFault → (S.told reader.new).failures ≡ (S.told reader.old).failures }
+{
+    let mut requests = RequestReader::new(alloc);
+    let mut buffer = [0; READ_LENGTH];
+    let mut ended = false;
+    let mut turns_left = turns;
+    'session: loop {
+        match serve_next(rt, desk, clock, &mut requests, writer, carriers, till)? {
+            Step::Served => {}
+            Step::Ends(how) => return Ok(how),
+            Step::Waits => {
+                if ended {
+                    return Ok(Ended::Ended);
+                }
+                if turns_left == 0 {
+                    return Err(WorkerError::TurnsSpent);
+                }
+                turns_left -= 1;
+                match read_piece(reader, &mut requests, &mut buffer) {
+                    Ok(at_end) => ended = at_end,
+                    Err(fault) => return Err(error_of(fault)),
+                }
+            }
+        }
+    }
+}
+
+/// Serves one client at a proxy that many threads share: reads a request, issues it, carries its legs, takes what comes back,
+/// and writes the answer, then the next, until the client quits, the input ends, or a request is refused after which nothing
+/// more can be read; the answer to that refusal is written first. At most `turns` reads are made.
+///
+/// A request whose issue is refused is answered by its cause. It is given up where a leg can't be sent, where none will come
+/// back, where memory for one that came is refused, and once all legs that the session sent came back without an answer.
+///
+/// ReadFault, WriteFault and OutOfMemory where the reader, the writer, or memory for reading or for keeping an answer failed;
+/// TurnsSpent where one more read would be needed; BookDiffers where a request that was issued isn't under way when it is
+/// given up, or gets the answer of another. Whatever the end, the share and the answers so far are handed out.
+pub fn serve_client<C: Carrier, D: Desk<C>, K: Clock, S: Source, W: Sink, L: Carriers<C>, R: Wait>(
+    rt: &R,
+    alloc: Global,
+    desk: &D,
+    clock: &mut K,
+    reader: &mut S,
+    writer: &mut W,
+    carriers: &mut L,
+    turns: u64,
+) -> Served
+    ensures session { ClientSessionIs (Asks K.reads K.failures C.gave D.recorded) (AsksInVain K.reads K.failures) (S.told reader.old) (S.told reader.new)
+        (station clock.old (account 0 [] (L.losses carriers.old) (L.brought carriers.old)) (W.told writer.old))
+        (station clock.new (account result.share result.answers.items (L.losses carriers.new) (L.brought carriers.new)) (W.told writer.new)) result.ended }
+
+    // Over a proxy with a book each request that was issued has its answer among these, but for one that has none. Over any
+    // other none is kept.
+    ensures share { D.recorded ≡ true → result.share ≡ length result.answers.items + unanswered_count result.ended }
+    ensures no_book { D.recorded ≡ false → result.answers.items ≡ [] }
+
+    // At most as many were given up as legs were lost or came back.
+    ensures given_up { given_up_count result.answers.items + (L.losses carriers.old + L.brought carriers.old) ≤ L.losses carriers.new + L.brought carriers.new }
+
+    // At most `turns` reads are made, and at most one brings no byte: that of the end, or the one that failed. TurnsSpent
+    // comes after all of them, each of which brought a byte. Each read has room for as many bytes as the buffer holds, and
+    // none brings more.
+    ensures reads { (S.told reader.new).reads ≤ (S.told reader.old).reads + turns }
+    ensures brought { (S.told reader.new).reads + length (S.told reader.old).taken ≤ (S.told reader.old).reads + length (S.told reader.new).taken + 1 }
+    ensures spent { result.ended ≡ Err WorkerError.TurnsSpent → (S.told reader.new).reads ≡ (S.told reader.old).reads + turns }
+    ensures turns { result.ended ≡ Err WorkerError.TurnsSpent → length (S.told reader.old).taken + turns ≤ length (S.told reader.new).taken }
+    ensures bytes { length (S.told reader.new).taken ≤ length (S.told reader.old).taken + turns * read_length }
+    ensures room { AreOffered read_length (S.told reader.old).least_room → AreOffered read_length (S.told reader.new).least_room }
+
+    // A fault is answered only where that device failed, once, and none is passed over.
+    ensures read_fault { result.ended ≡ Err WorkerError.ReadFault → (S.told reader.new).failures ≡ (S.told reader.old).failures + 1 }
+    ensures no_read_fault { result.ended ≢ Err WorkerError.ReadFault → (S.told reader.new).failures ≡ (S.told reader.old).failures }
+    ensures write_fault { result.ended ≡ Err WorkerError.WriteFault → (W.told writer.new).failures ≡ (W.told writer.old).failures + 1 }
+    ensures no_write_fault { result.ended ≢ Err WorkerError.WriteFault → (W.told writer.new).failures ≡ (W.told writer.old).failures }
+    ensures last_failed { result.ended ≡ Err WorkerError.WriteFault → (W.told writer.new).last_failed ≡ true }
+{
+    let mut till = Till {
+        share: desk.share(),
+        answers: Vec::new(alloc),
+        legs_out: 0,
+    };
+    let ended = serve_all(
+        rt, alloc, desk, clock, reader, writer, carriers, &mut till, turns,
+    );
+    let Till {
+        share,
+        answers,
+        legs_out: _,
+    } = till;
+    Served {
+        ended,
+        share,
+        answers,
+    }
+}

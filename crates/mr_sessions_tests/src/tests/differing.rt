@@ -1,0 +1,230 @@
+//! Desks and carriers that mix up what belongs to different requests.
+ghost use Rattle.std.specs.Prelude.{◌≢◌, true, IfOk};
+ghost use Rattle.mr_text.specs.declared.request.Request.{Request};
+
+use super::devices::{serve, whole};
+use super::{Left, Nodes, carriers, holds, recorded};
+use mr_clock::{Clock, FixedClock};
+use mr_history::OpId;
+use mr_proxy::{Answer, Issued, Taken};
+use mr_text::{Key, KeyList, Request};
+use mr_workers::{Carried, Carrier, Carriers, Desk, DeskError, RecordedProxy, Share, WorkerError};
+use std::alloc::{AllocError, Global};
+use std::process::Abort;
+use std::sync::Wait;
+use std::test::Fail;
+
+/// A desk that issues at one proxy, and takes legs and gives requests up at another.
+struct Torn<C: Carrier> {
+    issues: RecordedProxy<C>,
+    takes: RecordedProxy<C>,
+}
+
+impl<C: Carrier> Drop for Torn<C> {
+    fn drop(self) {
+        let Self {
+            issues: _,
+            takes: _,
+        } = self;
+    }
+}
+
+impl<C: Carrier> Desk<C> for Torn<C> {
+    ghost recorded = { true };
+
+    fn is_recorded(&self) -> bool {
+        true
+    }
+
+    fn share(&self) -> Share {
+        self.issues.share()
+    }
+
+    fn issue<R: Wait, K: Clock>(
+        &self,
+        rt: &R,
+        share: &mut Share,
+        clock: &mut K,
+        request: &Request,
+    ) -> Result<Issued, DeskError> {
+        self.issues.issue(rt, share, clock, request)
+    }
+
+    fn take<R: Wait>(&self, rt: &R, carried: &mut Carried<C>) -> Result<Taken, AllocError> {
+        self.takes.take(rt, carried)
+    }
+
+    fn give_up<R: Wait>(&self, rt: &R, op: OpId) -> Option<Answer> {
+        self.takes.give_up(rt, op)
+    }
+}
+
+/// The get of these keys.
+fn get_of(alloc: Global, names: &[&[u8]]) -> Result<Request, Fail>
+    ensures { IfOk result (λ request. request ≢ Request.Quit) }
+{
+    let mut keys = Vec::new(alloc);
+    for name in names {
+        keys.push(Key::new(alloc, name)?)?;
+    }
+    let keys = KeyList::new(keys)?;
+    Ok(Request::Get { keys })
+}
+
+/// The legs of the get of these keys, issued at the desk at 999.
+fn issue<C: Carrier, D: Desk<C>, R: Wait>(
+    rt: &R,
+    alloc: Global,
+    desk: &D,
+    names: &[&[u8]],
+) -> Result<Issued, Fail> {
+    let mut share = desk.share();
+    let request = get_of(alloc, names)?;
+    Ok(desk.issue(rt, &mut share, &mut FixedClock(999), &request)?)
+}
+
+/// Asserts that a session ended since a request that was issued has no answer of its own. The answers of
+/// those before it are kept.
+fn differs(rt: &impl Abort, left: &Left, written: &[u8], answered: usize) {
+    assert_eq!(rt;
+        (left.served.ended, left.written.as_slice()),
+        (Err(WorkerError::BookDiffers), written)
+    );
+    assert_eq!(rt; left.served.answers.len(), answered);
+    assert_eq!(rt;
+        left.served.share.count(),
+        (answered as u64).saturating_add(1)
+    );
+}
+
+#[test]
+fn a_request_that_is_not_under_way_differs(rt: HostRuntime) -> Result<(), Fail> {
+    let alloc = rt.alloc();
+    let nodes = Nodes::new(alloc)?;
+    let mut carriers = carriers(&rt, alloc, &nodes)?;
+    let desk = Torn {
+        issues: recorded(alloc, 20)?,
+        takes: recorded(alloc, 20)?,
+    };
+    let input = whole(b"get k\r\nget k\r\n");
+    let left = serve(
+        &rt,
+        alloc,
+        &desk,
+        &mut FixedClock(999),
+        &mut carriers,
+        input,
+    )?;
+    differs(&rt, &left, b"", 0);
+    Ok(())
+}
+
+/// At the other proxy a get of another key has the request's name.
+#[test]
+fn the_answer_of_another_request_that_is_given_up_differs(rt: HostRuntime) -> Result<(), Fail> {
+    let alloc = rt.alloc();
+    let nodes = Nodes::new(alloc)?;
+    let mut carriers = carriers(&rt, alloc, &nodes)?;
+    let desk = Torn {
+        issues: recorded(alloc, 20)?,
+        takes: recorded(alloc, 20)?,
+    };
+    issue(&rt, alloc, &desk.takes, &[b"b"])?;
+    let input = whole(b"get k\r\nget k\r\n");
+    let left = serve(
+        &rt,
+        alloc,
+        &desk,
+        &mut FixedClock(999),
+        &mut carriers,
+        input,
+    )?;
+    differs(&rt, &left, b"", 0);
+    Ok(())
+}
+
+/// At the other proxy a get of two keys has the request's name. One of its legs is the request's own, and it is the last one.
+#[test]
+fn the_answer_of_another_request_that_is_taken_differs(rt: HostRuntime) -> Result<(), Fail> {
+    let alloc = rt.alloc();
+    let nodes = Nodes::new(alloc)?;
+    let mut carriers = carriers(&rt, alloc, &nodes)?;
+    let desk = Torn {
+        issues: recorded(alloc, 20)?,
+        takes: recorded(alloc, 20)?,
+    };
+    let mut issued = issue(&rt, alloc, &desk.takes, &[b"k", b"b"])?;
+    let Some(leg) = issued.legs.pop() else {
+        return Err(Fail::from("no leg"));
+    };
+    holds(&rt, carriers.send(leg).is_none());
+    let Some(mut carried) = carriers.receive() else {
+        return Err(Fail::from("no leg came back"));
+    };
+    holds(
+        &rt,
+        matches!(desk.takes.take(&rt, &mut carried)?, Taken::Waiting),
+    );
+    let input = whole(b"get k\r\nget k\r\n");
+    let left = serve(
+        &rt,
+        alloc,
+        &desk,
+        &mut FixedClock(999),
+        &mut carriers,
+        input,
+    )?;
+    differs(&rt, &left, b"", 0);
+    Ok(())
+}
+
+/// A leg that was sent before the session began comes back in it, and answers its own request, which isn't the session's.
+#[test]
+fn the_answer_of_a_leg_that_the_session_did_not_send_differs(rt: HostRuntime) -> Result<(), Fail> {
+    let alloc = rt.alloc();
+    let nodes = Nodes::new(alloc)?;
+    let mut carriers = carriers(&rt, alloc, &nodes)?;
+    let desk = recorded(alloc, 20)?;
+    for leg in issue(&rt, alloc, &desk, &[b"k"])?.legs {
+        holds(&rt, carriers.send(leg).is_none());
+    }
+    let input = whole(b"get k\r\nget k\r\n");
+    let left = serve(
+        &rt,
+        alloc,
+        &desk,
+        &mut FixedClock(999),
+        &mut carriers,
+        input,
+    )?;
+    differs(&rt, &left, b"", 0);
+    Ok(())
+}
+
+/// What was answered before stays told and kept.
+#[test]
+fn what_was_answered_before_is_kept(rt: HostRuntime) -> Result<(), Fail> {
+    let alloc = rt.alloc();
+    let nodes = Nodes::new(alloc)?;
+    let mut carriers = carriers(&rt, alloc, &nodes)?;
+    let desk = Torn {
+        issues: recorded(alloc, 20)?,
+        takes: recorded(alloc, 20)?,
+    };
+    issue(&rt, alloc, &desk.takes, &[b"k"])?;
+    let input = whole(b"get k\r\nset k 0 0 1 noreply\r\nv\r\nget k\r\n");
+    let left = serve(
+        &rt,
+        alloc,
+        &desk,
+        &mut FixedClock(999),
+        &mut carriers,
+        input,
+    )?;
+    differs(&rt, &left, b"END\r\n", 1);
+    holds(
+        &rt,
+        left.served.answers.iter().all(|answer| !answer.given_up()),
+    );
+    Ok(())
+}
