@@ -50,6 +50,7 @@ fn replies_come_in_the_order_of_their_legs(rt: HostRuntime) -> Result<(), Fail> 
 }
 
 /// A gate that counts how often it is called.
+#[derive(Drop)]
 struct Counting {
     calls: AtomicU64,
 }
