@@ -1,0 +1,32 @@
+-- How a client of a fleet ends.
+use Rattle.std.proofs.Common.{◌≡◌, ℕ, List, [], map, Result, Err, IfOk, refl, sym, subst, inr}
+use Rattle.std.specs.Prelude.{Vec}
+use Rattle.std.specs.declared.alloc.Global.{Global}
+use Rattle.mr_text.specs.Sink.{SinkView}
+use Rattle.mr_text.specs.Source.{SourceView}
+use Rattle.mr_proxy.specs.Answer.{AnswerView}
+use Rattle.mr_proxy.specs.ProxyView.{ProxyView}
+use Rattle.mr_workers.specs.Closing.{ClosesSo}
+use Rattle.mr_workers.specs.declared.closed.Closed.{Closed}
+use Rattle.mr_workers.specs.Issuing.{Reads}
+use Rattle.mr_workers.specs.Recorded.{Gave}
+use Rattle.mr_workers.specs.declared.error.WorkerError.TheVariants.{NoThread}
+use Rattle.mr_fleet.specs.ClientEnd.{IsUnread, IsUnwritten, EndStands}
+
+-- a client ends that had no thread
+pub had_no_thread : {K : Type 0} (reads : Reads K) (failures : K → ℕ) (gave : Gave) (turns : ℕ) (reader : SourceView) (writer : SinkView) (issued : ℕ)
+    (took : List AnswerView) → IsUnread reader → IsUnwritten writer → issued ≡ 0 → took ≡ []
+    → EndStands reads failures gave turns reader writer issued took (Err NoThread)
+had_no_thread reads failures gave turns reader writer issued took unread unwritten unissued untaken =
+    inr (record { told = refl; unread = unread; unwritten = unwritten; unissued = unissued; untaken = untaken })
+
+-- a book that was held against these was held against what is the same
+pub closed_beside : {X : Type 0} (book : Result Closed X) (opening opening' : ProxyView) (shares shares' : List ℕ) (answers answers' : List (Vec AnswerView Global))
+    → opening' ≡ opening → shares ≡ shares' → answers ≡ answers'
+    → IfOk book (ClosesSo opening shares (map (λ (session : Vec AnswerView Global). session.items) answers))
+    → ∥ IfOk book (ClosesSo opening' shares' (map (λ (session : Vec AnswerView Global). session.items) answers')) ∥₁
+closed_beside book opening opening' shares shares' answers answers' same_opening same_shares same_answers closed =
+    ∣ subst (λ (o : ProxyView). IfOk book (ClosesSo o shares' (map (λ (session : Vec AnswerView Global). session.items) answers'))) (sym same_opening)
+    (subst (λ (s : List ℕ). IfOk book (ClosesSo opening s (map (λ (session : Vec AnswerView Global). session.items) answers'))) same_shares
+    (subst (λ (a : List (Vec AnswerView Global)). IfOk book (ClosesSo opening shares (map (λ (session : Vec AnswerView Global). session.items) a))) same_answers
+    closed)) ∣₁

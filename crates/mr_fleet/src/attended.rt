@@ -1,0 +1,74 @@
+//! What a client's thread hands over.
+ghost use Rattle.std.specs.Prelude.{◌≡◌};
+ghost use Rattle.mr_fleet.specs.ClientEnd.{EndStands};
+
+use crate::client_end::ClientEnd;
+use mr_clock::Clock;
+use mr_node::Ended;
+use mr_proxy::Answer;
+use mr_text::{Sink, Source};
+use mr_workers::{Carrier, Share, WorkerError};
+use std::marker::PhantomData;
+use std::snapshot::Snapshot;
+
+/// What a client's thread hands over: how the client ended, and what its proxy's book is held against.
+#[derive(Drop)]
+pub(crate) struct Attended<C: Carrier, K: Clock, S: Source, W: Sink> {
+    ended: Result<Ended, WorkerError>,
+    reader: S,
+    writer: W,
+    turns: u64,
+    share: Share,
+    answers: Vec<Answer>,
+    carrier: PhantomData<C>,
+    clock: PhantomData<K>,
+
+    /// The client had a session, and this is its end; or it had no thread.
+    pub ghost stands: { ∥ EndStands K.reads K.failures C.gave turns (S.told reader) (W.told writer) share answers.items ended ∥₁ },
+}
+
+impl<C: Carrier, K: Clock, S: Source, W: Sink> Attended<C, K, S, W> {
+    /// What a client came to.
+    pub(crate) fn of(
+        ended: Result<Ended, WorkerError>,
+        reader: S,
+        writer: W,
+        turns: u64,
+        share: Share,
+        answers: Vec<Answer>,
+    ) -> Attended<C, K, S, W>
+        requires { EndStands K.reads K.failures C.gave turns (S.told reader) (W.told writer) share answers.items ended }
+    {
+        Attended {
+            ended,
+            reader,
+            writer,
+            turns,
+            share,
+            answers,
+            carrier: PhantomData,
+            clock: PhantomData,
+        }
+    }
+
+    /// How the client ended, how many requests it issued, and the answers that it took.
+    pub(crate) fn into_parts(self) -> (ClientEnd<C, K, S, W>, Share, Vec<Answer>)
+        ensures issued { result.0.issued.value ≡ result.1 }
+        ensures took { result.0.took.value.items ≡ result.2.items }
+    {
+        let Self {
+            ended,
+            reader,
+            writer,
+            turns,
+            share,
+            answers,
+            carrier: _,
+            clock: _,
+        } = self;
+        let issued = Snapshot::of(&share);
+        let took = Snapshot::of(&answers);
+        let end = ClientEnd::of(ended, reader, writer, turns, issued, took);
+        (end, share, answers)
+    }
+}

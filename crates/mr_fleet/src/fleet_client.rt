@@ -1,0 +1,100 @@
+//! A client of a fleet.
+ghost use Rattle.std.specs.Prelude.{◌≡◌};
+ghost use Rattle.mr_fleet.specs.ClientEnd.{IsUnread, IsUnwritten};
+
+use crate::attended::Attended;
+use mr_clock::Clock;
+use mr_link_carriers::{LinkCarriers, Links};
+use mr_sessions::{Served, serve_client};
+use mr_text::{Sink, Source};
+use mr_workers::{Carrier, Desk, RecordedProxy, WorkerError};
+use std::alloc::Global;
+use std::sync::Wait;
+
+/// A client that wasn't served yet.
+#[derive(Drop)]
+pub struct FleetClient<K: Clock, S: Source, W: Sink> {
+    /// The clock at whose readings its requests are issued.
+    pub clock: K,
+    /// What its requests are read from.
+    pub reader: S,
+    /// What its answers are written to.
+    pub writer: W,
+    /// How many reads its session makes at most.
+    pub turns: u64,
+
+    /// Nothing was read yet.
+    pub ghost unread: { IsUnread (S.told reader) },
+
+    /// Nothing was written yet.
+    pub ghost unwritten: { IsUnwritten (W.told writer) },
+}
+
+impl<K: Clock, S: Source, W: Sink> FleetClient<K, S, W> {
+    /// A client whose session makes at most `turns` reads.
+    pub fn new(clock: K, reader: S, writer: W, turns: u64) -> FleetClient<K, S, W>
+        requires unread { IsUnread (S.told reader) }
+        requires unwritten { IsUnwritten (W.told writer) }
+        ensures clock { result.clock ≡ clock }
+        ensures reader { result.reader ≡ reader }
+        ensures writer { result.writer ≡ writer }
+        ensures turns { result.turns ≡ turns }
+    {
+        FleetClient {
+            clock,
+            reader,
+            writer,
+            turns,
+        }
+    }
+}
+
+impl<K: Clock + Drop, S: Source, W: Sink> FleetClient<K, S, W> {
+    /// Serves the client over these links.
+    pub(crate) fn serve<C: Carrier, R: Wait>(
+        self,
+        rt: &R,
+        alloc: Global,
+        desk: &RecordedProxy<C>,
+        links: Links<C>,
+    ) -> Attended<C, K, S, W> {
+        let Self {
+            mut clock,
+            mut reader,
+            mut writer,
+            turns,
+        } = self;
+        let mut carriers = LinkCarriers::new(rt, alloc, links);
+        let Served {
+            ended,
+            share,
+            answers,
+        } = serve_client(
+            rt,
+            alloc,
+            desk,
+            &mut clock,
+            &mut reader,
+            &mut writer,
+            &mut carriers,
+            turns,
+        );
+        Attended::of(ended, reader, writer, turns, share, answers)
+    }
+
+    /// Ends a client for which no thread could be made. It takes no memory.
+    pub(crate) fn unserved<C: Carrier>(
+        self,
+        alloc: Global,
+        desk: &RecordedProxy<C>,
+    ) -> Attended<C, K, S, W> {
+        let Self {
+            clock: _,
+            reader,
+            writer,
+            turns,
+        } = self;
+        let ended = Err(WorkerError::NoThread);
+        Attended::of(ended, reader, writer, turns, desk.share(), Vec::new(alloc))
+    }
+}

@@ -1,0 +1,68 @@
+//! The threads that own the connections to nodes.
+use crossbeam_channel::Sender;
+use mr_link_carriers::{Links, Load, carry_loads};
+use mr_workers::{Carrier, Gate};
+use std::alloc::Global;
+use std::sync::Wait;
+use std::thread::Scope;
+
+/// Starts the thread that owns a carrier, and gives the link to it. None where it couldn't be made. It ends once the last
+/// copy of its link is gone, and the scope waits for it.
+fn start_link<'s, E, C: Carrier + Send + Drop, G: Gate + Sync, R: Wait + Sync>(
+    rt: &'s R,
+    alloc: Global,
+    scope: &Scope<'s, E>,
+    carrier: C,
+    gate: &'s G,
+) -> Option<Sender<Load<C>>>
+where
+    C: 's,
+{
+    let (link, loads) = crossbeam_channel::unbounded(alloc).ok()?;
+    match scope.spawn(move || carry_loads(rt, carrier, loads, gate)) {
+        Ok(_) => Some(link),
+        Err(_) => None,
+    }
+}
+
+/// Starts the threads of one pool's carriers. Where memory for a link is refused, it and those behind it are missing.
+fn start_pool<'s, E, C: Carrier + Send + Drop, G: Gate + Sync, R: Wait + Sync>(
+    rt: &'s R,
+    alloc: Global,
+    scope: &Scope<'s, E>,
+    carriers: Vec<C>,
+    gate: &'s G,
+) -> Vec<Option<Sender<Load<C>>>>
+where
+    C: 's,
+{
+    let mut links = Vec::new(alloc);
+    for carrier in carriers {
+        let link = start_link(rt, alloc, scope, carrier, gate);
+        if links.push(link).is_err() {
+            break;
+        }
+    }
+    links
+}
+
+/// Starts the threads of all carriers of a proxy, and gives the links to them.
+pub(crate) fn start_links<'s, E, C: Carrier + Send + Drop, G: Gate + Sync, R: Wait + Sync>(
+    rt: &'s R,
+    alloc: Global,
+    scope: &Scope<'s, E>,
+    pools: Vec<Vec<C>>,
+    gate: &'s G,
+) -> Links<C>
+where
+    C: 's,
+{
+    let mut links = Vec::new(alloc);
+    for carriers in pools {
+        let pool = start_pool(rt, alloc, scope, carriers, gate);
+        if links.push(pool).is_err() {
+            break;
+        }
+    }
+    Links::new(links)
+}
