@@ -61,11 +61,11 @@ impl Gate for Counting {
     }
 }
 
-/// Sends the legs to two threads, one for each node, and takes what comes back.
+/// Sends the legs of one request after the other to two threads, one for each node, and takes what comes back.
 fn play<G: Gate + Sync, R: Threads + Wait + Abort + Sync>(
     rt: &R,
     alloc: Global,
-    legs: Vec<Leg>,
+    requests: Vec<Vec<Leg>>,
     gate: &G,
 ) -> Result<(), Fail> {
     let (to_old, at_old) = link(alloc)?;
@@ -79,12 +79,14 @@ fn play<G: Gate + Sync, R: Threads + Wait + Abort + Sync>(
         holds(rt, full.is_ok());
         holds(rt, other.is_ok());
         let mut carriers = LinkCarriers::new(rt, alloc, copied);
-        for leg in legs {
-            holds(rt, carriers.send(leg).is_none());
+        for legs in requests {
+            for leg in legs {
+                holds(rt, carriers.send(leg).is_none());
+            }
+            holds(rt, is_from_full(carriers.receive()));
+            holds(rt, is_from_other(carriers.receive()));
+            holds(rt, carriers.receive().is_none());
         }
-        holds(rt, is_from_full(carriers.receive()));
-        holds(rt, is_from_other(carriers.receive()));
-        holds(rt, carriers.receive().is_none());
     });
     Ok(())
 }
@@ -92,11 +94,13 @@ fn play<G: Gate + Sync, R: Threads + Wait + Abort + Sync>(
 #[test]
 fn threads_carry_each_leg_once_and_end_with_their_links(rt: HostRuntime) -> Result<(), Fail> {
     let alloc = rt.alloc();
-    let legs = legs_of(&rt, alloc)?;
+    let mut requests = Vec::new(alloc);
+    requests.push(legs_of(&rt, alloc)?)?;
+    requests.push(legs_of(&rt, alloc)?)?;
     let gate = Counting {
         calls: AtomicU64::new(0),
     };
-    play(&rt, alloc, legs, &gate)?;
-    holds(&rt, gate.calls.load(Ordering::SeqCst) == 2);
+    play(&rt, alloc, requests, &gate)?;
+    holds(&rt, gate.calls.load(Ordering::SeqCst) == 4);
     Ok(())
 }
