@@ -5,6 +5,7 @@ ghost use Rattle.mr_system_clock.specs.SystemClock.{Reads};
 
 use mr_clock::{Clock, ClockFault};
 use mr_text::GhostCount;
+use std::alloc::AllocError;
 use std::marker::Model;
 use std::time;
 use std::time::{SystemTime, UNIX_EPOCH};
@@ -55,6 +56,19 @@ impl<'a, R: time::Clock> Clock for SystemClock<'a, R> {
                 Err(ClockFault)
             }
         }
+    }
+}
+
+/// A clone is another clock of the same machine, which hasn't failed yet. It takes no memory.
+impl<'a, R: time::Clock> Clone for SystemClock<'a, R> {
+    ghost use Rattle.std.specs.Prelude.{◌≡◌, ⊤};
+
+    ghost is_clone = { λ _ clone. clone ≡ 0 };
+
+    ghost is_infallible = { λ _. ⊤ };
+
+    fn clone(&self) -> Result<SystemClock<'a, R>, AllocError> {
+        Ok(SystemClock::new(self.rt))
     }
 }
 

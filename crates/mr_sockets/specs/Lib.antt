@@ -1,0 +1,4 @@
+pub mod Address
+pub mod Listener
+pub mod Carriers
+pub mod SocketCarrier

@@ -1,0 +1,20 @@
+-- What connections are accepted from, as contracts see it, and the service of its connections.
+use Rattle.std.specs.Prelude.{◌≡◌, ℕ, ◌+◌, ◌≤◌}
+
+pub record ListenerView : Type 0 where
+  -- how many connections were accepted
+  pub accepted : ℕ
+  -- how often none could be accepted
+  pub failures : ℕ
+
+abbrev pub accepted_one : ListenerView → ListenerView
+accepted_one l = record l { accepted = l.accepted + 1 }
+
+abbrev pub failed_once : ListenerView → ListenerView
+failed_once l = record l { failures = l.failures + 1 }
+
+-- So many connections were asked for, no more and no fewer. So many of those that were accepted have this said of them.
+pub record AreAccepted (clients : ℕ) (old : ListenerView) (some : ℕ) (new : ListenerView) : Type 0 where
+  pub asked : new.accepted + new.failures ≡ old.accepted + old.failures + clients
+  pub steady : old.failures ≤ new.failures
+  pub among : old.accepted + some ≤ new.accepted
