@@ -184,12 +184,12 @@ impl<N: Net + Copy> Carrier for SocketCarrier<N> {
 
     ghost loses = { λ _. tt };
 
-    #[tactic(auto, using(crate::proofs::CarrierLemmas::carries_by, crate::proofs::CarrierLemmas::counted_by))]
     /// Carries a leg over the connection that there is, or over a new one, and gives the node's reply. After a fault there is
     /// no connection, so each leg after a fault makes one new connection.
     ///
     /// LinkBroken where no connection could be made, and where the input ended before the reply or in it. The other faults are
     /// those of `NodeLink`.
+    #[tactic(auto, using(crate::proofs::CarrierLemmas::carries_by, crate::proofs::CarrierLemmas::counted_by))]
     fn carry(&mut self, sheet: &LegSheet) -> Result<LegReply, WorkerError>
         ensures gave { IfOk result (λ reply. IsOfItsKind sheet.now reply) }
         ensures carries { MatchResult result

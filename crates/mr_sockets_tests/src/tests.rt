@@ -1,0 +1,130 @@
+//! Nodes, proxies and clients on sockets of this machine. Each listener takes a free port, and the routing is made of the
+//! names; its hash is the sum of a key's bytes, and the migration starts at 1000 with an interval of 100 seconds.
+mod clients;
+mod crowd;
+mod fleet;
+mod loss;
+
+ghost use Rattle.std.specs.Prelude.{IfOk};
+ghost use Rattle.mr_proxy.specs.ProxyView.{IsFresh};
+
+use mr_clock::FixedClock;
+use mr_node::CacheNode;
+use mr_phases::Schedule;
+use mr_pools::{NamedHash, NodeName, Pool, Routing};
+use mr_proxy::ProxyCore;
+use mr_sockets::{OverListener, SocketCarrier, serve_node, serve_proxy};
+use mr_workers::{Desk, SharedNode};
+use std::alloc::Global;
+use std::io;
+use std::io::{Read, Write};
+use std::net::{Net, OpenStream, Shutdown, SocketAddr, TcpListener, TcpStream};
+use std::sync::Wait;
+use std::test::Fail;
+use std::thread::Threads;
+
+/// How many reads each connection is allowed.
+const TURNS: u64 = 1_000_000;
+
+/// A socket that listens on a free port of this machine.
+fn listener<R: Net<Listener = TcpListener, Stream = TcpStream>>(rt: &R) -> io::Result<TcpListener> {
+    TcpListener::bind(rt, "127.0.0.1:0")
+}
+
+/// The name of the node that listens there.
+fn name_of(alloc: Global, listener: &TcpListener) -> Result<NodeName, Fail> {
+    let name = format!(in alloc; "{}", listener.local_addr()?)?;
+    Ok(NodeName::new(alloc, name.as_bytes())?)
+}
+
+/// The pool of the nodes that listen there.
+fn pool(alloc: Global, listeners: &[TcpListener]) -> Result<Pool, Fail> {
+    let mut names = Vec::new(alloc);
+    for listener in listeners {
+        names.push(name_of(alloc, listener)?)?;
+    }
+    Ok(Pool::new(names)?)
+}
+
+/// The routing from some nodes to others.
+fn routing(alloc: Global, old: &[TcpListener], new: &[TcpListener]) -> Result<Routing, Fail> {
+    Ok(Routing::new(pool(alloc, old)?, pool(alloc, new)?, NamedHash::Sum)?)
+}
+
+/// A proxy of this number.
+fn core_of(alloc: Global, number: u32, routing: &Routing) -> Result<ProxyCore, Fail>
+    ensures { IfOk result IsFresh }
+{
+    let schedule = Schedule::new(1000, 100)?;
+    Ok(ProxyCore::new(alloc, number, 0, routing.copy()?, schedule, 64))
+}
+
+fn node(alloc: Global) -> Result<SharedNode, Fail> {
+    Ok(SharedNode::new(CacheNode::new(alloc, 16)?))
+}
+
+/// Serves so many connections of a node, whose clock shows 999, and gives how many ended without a fault.
+fn node_serves<R: Threads + Wait + Sync>(
+    rt: &R,
+    alloc: Global,
+    listener: TcpListener,
+    node: &SharedNode,
+    clients: u64,
+) -> u64 {
+    let (_, served) = serve_node(
+        rt,
+        alloc,
+        OverListener::new(listener),
+        node,
+        clients,
+        TURNS,
+        &FixedClock(999),
+    );
+    served
+}
+
+/// Serves so many connections of a proxy, whose clock shows 999, and gives how many ended without a fault.
+fn proxy_serves<
+    N: Net<Listener = TcpListener, Stream = TcpStream> + Copy + Send + Sync,
+    D: Desk<SocketCarrier<N>> + Sync,
+    R: Threads + Wait + Sync,
+>(
+    rt: &R,
+    alloc: Global,
+    net: N,
+    listener: TcpListener,
+    desk: &D,
+    routing: &Routing,
+    clients: u64,
+) -> u64 {
+    let (_, served) = serve_proxy(
+        rt,
+        alloc,
+        net,
+        OverListener::new(listener),
+        desk,
+        routing,
+        clients,
+        TURNS,
+        &FixedClock(999),
+    );
+    served
+}
+
+/// What is answered to a client that sends these pieces, each by a call of its own, then sends no more and reads to the end.
+fn answers<R: Net>(
+    rt: &R,
+    alloc: Global,
+    address: SocketAddr,
+    pieces: &[&[u8]],
+) -> io::Result<Vec<u8>> {
+    let mut stream = TcpStream::connect(rt, address)?;
+    stream.set_nodelay(true)?;
+    for piece in pieces {
+        stream.write_all(piece)?;
+    }
+    let _ = stream.shutdown(Shutdown::Write);
+    let mut answers = Vec::new(alloc);
+    stream.read_to_end(&mut answers)?;
+    Ok(answers)
+}

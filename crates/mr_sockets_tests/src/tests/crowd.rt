@@ -1,0 +1,133 @@
+//! Several clients at once through two proxies, which have one old node and one new one.
+use super::{answers, core_of, listener, node, node_serves, proxy_serves, routing};
+use mr_pools::Routing;
+use mr_sockets::SocketCarrier;
+use mr_workers::{Desk, SharedNode, SharedProxy};
+use std::alloc::{AllocError, Global};
+use std::net::{Net, SocketAddr, TcpListener, TcpStream};
+use std::process::Abort;
+use std::sync::Wait;
+use std::test::Fail;
+use std::thread;
+use std::thread::Threads;
+
+/// How many clients there are at once at each proxy.
+const CLIENTS: usize = 3;
+
+/// What the client of a number sends, over a key of its own.
+fn requests(alloc: Global, client: usize) -> Result<String, AllocError> {
+    format!(in alloc;
+        "set key{client} 0 0 1\r\n{client}\r\nget key{client}\r\ndelete key{client}\r\nget key{client}\r\n"
+    )
+}
+
+/// What it has to be answered.
+fn wanted(alloc: Global, client: usize) -> Result<String, AllocError> {
+    format!(in alloc; "STORED\r\nVALUE key{client} 0 1\r\n{client}\r\nEND\r\nDELETED\r\nEND\r\n")
+}
+
+/// Whether the client of a number is answered what it has to be.
+fn is_answered<N: Net>(net: &N, alloc: Global, address: SocketAddr, client: usize) -> bool {
+    let (Ok(sent), Ok(wanted)) = (requests(alloc, client), wanted(alloc, client)) else {
+        return false;
+    };
+    match answers(net, alloc, address, &[sent.as_bytes()]) {
+        Ok(got) => got.as_slice() == wanted.as_bytes(),
+        Err(_) => false,
+    }
+}
+
+/// All clients at once, then one more at each proxy, of which the second gets what the first has set: whether each was
+/// answered what it has to be.
+fn crowd<
+    N: Net<Listener = TcpListener, Stream = TcpStream> + Copy + Send + Sync,
+    R: Threads + Sync,
+>(rt: &R, alloc: Global, net: N, addresses: [SocketAddr; 2]) -> Result<bool, AllocError> {
+    let each = thread::map_indices(
+        rt,
+        alloc,
+        2 * CLIENTS,
+        &|client| { is_answered(&net, alloc, addresses[client % 2], client) },
+    )?;
+    let set = answers(&net, alloc, addresses[0], &[b"set x 7 0 2\r\nhi\r\n"]);
+    let got = answers(&net, alloc, addresses[1], &[b"get x\r\n"]);
+    let set = set.is_ok_and(|bytes| bytes.as_slice() == b"STORED\r\n".as_slice());
+    let got = got.is_ok_and(|bytes| bytes.as_slice() == b"VALUE x 7 2\r\nhi\r\nEND\r\n".as_slice());
+    Ok(set && got && each.iter().all(|answered| *answered))
+}
+
+/// What each proxy served.
+fn proxies<
+    N: Net<Listener = TcpListener, Stream = TcpStream> + Copy + Send + Sync,
+    D: Desk<SocketCarrier<N>> + Sync,
+    R: Threads + Wait + Sync,
+>(
+    rt: &R,
+    alloc: Global,
+    net: N,
+    listeners: (TcpListener, TcpListener),
+    desks: &(D, D),
+    routing: &Routing,
+) -> (u64, u64) {
+    let clients = CLIENTS as u64 + 1;
+    let (first, second) = listeners;
+    thread::join(
+        rt,
+        move || proxy_serves(rt, alloc, net, first, &desks.0, routing, clients),
+        move || proxy_serves(rt, alloc, net, second, &desks.1, routing, clients),
+    )
+}
+
+/// The node, the proxies and the clients at once: how many connections node and proxies served, and whether each client was
+/// answered what it has to be.
+fn play<
+    N: Net<Listener = TcpListener, Stream = TcpStream> + Copy + Send + Sync,
+    D: Desk<SocketCarrier<N>> + Sync,
+    R: Threads + Wait + Sync,
+>(
+    rt: &R,
+    alloc: Global,
+    net: N,
+    node_listener: TcpListener,
+    node: &SharedNode,
+    listeners: (TcpListener, TcpListener),
+    desks: &(D, D),
+    routing: &Routing,
+    addresses: [SocketAddr; 2],
+) -> (u64, (u64, u64), Result<bool, AllocError>) {
+    let all = 2 * (CLIENTS as u64 + 1);
+    let (by_node, (by_proxies, answered)) = thread::join(
+        rt,
+        move || node_serves(rt, alloc, node_listener, node, all),
+        move || {
+            thread::join(
+                rt,
+                move || proxies(rt, alloc, net, listeners, desks, routing),
+                move || crowd(rt, alloc, net, addresses),
+            )
+        },
+    );
+    (by_node, by_proxies, answered)
+}
+
+#[test]
+fn several_clients_through_two_proxies(rt: HostRuntime) -> Result<(), Fail> {
+    let alloc = rt.alloc();
+    let old = [listener(&rt)?];
+    let new = [listener(&rt)?];
+    let routing = routing(alloc, &old, &new)?;
+    let desks = (
+        SharedProxy::new(core_of(alloc, 0, &routing)?),
+        SharedProxy::new(core_of(alloc, 1, &routing)?),
+    );
+    let listeners = (listener(&rt)?, listener(&rt)?);
+    let addresses = [listeners.0.local_addr()?, listeners.1.local_addr()?];
+    let node = node(alloc)?;
+    let [old] = old;
+    let (by_node, by_proxies, answered) = play(
+        &rt, alloc, &rt, old, &node, listeners, &desks, &routing, addresses,
+    );
+    assert_eq!(rt; (by_node, by_proxies), (8, (4, 4)));
+    assert!(rt; answered?);
+    Ok(())
+}
