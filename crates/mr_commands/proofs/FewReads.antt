@@ -2,26 +2,26 @@
 use Rattle.std.proofs.Common.{arith, ◌≡◌, ◌≤◌, ◌+◌, ℕ, List, Option, Some, None, Result, Ok, Err, refl, ap, subst, inl, inr}
 use Rattle.mr_text.specs.Source.{SourceView}
 use Rattle.mr_commands.proofs.RequestLemmas.{few_reads}
-use Rattle.mr_commands.proofs.WordLemmas.{one_said}
+use Rattle.mr_words.proofs.WordLemmas.{one_said}
 use Rattle.mr_commands.specs.Devices.{Devices}
-use Rattle.mr_commands.specs.Explain.{Told, told_by}
+use Rattle.mr_faults.specs.Explain.{Told, told_by}
 use Rattle.mr_commands.specs.ExplainCommand.{ExplainGives}
 use Rattle.mr_commands.specs.FirstRequest.{most_reads}
-use Rattle.mr_commands.specs.Given.{IsGiven, IsNotGiven, path_in}
+use Rattle.mr_commands.specs.Given.{IsGiven, IsNotGiven}
 use Rattle.mr_commands.specs.GivenText.{Makes, PrintsOf, Refuses}
 use Rattle.mr_commands.specs.PlanCommand.{PlanGives}
 use Rattle.mr_commands.specs.TimelineCommand.{TimelineGives}
 use Rattle.mr_commands.specs.Run.{EndsWith, Gives, ReadsFew, Runs, RunsCommand, most_reads_of, reads_without}
 use Rattle.mr_commands.specs.WholeInput.{FailsWhole, TakesWhole, most_taken}
-use Rattle.mr_commands.specs.Words.{AgreesWith}
+use Rattle.mr_words.specs.Words.{AgreesWith, path_in}
 use Rattle.mr_commands.specs.declared.ended.Ended.{Ended}
 use Rattle.mr_commands.specs.declared.ended.Ended.TheVariants.{Done, NotAccepted}
 use Rattle.mr_commands.specs.declared.fault.Fault.{Fault}
 use Rattle.mr_commands.specs.declared.fault.Fault.TheVariants.{Memory, Input, Output, File, Plan, Text}
-use Rattle.mr_commands.specs.declared.words.PlanValues.{PlanValues}
-use Rattle.mr_commands.specs.declared.words.TimelineValues.{TimelineValues}
-use Rattle.mr_commands.specs.declared.words.Wanted.{Wanted}
-use Rattle.mr_commands.specs.declared.words.Wanted.TheVariants as wanted
+use Rattle.mr_words.specs.declared.words.PlanValues.{PlanValues}
+use Rattle.mr_words.specs.declared.words.TimelineValues.{TimelineValues}
+use Rattle.mr_words.specs.declared.words.Wanted.{Wanted}
+use Rattle.mr_words.specs.declared.words.Wanted.TheVariants as wanted
 
 unread : (before after : SourceView) (most : ℕ) → after ≡ before → after.reads ≤ before.reads + most
 unread before after most same = let as_many : after.reads ≡ before.reads = ap (λ (s : SourceView). s.reads) same in omega arith

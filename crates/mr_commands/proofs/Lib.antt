@@ -1,15 +1,6 @@
 pub mod FewReads
 pub mod GivenLemmas
 pub mod InputLemmas
-pub mod ListLemmas
-pub mod PlainExplain
-pub mod PlainFile
-pub mod PlainPlan
-pub mod PlainTimeline
-pub mod PlainWalk
 pub mod RequestLemmas
 pub mod RunLemmas
-pub mod TableLemmas
 pub mod TextLemmas
-pub mod WordLemmas
-pub mod ReadLemmas

@@ -8,22 +8,22 @@ use Rattle.mr_commands.specs.declared.ended.Ended.{Ended}
 use Rattle.mr_commands.specs.declared.ended.Ended.TheVariants.{Done, NotAccepted}
 use Rattle.mr_commands.specs.declared.fault.Fault.{Fault}
 use Rattle.mr_commands.specs.declared.fault.Fault.TheVariants.{Memory}
-use Rattle.mr_commands.specs.Given.{IsGiven, path_in}
+use Rattle.mr_commands.specs.Given.{IsGiven}
 use Rattle.mr_commands.specs.GivenText.{Makes, WritesText}
-use Rattle.mr_commands.specs.declared.words.PlanValues.{PlanValues}
-use Rattle.mr_commands.specs.declared.words.TimelineValues.{TimelineValues}
-use Rattle.mr_commands.specs.declared.words.Wanted.{Wanted}
-use Rattle.mr_commands.specs.declared.words.Wanted.TheVariants as wanted
+use Rattle.mr_words.specs.declared.words.PlanValues.{PlanValues}
+use Rattle.mr_words.specs.declared.words.TimelineValues.{TimelineValues}
+use Rattle.mr_words.specs.declared.words.Wanted.{Wanted}
+use Rattle.mr_words.specs.declared.words.Wanted.TheVariants as wanted
 use Rattle.mr_commands.specs.ConfigFile.{LoadsConfig}
 use Rattle.mr_commands.specs.Devices.{Devices, devices, IsTold, Tells, NoneFailed}
-use Rattle.mr_commands.specs.Explain.{Told, told_by}
+use Rattle.mr_faults.specs.Explain.{Told, told_by}
 use Rattle.mr_commands.specs.ExplainCommand.{WritesExplanation}
 use Rattle.mr_commands.specs.PlanCommand.{WritesPlan}
 use Rattle.mr_commands.specs.TimelineCommand.{WritesTimeline}
 use Rattle.mr_commands.specs.Run.{Gives, EndsWith, RunsCommand, Runs}
 use Rattle.mr_commands.specs.Fault.{fault_line, readings_line}
 use Rattle.mr_commands.specs.Sources.{SourcesView}
-use Rattle.mr_commands.specs.Words.{Say, SayBadReadings, SayNothing}
+use Rattle.mr_words.specs.Words.{Say, SayBadReadings, SayNothing, path_in}
 
 -- a command that did what was wanted met no failure
 config_steady : (path : List ℕ) (before after : SourcesView) (config : ConfigView) → LoadsConfig path before (Ok config) after

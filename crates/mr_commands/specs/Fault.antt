@@ -1,39 +1,8 @@
 -- What is printed of a fault: the layer that found it, and the number and the name of the refusal.
 use Rattle.std.specs.Prelude.{◌≡◌, ℕ, List, ◌++◌, codes, string_bytes}
-use Rattle.mr_text.specs.declared.error.TextError.{TextError}
-use Rattle.mr_text.specs.declared.error.TextError.TheVariants.{LineTooLong, BadKey, BadNumber, WrongWords, DataTooLong, BadDataEnd, UnknownCommand, Truncated, Closed, OutOfMemory}
-use Rattle.mr_config.specs.declared.error.PlanError.{PlanError}
-use Rattle.mr_config.specs.declared.error.PlanError.TheVariants as plan
+use Rattle.mr_faults.specs.Lines.{text_fault_line, plan_fault_line}
 use Rattle.mr_commands.specs.declared.fault.Fault.{Fault}
 use Rattle.mr_commands.specs.declared.fault.Fault.TheVariants.{Memory, Input, Output, File, Plan, Text}
-
-abbrev pub text_fault_line : TextError → List ℕ
-text_fault_line LineTooLong = codes "migctl: text 1 LineTooLong\n"
-text_fault_line BadKey = codes "migctl: text 2 BadKey\n"
-text_fault_line BadNumber = codes "migctl: text 3 BadNumber\n"
-text_fault_line WrongWords = codes "migctl: text 4 WrongWords\n"
-text_fault_line DataTooLong = codes "migctl: text 5 DataTooLong\n"
-text_fault_line BadDataEnd = codes "migctl: text 6 BadDataEnd\n"
-text_fault_line (UnknownCommand closes) = codes "migctl: text 7 UnknownCommand\n"
-text_fault_line Truncated = codes "migctl: text 8 Truncated\n"
-text_fault_line Closed = codes "migctl: text 9 Closed\n"
-text_fault_line OutOfMemory = codes "migctl: text 10 OutOfMemory\n"
-
--- what a refusal carries isn't told
-abbrev pub plan_fault_line : PlanError → List ℕ
-plan_fault_line plan.NotJson = codes "migctl: plan 1 NotJson\n"
-plan_fault_line plan.WrongKind = codes "migctl: plan 2 WrongKind\n"
-plan_fault_line plan.MissingKey = codes "migctl: plan 3 MissingKey\n"
-plan_fault_line plan.UnknownKey = codes "migctl: plan 4 UnknownKey\n"
-plan_fault_line (plan.BadPool refusal) = codes "migctl: plan 5 BadPool\n"
-plan_fault_line plan.BadRoute = codes "migctl: plan 6 BadRoute\n"
-plan_fault_line (plan.BadSchedule refusal) = codes "migctl: plan 7 BadSchedule\n"
-plan_fault_line plan.BadHash = codes "migctl: plan 8 BadHash\n"
-plan_fault_line (plan.BadSetup refusal) = codes "migctl: plan 9 BadSetup\n"
-plan_fault_line (plan.BadEvent index) = codes "migctl: plan 10 BadEvent\n"
-plan_fault_line plan.TooLarge = codes "migctl: plan 11 TooLarge\n"
-plan_fault_line (plan.EventRefused index refusal) = codes "migctl: plan 12 EventRefused\n"
-plan_fault_line plan.OutOfMemory = codes "migctl: plan 13 OutOfMemory\n"
 
 -- where the file at this path can't be read
 abbrev pub file_line : List ℕ → List ℕ

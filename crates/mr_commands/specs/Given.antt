@@ -1,6 +1,5 @@
 -- The bytes that a command is given: those of a file, or of the input.
-use Rattle.std.specs.Borrow.{Bor}
-use Rattle.std.specs.Prelude.{◌≡◌, ℕ, List, Option, Some, None, option_map, Ok, Err, string_bytes}
+use Rattle.std.specs.Prelude.{◌≡◌, ℕ, List, Option, Some, None, Ok, Err, string_bytes}
 use Rattle.mr_commands.specs.Devices.{Devices}
 use Rattle.mr_commands.specs.Fault.{file_line}
 use Rattle.mr_commands.specs.Sources.{SourcesView, IsOneLoad}
@@ -9,10 +8,6 @@ use Rattle.mr_commands.specs.declared.fault.Fault.{Fault}
 use Rattle.mr_commands.specs.declared.fault.Fault.TheVariants.{Memory, File}
 use Rattle.mr_commands.specs.declared.sources.LoadFault.{LoadFault}
 use Rattle.mr_commands.specs.declared.sources.LoadFault.TheVariants.{Unreadable}
-
--- the path of the file that was named, if one was
-abbrev pub path_in : Option (Bor (List ℕ)) → Option (List ℕ)
-path_in file = option_map (λ path. path.now) file
 
 -- one load of the file at a path didn't give its bytes
 abbrev pub LacksFile : List ℕ → Fault → SourcesView → SourcesView → Type 0

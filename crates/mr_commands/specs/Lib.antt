@@ -1,9 +1,7 @@
 pub mod CheckCommand
 pub mod CheckText
-pub mod Command
 pub mod ConfigFile
 pub mod Devices
-pub mod Explain
 pub mod ExplainCommand
 pub mod Fault
 pub mod FirstRequest
@@ -20,5 +18,3 @@ pub mod Sources
 pub mod TimelineCommand
 pub mod TimelineText
 pub mod WholeInput
-pub mod WordSteps
-pub mod Words

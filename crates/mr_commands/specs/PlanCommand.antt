@@ -13,7 +13,7 @@ use Rattle.mr_commands.specs.declared.ended.Ended.{Ended}
 use Rattle.mr_commands.specs.declared.ended.Ended.TheVariants.{Done, NotAccepted}
 use Rattle.mr_commands.specs.declared.fault.Fault.{Fault}
 use Rattle.mr_commands.specs.declared.fault.Fault.TheVariants.{Memory, Input, Output, File, Plan, Text}
-use Rattle.mr_commands.specs.declared.words.PlanValues.{PlanValues}
+use Rattle.mr_words.specs.declared.words.PlanValues.{PlanValues}
 
 -- there is no configuration, for this fault, and nothing but its file was asked for
 pub record LacksConfig (path : List ℕ) (fault : Fault) (before after : Devices) : Type 0 where

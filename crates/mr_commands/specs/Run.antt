@@ -2,22 +2,21 @@
 use Rattle.std.specs.Prelude.{◌≡◌, ℕ, ◌+◌, ◌≤◌, ◌⊎◌, List, Option, Some, None, Result, Ok, Err}
 use Rattle.mr_commands.specs.CheckCommand.{CheckGives}
 use Rattle.mr_commands.specs.Devices.{Devices, Tells}
-use Rattle.mr_commands.specs.Explain.{told_by}
+use Rattle.mr_faults.specs.Explain.{told_by}
 use Rattle.mr_commands.specs.ExplainCommand.{ExplainGives}
 use Rattle.mr_commands.specs.Fault.{fault_line, readings_line}
 use Rattle.mr_commands.specs.FirstRequest.{most_reads}
-use Rattle.mr_commands.specs.Given.{path_in}
 use Rattle.mr_commands.specs.PlanCommand.{PlanGives}
 use Rattle.mr_commands.specs.RunCommand.{RunGives}
 use Rattle.mr_commands.specs.TimelineCommand.{TimelineGives}
 use Rattle.mr_commands.specs.WholeInput.{most_taken}
-use Rattle.mr_commands.specs.Words.{Say, SayBadReadings, SayNothing}
+use Rattle.mr_words.specs.Words.{Say, SayBadReadings, SayNothing, path_in}
 use Rattle.mr_commands.specs.declared.ended.Ended.{Ended}
 use Rattle.mr_commands.specs.declared.ended.Ended.TheVariants.{Done, NotAccepted}
 use Rattle.mr_commands.specs.declared.fault.Fault.{Fault}
 use Rattle.mr_commands.specs.declared.fault.Fault.TheVariants.{Memory}
-use Rattle.mr_commands.specs.declared.words.Wanted.{Wanted}
-use Rattle.mr_commands.specs.declared.words.Wanted.TheVariants.{Plan, Timeline, Run, Check, Explain}
+use Rattle.mr_words.specs.declared.words.Wanted.{Wanted}
+use Rattle.mr_words.specs.declared.words.Wanted.TheVariants.{Plan, Timeline, Run, Check, Explain}
 
 -- the status of a run that did what was wanted
 abbrev pub DONE : ℕ

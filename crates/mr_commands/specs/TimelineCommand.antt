@@ -7,12 +7,12 @@ use Rattle.mr_commands.specs.ConfigFile.{LoadsConfig}
 use Rattle.mr_commands.specs.Devices.{Devices}
 use Rattle.mr_commands.specs.PlanCommand.{LacksConfig}
 use Rattle.mr_commands.specs.TimelineText.{timeline_text}
-use Rattle.mr_commands.specs.Words.{readings_in}
+use Rattle.mr_words.specs.Words.{readings_in}
 use Rattle.mr_commands.specs.declared.ended.Ended.{Ended}
 use Rattle.mr_commands.specs.declared.ended.Ended.TheVariants.{Done}
 use Rattle.mr_commands.specs.declared.fault.Fault.{Fault}
 use Rattle.mr_commands.specs.declared.fault.Fault.TheVariants.{Memory, Output, File, Plan}
-use Rattle.mr_commands.specs.declared.words.TimelineValues.{TimelineValues}
+use Rattle.mr_words.specs.declared.words.TimelineValues.{TimelineValues}
 
 -- the timeline was handed to the output in one call, which answered so
 pub record WritesTimeline (timeline : TimelineValues) (before after : Devices) (answer : Result (Unit {0}) WriteFault) : Type 0 where

@@ -2,7 +2,8 @@
 ghost use Rattle.std.specs.Prelude.{IfOk, IfErr};
 ghost use Rattle.mr_text.specs.Sink.{SinkView};
 ghost use Rattle.mr_commands.specs.Devices.{devices};
-ghost use Rattle.mr_commands.specs.Given.{path_in, IsGiven, IsNotGiven};
+ghost use Rattle.mr_commands.specs.Given.{IsGiven, IsNotGiven};
+ghost use Rattle.mr_words.specs.Words.{path_in};
 
 use crate::fault::Fault;
 use crate::loading::load_bytes;

@@ -11,8 +11,8 @@ use crate::commands::{run_check, run_explain, run_plan, run_script, run_timeline
 use crate::ended::Ended;
 use crate::fault::Fault;
 use crate::sources::Sources;
-use crate::words::{Wanted, WordsFault, read_words};
 use mr_text::{Sink, Source};
+use mr_words::{Wanted, WordsFault, read_words};
 use std::alloc::Global;
 
 /// The status of a command that did what was wanted.

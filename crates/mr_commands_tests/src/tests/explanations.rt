@@ -9,6 +9,7 @@ use mr_phases::ScheduleError;
 use mr_pools::PoolError;
 use mr_proxy::ProxyError;
 use mr_text::{FailsAt, OverReader, OverWriter, TextError};
+use mr_workers::WorkerError;
 use mr_world::WorldError;
 use std::alloc::Global;
 use std::fmt::Debug;
@@ -17,7 +18,7 @@ use std::test::Fail;
 
 #[test]
 fn faults_are_explained(rt: HostRuntime) {
-    let cases: [(&str, &str, &[u8]); 13] = [
+    let cases: [(&str, &str, &[u8]); 14] = [
         (
             "text",
             "1",
@@ -70,6 +71,12 @@ fn faults_are_explained(rt: HostRuntime) {
             "2",
             b"world 2 NoSuchNode\nAn event or a held item names a node that no proxy's pools have, \
             or the capacity is 0. Look for the name in the lists of servers, and at capacity.\n",
+        ),
+        (
+            "workers",
+            "7",
+            b"workers 7 TurnsSpent\nAll reads that a connection may make were made. \
+            Look at --turns, and whether the other end sends its bytes singly.\n",
         ),
         (
             "plan",
@@ -220,6 +227,26 @@ fn proxies_and_worlds_are_named(rt: HostRuntime) -> Result<(), Fail> {
 }
 
 #[test]
+fn workers_are_named(rt: HostRuntime) -> Result<(), Fail> {
+    let alloc = rt.alloc();
+    let workers = [
+        WorkerError::LinkBroken,
+        WorkerError::Mismatch,
+        WorkerError::BookFull,
+        WorkerError::BookDiffers,
+        WorkerError::ReadFault,
+        WorkerError::WriteFault,
+        WorkerError::TurnsSpent,
+        WorkerError::OutOfMemory,
+        WorkerError::NoThread,
+    ];
+    for refusal in workers {
+        expect_named(&rt, alloc, "workers", refusal.number(), refusal)?;
+    }
+    Ok(())
+}
+
+#[test]
 fn plans_are_named(rt: HostRuntime) -> Result<(), Fail> {
     let alloc = rt.alloc();
     let plans = [
@@ -261,7 +288,8 @@ fn no_other_number_is_explained(rt: HostRuntime) {
         ("proxy", "5"),
         ("world", "7"),
         ("plan", "14"),
-        ("workers", "1"),
+        ("workers", "10"),
+        ("worker", "1"),
         ("Plan", "1"),
         ("pla", "1"),
         ("", "1"),

@@ -101,7 +101,7 @@ fn wrong_words_and_help_have_texts(rt: HostRuntime) {
             \x20 -h, --help  Print help\n\
             \n\
             The line of a fault is 'migctl: <layer> <number> <name>'. The layers are text, pools, clock,\n\
-            phases, node, proxy, world and plan. Neither word is a time. The standard input isn't read.\n\
+            phases, node, proxy, world, workers and plan. Neither word is a time. The standard input isn't read.\n\
             \n\
             Status: 0 done, 1 a fault, 2 wrong words or help. A fault is one line on the standard error.\n\
             \n\

@@ -4,7 +4,7 @@ use Rattle.mr_commands.proofs.GivenLemmas.{ends_not_given}
 use Rattle.mr_commands.specs.CheckCommand.{MakesCheck}
 use Rattle.mr_commands.specs.CheckText.{check_text, end_of}
 use Rattle.mr_commands.specs.Devices.{devices}
-use Rattle.mr_commands.specs.Given.{path_in}
+use Rattle.mr_words.specs.Words.{path_in}
 use Rattle.mr_commands.proofs.commands.run_check.Goals as goal
 
 pub returns-in_err-bytes : goal.returns-in_err-bytes

@@ -1,7 +1,7 @@
 use Rattle.std.proofs.Common.{inr, refl}
 use Rattle.mr_commands.proofs.GivenLemmas.{ends_not_given, ends_not_played}
 use Rattle.mr_commands.specs.Devices.{devices}
-use Rattle.mr_commands.specs.Given.{path_in}
+use Rattle.mr_words.specs.Words.{path_in}
 use Rattle.mr_commands.specs.RunCommand.{MakesTranscript, RefusesPlay}
 use Rattle.mr_commands.specs.declared.ended.Ended.TheVariants.{Done}
 use Rattle.mr_commands.proofs.commands.run_script.Goals as goal

@@ -1,7 +1,7 @@
 use Rattle.std.proofs.Common.{inl, refl}
 use Rattle.mr_commands.proofs.FewReads.{few}
 use Rattle.mr_commands.proofs.RunLemmas.{command_run, done_steady, memory_run, refused_readings_run, refused_words_run}
-use Rattle.mr_commands.specs.declared.words.Wanted.TheVariants.{Plan, Timeline, Run, Check, Explain}
+use Rattle.mr_words.specs.declared.words.Wanted.TheVariants.{Plan, Timeline, Run, Check, Explain}
 use Rattle.mr_commands.proofs.run.run_words.Goals as goal
 
 pub returns-in-Ok-Plan-clause-runs : goal.returns-in-Ok-Plan-clause-runs

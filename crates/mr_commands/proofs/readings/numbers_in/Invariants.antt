@@ -1,6 +1,0 @@
-use Rattle.std.proofs.Common.{take}
-use Rattle.mr_commands.specs.Words.{members_of, AreNumberWords}
-use Rattle.mr_commands.proofs.readings.numbers_in.Given as goal
-
-abbrev pub invariant-loop-piece : goal.invariant-loop-piece
-invariant-loop-piece l = AreNumberWords (take l.piece-index (members_of l.text)) l.numbers.items

@@ -1,0 +1,8 @@
+pub mod ListLemmas
+pub mod PlainWalk
+pub mod PlainPlan
+pub mod PlainTimeline
+pub mod PlainFile
+pub mod PlainExplain
+pub mod ReadLemmas
+pub mod WordLemmas

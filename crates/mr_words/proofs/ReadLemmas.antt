@@ -1,0 +1,88 @@
+-- What a parse by `clap` says of the words as a whole.
+use Rattle.std.proofs.Common.{◌≡◌, refl, subst, sym, List, [], ◌∷◌, true, inl, inr, Result, Ok, Err, IsErrAnd}
+use Rattle.clap.proofs.OnLiterals.{clap_on_literals}
+use Rattle.clap.specs.Faults.{is_simple_and_free}
+use Rattle.clap.specs.Kinds.{Kinds, HasKind}
+use Rattle.clap.specs.Values.{kind_of}
+use Rattle.clap.specs.Words.{Text, fault_of, is_simple, subcommand_of}
+use Rattle.clap.specs.declared.error.Error.{Error}
+use Rattle.clap.specs.declared.error.kind.ErrorKind.TheVariants.{OutOfMemory}
+use Rattle.mr_words.proofs.PlainExplain.{explanation_said}
+use Rattle.mr_words.proofs.PlainFile.{check_said, run_said}
+use Rattle.mr_words.proofs.PlainPlan.{plan_said}
+use Rattle.mr_words.proofs.PlainTimeline.{timeline_said}
+use Rattle.mr_words.proofs.WordLemmas.{one_said, said_not_bad}
+use Rattle.mr_words.specs.Command.{program_app}
+use Rattle.mr_words.specs.Words.{FindsBadReadings, FindsCommand, Found, ReadsAs, ReadsWords, Say, SayNothing, SaysPlainly, SayWhat}
+use Rattle.mr_words.specs.WordSteps.{GivesCommand, IsFaultOf}
+use Rattle.mr_words.specs.declared.words.Wanted.{Wanted}
+use Rattle.mr_words.specs.declared.words.Wanted.TheVariants.{Plan, Timeline, Run, Check, Explain}
+use Rattle.mr_words.specs.declared.words.WordsFault.{WordsFault}
+use Rattle.mr_words.specs.declared.words.WordsFault.TheVariants.{Wrong, Readings, Memory}
+
+pub simple : is_simple program_app ≡ true
+unfolding clap_on_literals
+simple = refl
+
+pub simple_and_free : is_simple_and_free program_app ≡ true
+unfolding clap_on_literals
+simple_and_free = refl
+
+-- a refusal of memory says nothing of the words
+pub memory_refused : (words : List Text) (result : Result Wanted WordsFault) → IsErrAnd result (λ fault. fault ≡ Memory) → ReadsWords words result
+memory_refused words (Ok read) h = absurd h
+memory_refused words (Err (Wrong text)) h = cc
+memory_refused words (Err Readings) h = cc
+memory_refused words (Err Memory) h = tt
+
+no_kind : (kinds : Kinds) (error : Error) → kinds ≡ [] → HasKind kinds error → kind_of error ≡ OutOfMemory
+no_kind [] error e (inl memory) = memory
+no_kind [] error e (inr never) = absurd never
+no_kind (k ∷ rest) error e h = cc
+
+-- words in which the command line finds a fault
+pub words_refused : (words : List Text) (error : Error) (result : Result Wanted WordsFault) → HasKind (fault_of program_app words) error
+    → IsErrAnd result (IsFaultOf error) → ReadsWords words result
+words_refused words error (Ok read) found h = absurd h
+words_refused words error (Err Memory) found h = tt
+words_refused words error (Err Readings) found h = absurd h
+words_refused words error (Err (Wrong text)) found h = record {
+  no_command = λ wanted says. h (no_kind (fault_of program_app words) error says.fits found);
+  no_readings = λ says. h (no_kind (fault_of program_app words) error says.fits found);
+}
+
+-- words in which it finds none
+pub words_say : (words : List Text) (found : Found) (holds : Found → Type 0) → fault_of program_app words ≡ [] → found ≡ subcommand_of program_app words
+    → holds found → SayWhat words holds
+words_say words found holds fits is finds = record { fits = fits; finds = subst holds is finds }
+
+pub words_say_nothing : (words : List Text) (found : Found) → found ≡ subcommand_of program_app words → ((wanted : Wanted) → ¬ FindsCommand found wanted)
+    → ¬ FindsBadReadings found → SayNothing words
+words_say_nothing words found is none not_bad = record {
+  no_command = λ wanted says. none wanted (subst (λ (o : Found). FindsCommand o wanted) (sym is) says.finds);
+  no_readings = λ says. not_bad (subst FindsBadReadings (sym is) says.finds);
+}
+
+-- words whose command wasn't made
+pub words_fail : (words : List Text) (found : Found) (fault : WordsFault) (result : Result Wanted WordsFault) → fault_of program_app words ≡ []
+    → found ≡ subcommand_of program_app words → GivesCommand found (Err fault) → IsErrAnd result (λ other. other ≡ fault) → ReadsWords words result
+words_fail words found fault (Ok read) fits is gives h = absurd h
+words_fail words found fault (Err (Wrong text)) fits is gives h = absurd (subst (λ (f : WordsFault). GivesCommand found (Err f)) (sym h) gives)
+words_fail words found fault (Err Readings) fits is gives h =
+    words_say words found FindsBadReadings fits is (subst (λ (f : WordsFault). GivesCommand found (Err f)) (sym h) gives)
+words_fail words found fault (Err Memory) fits is gives h = tt
+
+-- words that plainly say a command say it to `clap`
+plainly_said : (words : List Text) (wanted : Wanted) → SaysPlainly words wanted → Say words wanted
+plainly_said words (Plan values) says = plan_said words values says
+plainly_said words (Timeline values) says = timeline_said words values says.0 says.1 says.2
+plainly_said words (Run file) says = run_said words file says
+plainly_said words (Check file) says = check_said words file says
+plainly_said words (Explain explanation) says = explanation_said words explanation says
+
+-- what is read of words that plainly say a command
+pub reads_as : (words : List Text) (result : Result Wanted WordsFault) → ReadsWords words result → (wanted : Wanted) → SaysPlainly words wanted → ReadsAs wanted result
+reads_as words (Ok read) h wanted plainly = one_said words read wanted h (plainly_said words wanted plainly)
+reads_as words (Err (Wrong text)) h wanted plainly = h.no_command wanted (plainly_said words wanted plainly)
+reads_as words (Err Readings) h wanted plainly = said_not_bad words wanted (plainly_said words wanted plainly) h
+reads_as words (Err Memory) h wanted plainly = tt

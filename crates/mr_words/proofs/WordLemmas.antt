@@ -1,0 +1,244 @@
+-- What a parse by `clap` says of the words.
+use Rattle.std.proofs.Common.{◌≡◌, ℕ, ◌<◌, ◌^◌, ◌&&◌, ◌∙◌, Bool, true, false, not, List, [], ◌∷◌, Option, Some, None, ap, ap₂, refl, subst, sym, codes}
+use Rattle.std.specs.Prelude.{Box, IfNone, IfSome, option_map}
+use Rattle.std.specs.Box.{box_value}
+use Rattle.std.specs.Str.Parse.{IsNumeral, digits_value, without_leading_plus}
+use Rattle.clap.specs.Matches.{subcommand_name_of}
+use Rattle.clap.specs.Simple.{subcommand_rows}
+use Rattle.clap.specs.Words.{Row, Text, first_of, one_of, subcommand_rows_of}
+use Rattle.clap.specs.declared.parser.matches.ArgMatches.{ArgMatches}
+use Rattle.clap.specs.declared.parser.matches.ArgMatches.TheViews.{out-ArgMatches, out-SubCommand}
+use Rattle.clap.specs.declared.parser.matches.SubCommand.{SubCommand}
+use Rattle.mr_faults.proofs.TableLemmas.{table_complete}
+use Rattle.mr_faults.specs.Explain.{Told, explanation_of, told_by}
+use Rattle.mr_faults.specs.declared.explain.Explanation.{Explanation}
+use Rattle.mr_words.specs.Words.{AgreesWith, AreNumberWords, AreReadings, FindsBadReadings, FindsCommand, Found, HasBadReadings, HasExplanation, HasPlan, HasTimeline, IsNumberList, IsNumberWord, Say, SayBadReadings, readings_in}
+use Rattle.mr_words.specs.declared.words.PlanValues.{PlanValues}
+use Rattle.mr_words.specs.declared.words.TimelineValues.{TimelineValues}
+use Rattle.mr_words.specs.declared.words.Wanted.{Wanted}
+use Rattle.mr_words.specs.declared.words.Wanted.TheVariants.{Plan, Timeline, Run, Check, Explain}
+
+row_of_subcommand : {Z : Type 0} (o : Option (Box SubCommand Z)) (name : List ℕ) (rows : List Row)
+    → option_map (λ (b : Box SubCommand Z). (out-SubCommand (box_value b)).name.now) o ≡ Some name
+    → option_map (λ (p : List ℕ × List Row). p.1) (subcommand_rows o) ≡ Some rows → subcommand_rows o ≡ Some (name, rows)
+row_of_subcommand None name rows e f = cc
+row_of_subcommand (Some b) name rows e f = cc
+
+-- the subcommand of this name, with these rows
+pub sub_row : (m : ArgMatches) (name : List ℕ) (rows : List Row) → subcommand_name_of m ≡ Some name
+    → option_map (λ (p : List ℕ × List Row). p.1) (subcommand_rows_of m) ≡ Some rows → subcommand_rows_of m ≡ Some (name, rows)
+sub_row m name rows e f = row_of_subcommand (out-ArgMatches m).subcommand name rows e f
+
+-- the text that a number was read of
+pub number_read : (text : Option (List ℕ)) (number : ℕ) → (text ≡ None → Some number ≡ None)
+    → ((t : List ℕ) → text ≡ Some t
+    → (IsNumeral 10 (without_leading_plus t) × (digits_value 10 (without_leading_plus t) < 2 ^ 64)) × (number ≡ digits_value 10 (without_leading_plus t)))
+    → (t : List ℕ) × (text ≡ Some t) × IsNumberWord t number
+number_read None number none value = let never = none refl in cc
+number_read (Some t) number none value =
+    let read = value t refl in (t, refl, record { digits = read.0.0; value = read.1; fits = rw read.1 read.0.1 })
+
+-- a text that isn't there has no value
+pub text_missing : (text : Option (List ℕ)) (word : List ℕ) → None ≡ text → text ≡ Some word → ⊥
+text_missing text word none some = cc
+
+-- a text of which no number is read is no number
+pub number_missing : (text : Option (List ℕ))
+    → ((t : List ℕ) → text ≡ Some t → ¬ (IsNumeral 10 (without_leading_plus t) × (digits_value 10 (without_leading_plus t) < 2 ^ 64)))
+    → (word : List ℕ) (number : ℕ) → text ≡ Some word → IsNumberWord word number → ⊥
+number_missing text unread word number is number_is = unread word is (number_is.digits, rw (← number_is.value) number_is.fits)
+
+pub third_is_false : (a b g r : Bool) → (a && (b && (not g && r))) ≡ true → g ≡ false
+third_is_false true true false r h = refl
+third_is_false true true true r h = cc
+third_is_false true false g r h = cc
+third_is_false false b g r h = cc
+
+pub same_inside : {X : Type 0} (a b : X) (o : Option X) → o ≡ Some a → o ≡ Some b → a ≡ b
+same_inside a b o e f = cc
+
+same_number : (word other : List ℕ) (number same : ℕ) → word ≡ other → IsNumberWord word number → IsNumberWord other same → number ≡ same
+same_number word other number same e is other_is =
+    is.value ∙ (ap (λ (w : List ℕ). digits_value 10 (without_leading_plus w)) e ∙ sym other_is.value)
+
+same_numbers : (words : List Text) (numbers same : List ℕ) → AreNumberWords words numbers → AreNumberWords words same → numbers ≡ same
+same_numbers [] [] [] are also = refl
+same_numbers [] [] (s ∷ same) are also = absurd also
+same_numbers [] (n ∷ numbers) same are also = absurd are
+same_numbers (w ∷ words) [] same are also = absurd are
+same_numbers (w ∷ words) (n ∷ numbers) [] are also = absurd also
+same_numbers (w ∷ words) (n ∷ numbers) (s ∷ same) are also =
+    let head : n ≡ s = same_number w w n s refl are.0 also.0 in
+    let tail : numbers ≡ same = same_numbers words numbers same are.1 also.1 in
+    cc
+
+same_readings : (text : Option Text) (readings same : Option (List ℕ)) → AreReadings text readings → AreReadings text same → readings ≡ same
+same_readings None None None are also = refl
+same_readings None None (Some s) are also = absurd also
+same_readings None (Some r) same are also = absurd are
+same_readings (Some text) None same are also = absurd are
+same_readings (Some text) (Some r) None are also = absurd also
+same_readings (Some text) (Some r) (Some s) are also = ap (λ (numbers : List ℕ). Some numbers) (same_numbers _ r s are also)
+
+-- a command has one name
+other_name : {X : Type 0} (found : Option (Text × X)) (a b : Text) (r s : X) → found ≡ Some (a, r) → found ≡ Some (b, s) → a ≡ b
+other_name {X = X} found a b r s e f = ap (λ (p : Text × X). p.0) (same_inside (a, r) (b, s) found e f)
+
+-- the name of a command
+abbrev name_of : Wanted → Text
+name_of (Plan values) = codes "plan"
+name_of (Timeline values) = codes "timeline"
+name_of (Run file) = codes "run"
+name_of (Check file) = codes "check"
+name_of (Explain explanation) = codes "explain"
+
+-- what was found of a command begins with its name
+found_named : (found : Found) (wanted : Wanted) → FindsCommand found wanted → (rows : List Row) × (found ≡ Some (name_of wanted, rows))
+found_named found (Plan values) h = (h.0, h.1)
+found_named found (Timeline values) h = (h.0, h.1)
+found_named found (Run file) h = (h.0, h.1)
+found_named found (Check file) h = (h.0, h.1)
+found_named found (Explain explanation) h = (h.0, h.1)
+
+one_name : (found : Found) (wanted : Wanted) (name : Text) (rows : List Row) → FindsCommand found wanted → found ≡ Some (name, rows) → name_of wanted ≡ name
+one_name found wanted name rows h is = let named = found_named found wanted h in other_name found _ _ _ _ named.1 is
+
+same_rows : (found : Found) (name : Text) (a b : List Row) → found ≡ Some (name, a) → found ≡ Some (name, b) → a ≡ b
+same_rows found name a b e f = ap (λ (p : Text × List Row). p.1) (same_inside (name, a) (name, b) found e f)
+
+-- one layer and one number name one refusal
+same_told : (rows : List Row) (told same : Told) → HasExplanation rows told → HasExplanation rows same → told ≡ same
+same_told rows told same is also =
+    let layer : told.layer ≡ same.layer = same_inside _ _ _ is.layer_is also.layer_is in
+    let word : is.number ≡ also.number = same_inside _ _ _ is.number_row also.number_row in
+    let number : told.number ≡ same.number = same_number _ _ _ _ word is.number_is also.number_is in
+    same_inside told same (explanation_of told.layer told.number) is.is_told (ap₂ explanation_of layer number ∙ also.is_told)
+
+-- what was found is one command
+one_found : (found : Found) (read wanted : Wanted) → FindsCommand found read → FindsCommand found wanted → AgreesWith wanted read
+one_found found (Plan read) (Plan values) r p =
+    let also : HasPlan r.0 values = subst (λ (rows : List Row). HasPlan rows values) (same_rows found _ p.0 r.0 p.1 r.1) p.2 in (
+      same_inside _ _ _ r.2.config_is also.config_is,
+      same_number _ _ _ _ (same_inside _ _ _ r.2.at_row also.at_row) r.2.at_is also.at_is,
+    )
+one_found found (Timeline read) (Timeline values) r p =
+    let also : HasTimeline r.0 values = subst (λ (rows : List Row). HasTimeline rows values) (same_rows found _ p.0 r.0 p.1 r.1) p.2 in (
+      same_inside _ _ _ r.2.config_is also.config_is,
+      same_readings _ _ _ r.2.readings_are also.readings_are,
+    )
+one_found found (Run read) (Run file) r p = sym r.2 ∙ (ap (first_of (codes "file")) (same_rows found _ r.0 p.0 r.1 p.1) ∙ p.2)
+one_found found (Check read) (Check file) r p = sym r.2 ∙ (ap (first_of (codes "file")) (same_rows found _ r.0 p.0 r.1 p.1) ∙ p.2)
+one_found found (Explain read) (Explain explanation) r p =
+    let also : HasExplanation r.0 (told_by explanation) =
+    subst (λ (rows : List Row). HasExplanation rows (told_by explanation)) (same_rows found _ p.0 r.0 p.1 r.1) p.2 in
+    same_told r.0 (told_by read) (told_by explanation) r.2 also
+one_found found read wanted r p =
+    let named = found_named found wanted p in let same : name_of read ≡ name_of wanted = one_name found read (name_of wanted) named.0 r named.1 in cc
+
+-- words say one command
+pub one_said : (words : List Text) (read wanted : Wanted) → Say words read → Say words wanted → AgreesWith wanted read
+one_said words read wanted r p = one_found _ read wanted r.finds p.finds
+
+some_readings : (text : Option Text) (readings : Option (List ℕ)) (word : Text) → text ≡ Some word
+    → ((numbers : List ℕ) → ¬ AreReadings (Some word) (Some numbers)) → AreReadings text readings → ⊥
+some_readings None readings word e bad are = cc
+some_readings (Some t) None word e bad are = are
+some_readings (Some t) (Some numbers) word e bad are =
+    bad numbers (subst (λ (text : Option Text). AreReadings text (Some numbers)) e are)
+
+-- a timeline's readings aren't bad ones
+readings_not_bad : (rows : List Row) (readings : Option (List ℕ)) → AreReadings (first_of (codes "readings") rows) readings → ¬ HasBadReadings rows
+readings_not_bad rows readings are bad = some_readings _ readings bad.text bad.is bad.bad are
+
+pub said_not_bad : (words : List Text) (wanted : Wanted) → Say words wanted → ¬ SayBadReadings words
+said_not_bad words (Timeline values) says bad =
+    let also : HasBadReadings says.finds.0 = subst HasBadReadings (same_rows _ _ bad.finds.0 says.finds.0 bad.finds.1 says.finds.1) bad.finds.2 in
+    readings_not_bad says.finds.0 (readings_in values) says.finds.2.readings_are also
+said_not_bad words wanted says bad =
+    let same : name_of wanted ≡ codes "timeline" = one_name _ wanted (codes "timeline") bad.finds.0 says.finds bad.finds.1 in cc
+
+-- the readings that were given, and those that weren't
+pub readings_given : (text : Option Text) (word : Text) (numbers : List ℕ) → Some word ≡ text → IsNumberList word numbers → AreReadings text (Some numbers)
+readings_given text word numbers is are = subst (λ (o : Option Text). AreReadings o (Some numbers)) is are
+
+pub no_readings_given : (text : Option Text) → None ≡ text → AreReadings text None
+no_readings_given text none = subst (λ (o : Option Text). AreReadings o None) none tt
+
+-- nothing that is looked for was found
+pub record FindsNothing (found : Found) : Type 0 where
+  pub no_command : (wanted : Wanted) → ¬ FindsCommand found wanted
+  pub no_readings : ¬ FindsBadReadings found
+
+plan_not_said : (found : Found) (rows : List Row) → found ≡ Some (codes "plan", rows) → ((values : PlanValues) → ¬ HasPlan rows values)
+    → (wanted : Wanted) → ¬ FindsCommand found wanted
+plan_not_said found rows is none (Plan values) finds =
+    none values (subst (λ (r : List Row). HasPlan r values) (same_rows found _ finds.0 rows finds.1 is) finds.2)
+plan_not_said found rows is none wanted finds = let same : name_of wanted ≡ codes "plan" = one_name found wanted (codes "plan") rows finds is in cc
+
+-- a command of another name than `timeline` has no readings
+no_readings_of : (found : Found) (name : Text) (rows : List Row) → found ≡ Some (name, rows) → ¬ (name ≡ codes "timeline") → ¬ FindsBadReadings found
+no_readings_of found name rows is other finds = other (other_name found _ _ _ _ is finds.1)
+
+plan_is_no_timeline : ¬ (codes "plan" ≡ codes "timeline")
+plan_is_no_timeline e = cc
+
+explain_is_no_timeline : ¬ (codes "explain" ≡ codes "timeline")
+explain_is_no_timeline e = cc
+
+-- a plan without its values
+pub plan_not_found : (m : ArgMatches) (rows : List Row) → subcommand_rows_of m ≡ Some (codes "plan", rows) → ((values : PlanValues) → ¬ HasPlan rows values)
+    → FindsNothing (subcommand_rows_of m)
+plan_not_found m rows is none = record {
+  no_command = plan_not_said (subcommand_rows_of m) rows is none;
+  no_readings = no_readings_of (subcommand_rows_of m) (codes "plan") rows is plan_is_no_timeline;
+}
+
+explanation_not_said : (found : Found) (rows : List Row) → found ≡ Some (codes "explain", rows)
+    → ((explanation : Explanation) → ¬ HasExplanation rows (told_by explanation)) → (wanted : Wanted) → ¬ FindsCommand found wanted
+explanation_not_said found rows is none (Explain explanation) finds =
+    none explanation (subst (λ (r : List Row). HasExplanation r (told_by explanation)) (same_rows found _ finds.0 rows finds.1 is) finds.2)
+explanation_not_said found rows is none wanted finds =
+    let same : name_of wanted ≡ codes "explain" = one_name found wanted (codes "explain") rows finds is in cc
+
+-- a fault that no layer has
+pub explanation_not_found : (m : ArgMatches) (rows : List Row) → subcommand_rows_of m ≡ Some (codes "explain", rows)
+    → ((explanation : Explanation) → ¬ HasExplanation rows (told_by explanation)) → FindsNothing (subcommand_rows_of m)
+explanation_not_found m rows is none = record {
+  no_command = explanation_not_said (subcommand_rows_of m) rows is none;
+  no_readings = no_readings_of (subcommand_rows_of m) (codes "explain") rows is explain_is_no_timeline;
+}
+
+-- the explanation that a layer and a number name, and that they name none
+pub explanation_read : (rows : List Row) (layer word : Text) (number : ℕ) (found : Option Explanation) → Some layer ≡ first_of (codes "layer") rows
+    → Some word ≡ one_of (codes "number") rows → IsNumberWord word number → option_map told_by found ≡ explanation_of layer number
+    → IfSome found (λ explanation. HasExplanation rows (told_by explanation))
+explanation_read rows layer word number None layer_is word_is number_is found = tt
+explanation_read rows layer word number (Some explanation) layer_is word_is number_is found =
+    let told = told_by explanation in
+    let own : (told.layer ≡ layer) × (told.number ≡ number) =
+    subst (λ (o : Option Told). IfSome o (λ t. (t.layer ≡ layer) × (t.number ≡ number))) (sym found) (table_complete.own layer number) in
+    record {
+      number = word;
+      layer_is = sym layer_is ∙ ap (λ (text : Text). Some text) (sym own.0);
+      number_row = sym word_is;
+      number_is = subst (λ (n : ℕ). IsNumberWord word n) (sym own.1) number_is;
+      is_told = ap₂ explanation_of own.0 own.1 ∙ sym found;
+    }
+
+pub no_explanation_read : (rows : List Row) (layer word : Text) (number : ℕ) (found : Option Explanation) → Some layer ≡ first_of (codes "layer") rows
+    → Some word ≡ one_of (codes "number") rows → IsNumberWord word number → option_map told_by found ≡ explanation_of layer number
+    → IfNone found ((explanation : Explanation) → ¬ HasExplanation rows (told_by explanation))
+no_explanation_read rows layer word number (Some explanation) layer_is word_is number_is found = tt
+no_explanation_read rows layer word number None layer_is word_is number_is found = λ explanation has.
+    let told = told_by explanation in
+    let same_layer : told.layer ≡ layer = same_inside _ _ _ has.layer_is (sym layer_is) in
+    let same_word : has.number ≡ word = same_inside _ _ _ has.number_row (sym word_is) in
+    let number_same : told.number ≡ number = same_number _ _ _ _ same_word has.number_is number_is in
+    let some : explanation_of layer number ≡ Some told = ap₂ explanation_of (sym same_layer) (sym number_same) ∙ has.is_told in
+    cc
+
+-- a timeline without the name of its file
+pub timeline_lacks_config : (rows : List Row) (readings : Option (List ℕ)) → AreReadings (first_of (codes "readings") rows) readings
+    → None ≡ first_of (codes "config") rows → ((values : TimelineValues) → ¬ HasTimeline rows values) × ¬ HasBadReadings rows
+timeline_lacks_config rows readings are none =
+    ((λ values has. text_missing _ _ none has.config_is), readings_not_bad rows readings are)

@@ -1,0 +1,34 @@
+use Rattle.std.proofs.Common.{◌∙◌, codes, refl, sym}
+use Rattle.clap.proofs.WalkLemmas.{first_value-rows}
+use Rattle.clap.specs.Words.{found_of}
+use Rattle.mr_words.proofs.WordLemmas.{explanation_not_found, plan_not_found, sub_row}
+use Rattle.mr_words.proofs.words.wanted_of.Goals as goal
+
+pub returns-in-None : goal.returns-in-None
+returns-in-None c =
+    let found = sub_row c.args.matches.now _ _ (c.in-Some.ensures.found.0 refl) c.in-Some.ensures.rows in
+    let nothing = plan_not_found c.args.matches.now _ found c.in-None.ensures.missing in
+    (nothing.no_command, nothing.no_readings)
+
+pub returns-in-Some-subcommand_matches-2 : goal.returns-in-Some-subcommand_matches-2
+returns-in-Some-subcommand_matches-2 c =
+    let found = c.in-Some-subcommand_matches-2.ensures in (
+      _,
+      sub_row c.args.matches.now _ _ (found.found.0 refl) found.rows,
+      sym (c.get_str.ensures ∙ first_value-rows (found_of c.in-Some-subcommand_matches-2.found.now) (codes "file")),
+    )
+
+pub returns-in-Some-subcommand_matches-3 : goal.returns-in-Some-subcommand_matches-3
+returns-in-Some-subcommand_matches-3 c =
+    let found = c.in-Some-subcommand_matches-3.ensures in (
+      _,
+      sub_row c.args.matches.now _ _ (found.found.0 refl) found.rows,
+      sym (c.get_str-in-Some-subcommand_matches-3.ensures ∙ first_value-rows (found_of c.in-Some-subcommand_matches-3.found.now) (codes "file")),
+    )
+
+pub returns-in-None-explanation_in : goal.returns-in-None-explanation_in
+returns-in-None-explanation_in c =
+    let found =
+    sub_row c.args.matches.now _ _ (c.in-Some-subcommand_matches-4.ensures.found.0 refl) c.in-Some-subcommand_matches-4.ensures.rows in
+    let nothing = explanation_not_found c.args.matches.now _ found c.in-None-explanation_in.ensures.missing in
+    (nothing.no_command, nothing.no_readings)

@@ -1,0 +1,40 @@
+-- What private functions that read words say to one another. No clause of a public call cites these definitions.
+use Rattle.std.specs.Prelude.{◌≡◌, ◌≢◌, ⊤, ℕ, List, Option, Some, None, option_map, Result, Ok, Err, Vec, codes}
+use Rattle.clap.specs.Values.{kind_of}
+use Rattle.clap.specs.Words.{Row, first_of}
+use Rattle.clap.specs.declared.error.Error.{Error}
+use Rattle.clap.specs.declared.error.kind.ErrorKind.TheVariants.{OutOfMemory}
+use Rattle.mr_words.specs.Words.{AreReadings, HasTimeline, HasBadReadings, Found, FindsCommand, FindsBadReadings}
+use Rattle.mr_words.specs.declared.words.TimelineValues.{TimelineValues}
+use Rattle.mr_words.specs.declared.words.Wanted.{Wanted}
+use Rattle.mr_words.specs.declared.words.WordsFault.{WordsFault}
+use Rattle.mr_words.specs.declared.words.WordsFault.TheVariants.{Wrong, Readings, Memory}
+
+-- the readings in rows, or that they are no list of numbers
+abbrev pub GivesReadings : {Z : Type 0} → List Row → Result (Option (Vec ℕ Z)) WordsFault → Type 0
+GivesReadings rows (Ok readings) = AreReadings (first_of (codes "readings") rows) (option_map (λ numbers. numbers.items) readings)
+GivesReadings rows (Err Readings) = HasBadReadings rows
+GivesReadings rows (Err Memory) = ⊤
+GivesReadings rows (Err (Wrong error)) = ⊥
+
+-- the timeline of rows, or why they hold none
+abbrev pub GivesTimeline : List Row → Result (Option TimelineValues) WordsFault → Type 0
+GivesTimeline rows (Ok (Some values)) = HasTimeline rows values
+GivesTimeline rows (Ok None) = ((values : TimelineValues) → ¬ HasTimeline rows values) × ¬ HasBadReadings rows
+GivesTimeline rows (Err Readings) = HasBadReadings rows
+GivesTimeline rows (Err Memory) = ⊤
+GivesTimeline rows (Err (Wrong error)) = ⊥
+
+-- the command of what was found, or why that is none
+abbrev pub GivesCommand : Found → Result (Option Wanted) WordsFault → Type 0
+GivesCommand found (Ok (Some wanted)) = FindsCommand found wanted
+GivesCommand found (Ok None) = ((wanted : Wanted) → ¬ FindsCommand found wanted) × ¬ FindsBadReadings found
+GivesCommand found (Err Readings) = FindsBadReadings found
+GivesCommand found (Err Memory) = ⊤
+GivesCommand found (Err (Wrong error)) = ⊥
+
+-- the fault that an error of `clap` becomes
+abbrev pub IsFaultOf : Error → WordsFault → Type 0
+IsFaultOf error (Wrong text) = kind_of error ≢ OutOfMemory
+IsFaultOf error Memory = kind_of error ≡ OutOfMemory
+IsFaultOf error Readings = ⊥

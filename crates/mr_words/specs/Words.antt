@@ -1,0 +1,178 @@
+-- What the words of the command line say.
+use Rattle.std.specs.Prelude.{◌≡◌, ◌≢◌, ℕ, ◌<◌, ◌^◌, ◌==◌, ⊤, List, [], ◌∷◌, Option, Some, None, option_map, Result, Ok, Err, codes}
+use Rattle.std.specs.Borrow.{Bor}
+use Rattle.std.specs.List.{slice_split}
+use Rattle.std.specs.Str.Parse.{IsNumeral, digits_value, without_leading_plus}
+use Rattle.clap.specs.Words.{Row, Text, fault_of, first_of, one_of, subcommand_of}
+use Rattle.mr_words.specs.Command.{program_app}
+use Rattle.mr_faults.specs.Explain.{Told, told_by, explanation_of}
+use Rattle.mr_words.specs.declared.words.PlanValues.{PlanValues}
+use Rattle.mr_words.specs.declared.words.TimelineValues.{TimelineValues}
+use Rattle.mr_words.specs.declared.words.Wanted.{Wanted}
+use Rattle.mr_words.specs.declared.words.Wanted.TheVariants.{Plan, Timeline, Run, Check, Explain}
+use Rattle.mr_words.specs.declared.words.WordsFault.{WordsFault}
+use Rattle.mr_words.specs.declared.words.WordsFault.TheVariants.{Wrong, Readings, Memory}
+
+-- the word is this number, in decimal digits, with or without a plus sign before them
+pub record IsNumberWord (word : List ℕ) (number : ℕ) : Type 0 where
+  pub digits : IsNumeral 10 (without_leading_plus word)
+  pub value : number ≡ digits_value 10 (without_leading_plus word)
+  pub fits : number < 2 ^ 64
+
+-- the words are these numbers, one by one
+abbrev pub AreNumberWords : List Text → List ℕ → Type 0
+AreNumberWords [] [] = ⊤
+AreNumberWords (word ∷ words) (number ∷ numbers) = IsNumberWord word number × AreNumberWords words numbers
+AreNumberWords _ _ = ⊥
+
+-- the members of a list: what stands between its commas, empty members too
+abbrev pub members_of : Text → List Text
+members_of text = slice_split (λ byte. byte == 44) text
+
+-- the text is a list of these numbers
+abbrev pub IsNumberList : Text → List ℕ → Type 0
+IsNumberList text numbers = AreNumberWords (members_of text) numbers
+
+-- the text of an option that may be left out is a list of these numbers
+abbrev pub AreReadings : Option Text → Option (List ℕ) → Type 0
+AreReadings None None = ⊤
+AreReadings (Some text) (Some numbers) = IsNumberList text numbers
+AreReadings _ _ = ⊥
+
+-- the readings among the values of a timeline
+abbrev pub readings_in : TimelineValues → Option (List ℕ)
+readings_in values = option_map (λ numbers. numbers.items) values.readings
+
+-- the rows that a parse found hold the values of a plan
+pub record HasPlan (rows : List Row) (values : PlanValues) : Type 0 where
+  pub at : List ℕ
+  pub config_is : first_of (codes "config") rows ≡ Some values.config.now
+  pub at_row : one_of (codes "at") rows ≡ Some at
+  pub at_is : IsNumberWord at values.at
+
+-- the rows that a parse found hold the values of a timeline
+pub record HasTimeline (rows : List Row) (values : TimelineValues) : Type 0 where
+  pub config_is : first_of (codes "config") rows ≡ Some values.config.now
+  pub readings_are : AreReadings (first_of (codes "readings") rows) (readings_in values)
+
+-- the rows that a parse found have readings that are no list of numbers
+pub record HasBadReadings (rows : List Row) : Type 0 where
+  pub text : List ℕ
+  pub is : first_of (codes "readings") rows ≡ Some text
+  pub bad : (numbers : List ℕ) → ¬ IsNumberList text numbers
+
+-- the path of the file that was named, if one was
+abbrev pub path_in : Option (Bor (List ℕ)) → Option (List ℕ)
+path_in file = option_map (λ path. path.now) file
+
+-- the rows that a parse found name this file, or none
+abbrev pub HasFile : List Row → Option Text → Type 0
+HasFile rows file = first_of (codes "file") rows ≡ file
+
+-- the rows that a parse found name a refusal that is told of
+pub record HasExplanation (rows : List Row) (told : Told) : Type 0 where
+  pub number : List ℕ
+  pub layer_is : first_of (codes "layer") rows ≡ Some told.layer
+  pub number_row : one_of (codes "number") rows ≡ Some number
+  pub number_is : IsNumberWord number told.number
+  pub is_told : explanation_of told.layer told.number ≡ Some told
+
+-- what a parse found: the name of a command, and its rows
+abbrev pub Found : Type 0
+Found = Option (Text × List Row)
+
+-- the command of this name was found, with rows of which this holds
+abbrev pub Finds : Text → (List Row → Type 0) → Found → Type 0
+Finds name holds found = (rows : List Row) × (found ≡ Some (name, rows)) × holds rows
+
+-- this command was found
+abbrev pub FindsCommand : Found → Wanted → Type 0
+FindsCommand found (Plan values) = Finds (codes "plan") (λ rows. HasPlan rows values) found
+FindsCommand found (Timeline values) = Finds (codes "timeline") (λ rows. HasTimeline rows values) found
+FindsCommand found (Run file) = Finds (codes "run") (λ rows. HasFile rows (path_in file)) found
+FindsCommand found (Check file) = Finds (codes "check") (λ rows. HasFile rows (path_in file)) found
+FindsCommand found (Explain explanation) = Finds (codes "explain") (λ rows. HasExplanation rows (told_by explanation)) found
+
+-- a timeline was found whose readings are no list of numbers
+abbrev pub FindsBadReadings : Found → Type 0
+FindsBadReadings found = Finds (codes "timeline") HasBadReadings found
+
+-- the program's command line finds no fault in the words, and of what it finds in them this holds
+pub record SayWhat (words : List Text) (holds : Found → Type 0) : Type 0 where
+  pub fits : fault_of program_app words ≡ []
+  pub finds : holds (subcommand_of program_app words)
+
+-- the words are this command
+abbrev pub Say : List Text → Wanted → Type 0
+Say words wanted = SayWhat words (λ found. FindsCommand found wanted)
+
+-- the words are a timeline whose readings are no list of numbers
+abbrev pub SayBadReadings : List Text → Type 0
+SayBadReadings words = SayWhat words FindsBadReadings
+
+-- the words say no command, nor one with such readings
+pub record SayNothing (words : List Text) : Type 0 where
+  pub no_command : (wanted : Wanted) → ¬ Say words wanted
+  pub no_readings : ¬ SayBadReadings words
+
+-- What comes of reading words: the command that they say, or that their readings are no list of numbers, or that they
+-- say neither, unless memory is refused.
+abbrev pub ReadsWords : List Text → Result Wanted WordsFault → Type 0
+ReadsWords words (Ok wanted) = Say words wanted
+ReadsWords words (Err (Wrong error)) = SayNothing words
+ReadsWords words (Err Readings) = SayBadReadings words
+ReadsWords words (Err Memory) = ⊤
+
+-- the word is no option: it doesn't begin with a hyphen
+abbrev pub IsNoOption : Text → Type 0
+IsNoOption [] = ⊤
+IsNoOption (byte ∷ _) = byte ≢ 45
+
+-- the words are `plan` and its two options, and the file's name doesn't look like an option
+pub record SaysPlan (words : List Text) (values : PlanValues) : Type 0 where
+  pub at : Text
+  pub words_are : words ≡ codes "plan" ∷ codes "--config" ∷ values.config.now ∷ codes "--at" ∷ at ∷ []
+  pub at_is : IsNumberWord at values.at
+  pub config_is_none : IsNoOption values.config.now
+
+-- the words are `timeline` and its options, of which the readings may be left out, and no value looks like an option
+abbrev pub SaysTimeline : List Text → Text → Option Text → Type 0
+SaysTimeline words config None = (words ≡ codes "timeline" ∷ codes "--config" ∷ config ∷ []) × IsNoOption config
+SaysTimeline words config (Some readings) =
+    (words ≡ codes "timeline" ∷ codes "--config" ∷ config ∷ codes "--readings" ∷ readings ∷ []) × IsNoOption config × IsNoOption readings
+
+-- the words are the command's name and a file, which may be left out, and its name doesn't look like an option
+abbrev pub SaysFile : Text → List Text → Option Text → Type 0
+SaysFile name words None = words ≡ name ∷ []
+SaysFile name words (Some file) = (words ≡ name ∷ file ∷ []) × IsNoOption file
+
+-- the words are `explain`, and the layer and the number of a refusal that is told of
+pub record SaysExplain (words : List Text) (told : Told) : Type 0 where
+  pub number : Text
+  pub words_are : words ≡ codes "explain" ∷ told.layer ∷ number ∷ []
+  pub number_is : IsNumberWord number told.number
+  pub is_told : explanation_of told.layer told.number ≡ Some told
+
+-- the words plainly are this command
+abbrev pub SaysPlainly : List Text → Wanted → Type 0
+SaysPlainly words (Plan values) = SaysPlan words values
+SaysPlainly words (Timeline values) =
+    (readings : Option Text) × SaysTimeline words values.config.now readings × AreReadings readings (readings_in values)
+SaysPlainly words (Run file) = SaysFile (codes "run") words (path_in file)
+SaysPlainly words (Check file) = SaysFile (codes "check") words (path_in file)
+SaysPlainly words (Explain explanation) = SaysExplain words (told_by explanation)
+
+-- both are the same command with the same values
+abbrev pub AgreesWith : Wanted → Wanted → Type 0
+AgreesWith (Plan values) (Plan read) = (read.config.now ≡ values.config.now) × (read.at ≡ values.at)
+AgreesWith (Timeline values) (Timeline read) = (read.config.now ≡ values.config.now) × (readings_in read ≡ readings_in values)
+AgreesWith (Run file) (Run read) = path_in read ≡ path_in file
+AgreesWith (Check file) (Check read) = path_in read ≡ path_in file
+AgreesWith (Explain explanation) (Explain read) = told_by read ≡ told_by explanation
+AgreesWith _ _ = ⊥
+
+-- this command was read, unless memory was refused
+abbrev pub ReadsAs : Wanted → Result Wanted WordsFault → Type 0
+ReadsAs wanted (Ok read) = AgreesWith wanted read
+ReadsAs wanted (Err Memory) = ⊤
+ReadsAs wanted (Err fault) = ⊥

@@ -1,0 +1,322 @@
+//! The words of the command line.
+ghost use Rattle.std.specs.Prelude.{◌≡◌, None, false, map, IfOk, IfSome, IfNone, option_map};
+ghost use Rattle.clap.specs.Words.{app_of, found_of, rows_of, rule_of, subcommand_rows_of};
+ghost use Rattle.mr_words.specs.Command.{option_rule, config_rule, file_rule, file_app, word_rule, plan_app, timeline_app, explain_app, program_app};
+ghost use Rattle.mr_faults.specs.Explain.{told_by};
+ghost use Rattle.mr_words.specs.Words.{HasPlan, HasExplanation, ReadsWords, SaysPlainly, ReadsAs};
+ghost use Rattle.mr_words.specs.WordSteps.{IsFaultOf, GivesReadings, GivesTimeline, GivesCommand};
+
+use crate::help::{CHECK_NOTES, EXPLAIN_NOTES, PLAN_NOTES, RUN_NOTES, TIMELINE_NOTES};
+use crate::readings::numbers_in;
+use clap::error::ErrorKind;
+use clap::{Arg, ArgAction, ArgMatches, Command, Error, value_parser};
+use mr_faults::{Explanation, find_explanation};
+use std::alloc::{AllocError, Global};
+
+/// The values of the command `plan`.
+#[derive(Clone, Copy, Debug)]
+pub struct PlanValues<'a> {
+    /// The path of the configuration's file.
+    pub config: &'a str,
+    /// The moment of the plan, in seconds since the epoch.
+    pub at: u64,
+}
+
+/// The values of the command `timeline`.
+#[derive(Debug, Drop)]
+pub struct TimelineValues<'a> {
+    /// The path of the configuration's file.
+    pub config: &'a str,
+    /// What clocks read, in seconds since the epoch, where it was given.
+    pub readings: Option<Vec<u64>>,
+}
+
+impl TimelineValues<'_> {
+    ghost use Rattle.mr_words.specs.Words.{readings_in};
+
+    /// What clocks read, where it was given.
+    pub fn readings(&self) -> Option<&[u64]>
+        ensures { option_map (λ numbers. numbers.now) result ≡ readings_in self.now }
+    {
+        match &self.readings {
+            Some(readings) => Some(readings.as_slice()),
+            None => None,
+        }
+    }
+}
+
+/// What the words ask for: a command with its values.
+#[derive(Debug, Drop)]
+pub enum Wanted<'a> {
+    /// Where a request goes.
+    Plan(PlanValues<'a>),
+    /// When each phase is.
+    Timeline(TimelineValues<'a>),
+    /// The transcript of the script in a file, or of the one on the input.
+    Run(Option<&'a str>),
+    /// What is found of the transcript in a file, or of the one on the input.
+    Check(Option<&'a str>),
+    /// What a fault means.
+    Explain(Explanation<'static>),
+}
+
+/// Why the words give no command.
+#[derive(Debug, Drop)]
+pub enum WordsFault {
+    /// The words are wrong, or call for help: its text is for the user.
+    Wrong(Error),
+    /// The readings are no list of numbers.
+    Readings,
+    /// Memory was refused.
+    Memory,
+}
+
+ghost use Rattle.mr_words.specs.declared.words.WordsFault.TheVariants.{Memory};
+
+impl From<AllocError> for WordsFault {
+    ghost from_gives = { λ error fault. fault ≡ Memory };
+
+    fn from(_error: AllocError) -> WordsFault {
+        WordsFault::Memory
+    }
+}
+
+impl From<Error> for WordsFault {
+    ghost from_gives = { λ error fault. IsFaultOf error fault };
+
+    fn from(error: Error) -> WordsFault {
+        if error.kind() == ErrorKind::OutOfMemory {
+            WordsFault::Memory
+        } else {
+            WordsFault::Wrong(error)
+        }
+    }
+}
+
+/// What help says of the command `run`.
+const RUN_ABOUT: &str = "Plays a script and prints its transcript";
+
+/// What help says of the command `check`.
+const CHECK_ABOUT: &str = "Plays a transcript again and prints what is found of it";
+
+/// An option with a value, by its name, and what help calls its value.
+fn option<'a>(alloc: Global, name: &'a str, value: &'a str, help: &'a str) -> Arg<'a>
+    ensures rule { rule_of result ≡ option_rule name.entry.now None false }
+    ensures local { result.global ≡ false }
+{
+    Arg::new(alloc, name)
+        .long(name)
+        .value_name(value)
+        .action(ArgAction::Set)
+        .help(help)
+}
+
+/// The option that names the file of the configuration.
+fn config_option<'a>(alloc: Global) -> Arg<'a>
+    ensures rule { rule_of result ≡ config_rule }
+    ensures local { result.global ≡ false }
+{
+    let config = option(alloc, "config", "file", "The file of the configuration");
+    config.required(true)
+}
+
+/// The command `plan`.
+fn plan_command<'a>(alloc: Global) -> Result<Command<'a>, AllocError>
+    ensures { IfOk result (λ command. app_of command ≡ plan_app) }
+{
+    let at = option(
+        alloc,
+        "at",
+        "seconds",
+        "When the request arrives, in seconds since the epoch",
+    );
+    Command::new(alloc, "plan")
+        .about("Prints where the request on the standard input goes")
+        .after_help(PLAN_NOTES)
+        .arg(config_option(alloc))?
+        .arg(at.required(true).value_parser(value_parser!(u64)))
+}
+
+/// The command `timeline`.
+fn timeline_command<'a>(alloc: Global) -> Result<Command<'a>, AllocError>
+    ensures { IfOk result (λ command. app_of command ≡ timeline_app) }
+{
+    let readings = option(
+        alloc,
+        "readings",
+        "list",
+        "What clocks read, in seconds since the epoch, with commas between them",
+    );
+    Command::new(alloc, "timeline")
+        .about("Prints when each phase of the migration is")
+        .after_help(TIMELINE_NOTES)
+        .arg(config_option(alloc))?
+        .arg(readings)
+}
+
+/// A command that is given a file by its path, or else the input.
+fn file_command<'a>(
+    alloc: Global,
+    name: &'a str,
+    holds: &'a str,
+    about: &'a str,
+    notes: &'a str,
+) -> Result<Command<'a>, AllocError>
+    ensures { IfOk result (λ command. app_of command ≡ file_app name.entry.now) }
+{
+    let file = Arg::new(alloc, "file")
+        .value_name(holds)
+        .action(ArgAction::Set)
+        .help("The file that holds it; without one it is on the standard input");
+    Command::new(alloc, name)
+        .about(about)
+        .after_help(notes)
+        .arg(file)
+}
+
+/// A word of its own, by its name.
+fn word<'a>(alloc: Global, name: &'a str, help: &'a str) -> Arg<'a>
+    ensures rule { rule_of result ≡ word_rule name.entry.now None }
+    ensures local { result.global ≡ false }
+{
+    Arg::new(alloc, name)
+        .required(true)
+        .action(ArgAction::Set)
+        .help(help)
+}
+
+/// The command `explain`.
+fn explain_command<'a>(alloc: Global) -> Result<Command<'a>, AllocError>
+    ensures { IfOk result (λ command. app_of command ≡ explain_app) }
+{
+    let layer = word(alloc, "layer", "The layer that the fault's line names");
+    let number = word(alloc, "number", "The number behind it");
+    Command::new(alloc, "explain")
+        .about("Prints what a fault means, and what to look at first")
+        .after_help(EXPLAIN_NOTES)
+        .arg(layer)?
+        .arg(number.value_parser(value_parser!(u64)))
+}
+
+/// The program with its commands. Its words begin with the command.
+fn program<'a>(alloc: Global) -> Result<Command<'a>, AllocError>
+    ensures { IfOk result (λ command. app_of command ≡ program_app) }
+{
+    let plan = plan_command(alloc)?;
+    let timeline = timeline_command(alloc)?;
+    let run = file_command(alloc, "run", "script", RUN_ABOUT, RUN_NOTES)?;
+    let check = file_command(alloc, "check", "transcript", CHECK_ABOUT, CHECK_NOTES)?;
+    let explain = explain_command(alloc)?;
+    let program = Command::new(alloc, "migctl")
+        .bin_name("migctl")?
+        .about("Plans the migration of a memcached pool")
+        .subcommand(plan)?
+        .subcommand(timeline)?
+        .subcommand(run)?
+        .subcommand(check)?
+        .subcommand(explain)?;
+    Ok(
+        program
+            .no_binary_name(true)
+            .subcommand_required(true)
+            .arg_required_else_help(true),
+    )
+}
+
+/// The values of the command `plan`, where each of them was found.
+fn plan_values<'a>(matches: &ArgMatches<'a>) -> Option<PlanValues<'a>>
+    ensures found { IfSome result (HasPlan (rows_of (found_of matches.now))) }
+    ensures missing { IfNone result ((values : PlanValues) → ¬ HasPlan (rows_of (found_of matches.now)) values) }
+{
+    Some(PlanValues {
+        config: matches.get_str("config")?,
+        at: matches.get_one("at")?,
+    })
+}
+
+/// The readings among the values of the command `timeline`, where they were given.
+fn readings_of(alloc: Global, matches: &ArgMatches) -> Result<Option<Vec<u64>>, WordsFault>
+    ensures { GivesReadings (rows_of (found_of matches.now)) result }
+{
+    let Some(text) = matches.get_str("readings") else {
+        return Ok(None);
+    };
+    match numbers_in(alloc, text)? {
+        Some(numbers) => Ok(Some(numbers)),
+        None => Err(WordsFault::Readings),
+    }
+}
+
+/// The values of the command `timeline`, where they were found.
+fn timeline_values<'a>(
+    alloc: Global,
+    matches: &ArgMatches<'a>,
+) -> Result<Option<TimelineValues<'a>>, WordsFault>
+    ensures { GivesTimeline (rows_of (found_of matches.now)) result }
+{
+    let readings = readings_of(alloc, matches)?;
+    match matches.get_str("config") {
+        Some(config) => Ok(Some(TimelineValues { config, readings })),
+        None => Ok(None),
+    }
+}
+
+/// The explanation that the values of the command `explain` name, where there is one.
+fn explanation_in(matches: &ArgMatches) -> Option<Explanation<'static>>
+    ensures found { IfSome result (λ explanation. HasExplanation (rows_of (found_of matches.now)) (told_by explanation)) }
+    ensures missing { IfNone result ((explanation : Explanation) → ¬ HasExplanation (rows_of (found_of matches.now)) (told_by explanation)) }
+{
+    find_explanation(matches.get_str("layer")?, matches.get_one("number")?)
+}
+
+/// The command that was found, where it has its values.
+fn wanted_of<'a>(alloc: Global, matches: &ArgMatches<'a>) -> Result<Option<Wanted<'a>>, WordsFault>
+    ensures { GivesCommand (subcommand_rows_of matches.now) result }
+{
+    if let Some(found) = matches.subcommand_matches("plan") {
+        return match plan_values(found) {
+            Some(values) => Ok(Some(Wanted::Plan(values))),
+            None => Ok(None),
+        };
+    }
+    if let Some(found) = matches.subcommand_matches("timeline") {
+        return match timeline_values(alloc, found)? {
+            Some(values) => Ok(Some(Wanted::Timeline(values))),
+            None => Ok(None),
+        };
+    }
+    if let Some(found) = matches.subcommand_matches("run") {
+        return Ok(Some(Wanted::Run(found.get_str("file"))));
+    }
+    if let Some(found) = matches.subcommand_matches("check") {
+        return Ok(Some(Wanted::Check(found.get_str("file"))));
+    }
+    if let Some(found) = matches.subcommand_matches("explain") {
+        return match explanation_in(found) {
+            Some(explanation) => Ok(Some(Wanted::Explain(explanation))),
+            None => Ok(None),
+        };
+    }
+    Ok(None)
+}
+
+/// Reads the words after the program's name, of which the first names the command. Wrong words are those that the
+/// command line has no place for; readings that are no list of numbers, and want of memory, are the other faults.
+pub fn read_words<'a>(alloc: Global, words: &'a [&'a str]) -> Result<Wanted<'a>, WordsFault>
+    ensures exactly { ReadsWords (map (λ word. word.now) words.entry.now) result }
+    ensures plainly { (wanted : Wanted) → SaysPlainly (map (λ word. word.now) words.entry.now) wanted → ReadsAs wanted result }
+{
+    let mut program = program(alloc)?;
+    let matches = program.try_get_matches_from_mut(words)?;
+    match wanted_of(alloc, &matches)? {
+        Some(wanted) => Ok(wanted),
+        // The command line asks for a command and its values, so what is missing is the fault that `explain` names.
+        None => {
+            let error = program.error(
+                ErrorKind::InvalidValue,
+                "no layer has a fault of this number: 'migctl explain --help' names the layers",
+            )?;
+            Err(WordsFault::Wrong(error))
+        }
+    }
+}
