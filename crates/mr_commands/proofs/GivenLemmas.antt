@@ -7,7 +7,7 @@ use Rattle.mr_commands.specs.RunCommand.{IsPlayFault, RunGives}
 use Rattle.mr_commands.specs.declared.ended.Ended.{Ended}
 use Rattle.mr_commands.specs.declared.ended.Ended.TheVariants.{Done}
 use Rattle.mr_commands.specs.declared.fault.Fault.{Fault}
-use Rattle.mr_commands.specs.declared.fault.Fault.TheVariants.{Memory, Input, Output, File, Plan, Text}
+use Rattle.mr_commands.specs.declared.fault.Fault.TheVariants.{Memory, Input, Output, File, Net, Plan, Node, Text}
 
 not_given : (makes : Makes) (refuses : Refuses) (file : Option (List ℕ)) (fault : Fault) (before after : Devices) → IsNotGiven file fault before after
     → after.output ≡ before.output → PrintsOf makes refuses file before after (Err fault)
@@ -18,6 +18,10 @@ not_given makes refuses (Some path) Output before after lacks unwritten = absurd
 not_given makes refuses None Output before after lacks unwritten = absurd lacks.0
 not_given makes refuses (Some path) (Plan refusal) before after lacks unwritten = absurd lacks.0
 not_given makes refuses None (Plan refusal) before after lacks unwritten = absurd lacks.0
+not_given makes refuses (Some path) (Net line) before after lacks unwritten = absurd lacks.0
+not_given makes refuses None (Net line) before after lacks unwritten = absurd lacks.0
+not_given makes refuses (Some path) (Node refusal) before after lacks unwritten = absurd lacks.0
+not_given makes refuses None (Node refusal) before after lacks unwritten = absurd lacks.0
 not_given makes refuses (Some path) (Text refusal) before after lacks unwritten = absurd lacks.0
 not_given makes refuses None (Text refusal) before after lacks unwritten = absurd lacks.0
 
@@ -38,6 +42,8 @@ not_played file bytes Memory before after given fault unwritten =
 not_played file bytes Input before after given fault unwritten = absurd fault
 not_played file bytes Output before after given fault unwritten = absurd fault
 not_played file bytes (File line) before after given fault unwritten = absurd fault
+not_played file bytes (Net line) before after given fault unwritten = absurd fault
+not_played file bytes (Node refusal) before after given fault unwritten = absurd fault
 not_played file bytes (Text refusal) before after given fault unwritten = absurd fault
 
 -- a run whose bytes have no text

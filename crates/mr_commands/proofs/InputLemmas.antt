@@ -6,7 +6,7 @@ use Rattle.mr_text.specs.Source.{SourceView, AreOffered, least_with}
 use Rattle.mr_commands.specs.InputSteps.{AddsPiece, Brings}
 use Rattle.mr_commands.specs.WholeInput.{FailsWhole, Takes, TakesWhole, most_taken}
 use Rattle.mr_commands.specs.declared.fault.Fault.{Fault}
-use Rattle.mr_commands.specs.declared.fault.Fault.TheVariants.{Memory, Input, Output, File, Plan, Text}
+use Rattle.mr_commands.specs.declared.fault.Fault.TheVariants.{Memory, Input, Output, File, Net, Plan, Node, Text}
 
 consumes_nothing : (left : Option (List ℕ)) → Consumes left left []
 consumes_nothing None = tt
@@ -101,3 +101,5 @@ module _ (before now after : SourceView) (early bytes : List ℕ) (h : Takes ear
       fails (File line) adds = absurd adds
       fails (Plan refusal) adds = absurd adds
       fails (Text refusal) adds = absurd adds
+      fails (Net line) adds = absurd adds
+      fails (Node refusal) adds = absurd adds

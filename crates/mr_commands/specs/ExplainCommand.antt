@@ -5,7 +5,7 @@ use Rattle.mr_text.specs.declared.error.WriteFault.{WriteFault}
 use Rattle.mr_commands.specs.Devices.{Devices}
 use Rattle.mr_faults.specs.Explain.{Told, heading_line}
 use Rattle.mr_commands.specs.declared.ended.Ended.{Ended}
-use Rattle.mr_commands.specs.declared.ended.Ended.TheVariants.{Done, NotAccepted}
+use Rattle.mr_commands.specs.declared.ended.Ended.TheVariants.{Done, NotAccepted, Faulted}
 use Rattle.mr_commands.specs.declared.fault.Fault.{Fault}
 use Rattle.mr_commands.specs.declared.fault.Fault.TheVariants.{Memory, Output}
 
@@ -29,6 +29,7 @@ pub record LacksExplanation (before after : Devices) : Type 0 where
 abbrev pub ExplainGives : Told → Devices → Devices → Result Ended Fault → Type 0
 ExplainGives told before after (Ok Done) = WritesExplanation told before after (Ok tt)
 ExplainGives told before after (Ok NotAccepted) = ⊥
+ExplainGives told before after (Ok Faulted) = ⊥
 ExplainGives told before after (Err Output) = (fault : WriteFault) × WritesExplanation told before after (Err fault)
 ExplainGives told before after (Err Memory) = LacksExplanation before after
 ExplainGives told before after (Err fault) = ⊥

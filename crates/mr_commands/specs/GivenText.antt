@@ -7,7 +7,7 @@ use Rattle.mr_commands.specs.Devices.{Devices}
 use Rattle.mr_commands.specs.Given.{IsGiven, IsNotGiven}
 use Rattle.mr_commands.specs.declared.ended.Ended.{Ended}
 use Rattle.mr_commands.specs.declared.fault.Fault.{Fault}
-use Rattle.mr_commands.specs.declared.fault.Fault.TheVariants.{Memory, Input, Output, File, Plan, Text}
+use Rattle.mr_commands.specs.declared.fault.Fault.TheVariants.{Memory, Input, Output, File, Net, Plan, Node, Text}
 
 -- what texts may be made of bytes, and how the command ends then
 abbrev pub Makes : Type 1
@@ -56,3 +56,5 @@ PrintsOf makes refuses file before after (Err (File line)) = LacksGiven file (Fi
 PrintsOf makes refuses file before after (Err Input) = LacksGiven file Input before after
 PrintsOf makes refuses file before after (Err Memory) = LacksGiven file Memory before after ⊎ LacksText makes file before after
 PrintsOf makes refuses file before after (Err (Text refusal)) = ⊥
+PrintsOf makes refuses file before after (Err (Net line)) = ⊥
+PrintsOf makes refuses file before after (Err (Node refusal)) = ⊥

@@ -14,6 +14,7 @@ pub mod Printing
 pub mod Program
 pub mod Run
 pub mod RunCommand
+pub mod Services
 pub mod Sources
 pub mod TimelineCommand
 pub mod TimelineText

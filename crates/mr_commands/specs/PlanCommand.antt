@@ -10,9 +10,9 @@ use Rattle.mr_commands.specs.Devices.{Devices}
 use Rattle.mr_commands.specs.FirstRequest.{ReadsRequest}
 use Rattle.mr_commands.specs.PlanText.{plan_text}
 use Rattle.mr_commands.specs.declared.ended.Ended.{Ended}
-use Rattle.mr_commands.specs.declared.ended.Ended.TheVariants.{Done, NotAccepted}
+use Rattle.mr_commands.specs.declared.ended.Ended.TheVariants.{Done, NotAccepted, Faulted}
 use Rattle.mr_commands.specs.declared.fault.Fault.{Fault}
-use Rattle.mr_commands.specs.declared.fault.Fault.TheVariants.{Memory, Input, Output, File, Plan, Text}
+use Rattle.mr_commands.specs.declared.fault.Fault.TheVariants.{Memory, Input, Output, File, Net, Plan, Node, Text}
 use Rattle.mr_words.specs.declared.words.PlanValues.{PlanValues}
 
 -- there is no configuration, for this fault, and nothing but its file was asked for
@@ -52,9 +52,12 @@ pub record LacksPlan (plan : PlanValues) (before after : Devices) : Type 0 where
 abbrev pub PlanGives : PlanValues → Devices → Devices → Result Ended Fault → Type 0
 PlanGives plan before after (Ok Done) = WritesPlan plan before after (Ok tt)
 PlanGives plan before after (Ok NotAccepted) = ⊥
+PlanGives plan before after (Ok Faulted) = ⊥
 PlanGives plan before after (Err Output) = (fault : WriteFault) × WritesPlan plan before after (Err fault)
 PlanGives plan before after (Err (File line)) = LacksConfig plan.config.now (File line) before after
 PlanGives plan before after (Err (Plan refusal)) = LacksConfig plan.config.now (Plan refusal) before after
 PlanGives plan before after (Err Input) = RefusesRequest plan Input before after
 PlanGives plan before after (Err (Text refusal)) = RefusesRequest plan (Text refusal) before after
+PlanGives plan before after (Err (Net line)) = ⊥
+PlanGives plan before after (Err (Node refusal)) = ⊥
 PlanGives plan before after (Err Memory) = LacksConfig plan.config.now Memory before after ⊎ LacksPlan plan before after

@@ -9,10 +9,15 @@ ghost use Rattle.mr_commands.specs.Run.{ReadsFew, Runs};
 use crate::fault::Fault;
 use crate::run::{run_words, tell_fault, tell_not_text};
 use crate::sources::Sources;
+use mr_servers::HostServers;
 use mr_text::{Sink, Source};
 use std::alloc::{AllocError, Global};
 use std::env::Args;
 use std::io;
+use std::net::{Net, TcpListener, TcpStream};
+use std::sync::Wait;
+use std::thread::Threads;
+use std::time;
 
 /// The words after the program's name, each borrowed from the arguments.
 fn words_of(alloc: Global, arguments: &[String]) -> Result<Vec<&str>, AllocError>
@@ -23,8 +28,15 @@ fn words_of(alloc: Global, arguments: &[String]) -> Result<Vec<&str>, AllocError
 
 /// Runs the program on its arguments, of which the first is its own name and the others are its words, and gives its
 /// status. Where they couldn't be had, memory was refused, or one of them isn't UTF-8.
-pub fn run_arguments<S: Sources, I: Source, O: Sink, F: Sink>(
+pub fn run_arguments<
+    R: Net<Listener = TcpListener, Stream = TcpStream> + Threads + Wait + time::Clock + Sync,
+    S: Sources,
+    I: Source,
+    O: Sink,
+    F: Sink,
+>(
     alloc: Global,
+    servers: &mut HostServers<'_, R>,
     arguments: io::Result<Args<Global>>,
     sources: &mut S,
     input: &mut I,
@@ -34,8 +46,8 @@ pub fn run_arguments<S: Sources, I: Source, O: Sink, F: Sink>(
     ensures runs { let before = devices (S.told sources.old) (I.told input.old) (O.told output.old) (F.told faults.old) in
         let after = devices (S.told sources.new) (I.told input.new) (O.told output.new) (F.told faults.new) in
         MatchResult arguments
-        (λ given. Runs (map string_bytes (drop 1 (into_iter_items given))) before after result)
-        (λ error. LacksArguments (error_kind error) before after result) }
+        (λ given. Runs (map string_bytes (drop 1 (into_iter_items given))) before after servers.old servers.new result)
+        (λ error. LacksArguments (error_kind error) before after result × (servers.new ≡ servers.old)) }
     ensures reads { IfOk arguments (λ given. ReadsFew (map string_bytes (drop 1 (into_iter_items given)))
         (devices (S.told sources.old) (I.told input.old) (O.told output.old) (F.told faults.old))
         (devices (S.told sources.new) (I.told input.new) (O.told output.new) (F.told faults.new))) }
@@ -53,5 +65,13 @@ pub fn run_arguments<S: Sources, I: Source, O: Sink, F: Sink>(
     let Ok(words) = words_of(alloc, arguments.as_slice()) else {
         return tell_fault(&Fault::Memory, faults);
     };
-    run_words(alloc, words.as_slice(), sources, input, output, faults)
+    run_words(
+        alloc,
+        servers,
+        words.as_slice(),
+        sources,
+        input,
+        output,
+        faults,
+    )
 }

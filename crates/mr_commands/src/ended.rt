@@ -7,4 +7,6 @@ pub enum Ended {
     Done,
     /// A transcript was checked, and it isn't accepted.
     NotAccepted,
+    /// A service came to its end, and not every client ended without a fault.
+    Faulted,
 }

@@ -2,7 +2,8 @@
 ghost use Rattle.std.specs.Prelude.{◌≡◌};
 
 use mr_config::PlanError;
-use mr_faults::{plan_line, text_line};
+use mr_faults::{node_line, plan_line, text_line};
+use mr_node::NodeError;
 use mr_text::{Sink, TextError};
 use thiserror::Error;
 
@@ -21,9 +22,15 @@ pub enum Fault {
     /// A file can't be read. This is the line that is printed of it, whole.
     #[error("{0}")]
     File(String),
+    /// No socket can be opened. This is the line that is printed of it, whole.
+    #[error("{0}")]
+    Net(String),
     /// The configuration was refused.
     #[error("plan: {0}")]
     Plan(PlanError),
+    /// The node was refused.
+    #[error("node: {0}")]
+    Node(NodeError),
     /// The text of the request was refused.
     #[error("text: {0}")]
     Text(TextError),
@@ -42,7 +49,9 @@ impl Fault {
             Fault::Input => "migctl: input\n",
             Fault::Output => "migctl: output\n",
             Fault::File(line) => line.as_str(),
+            Fault::Net(line) => line.as_str(),
             Fault::Plan(refusal) => plan_line(*refusal),
+            Fault::Node(refusal) => node_line(*refusal),
             Fault::Text(refusal) => text_line(*refusal),
         }
     }

@@ -18,6 +18,7 @@ mod plan;
 mod printing;
 mod run;
 mod script_text;
+mod services;
 mod sources;
 mod timeline;
 mod whole_input;

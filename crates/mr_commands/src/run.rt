@@ -10,10 +10,16 @@ ghost use Rattle.mr_commands.specs.Sources.{SourcesView};
 use crate::commands::{run_check, run_explain, run_plan, run_script, run_timeline};
 use crate::ended::Ended;
 use crate::fault::Fault;
+use crate::services::{run_node, run_proxy};
 use crate::sources::Sources;
+use mr_servers::HostServers;
 use mr_text::{Sink, Source};
 use mr_words::{Wanted, WordsFault, read_words};
 use std::alloc::Global;
+use std::net::{Net, TcpListener, TcpStream};
+use std::sync::Wait;
+use std::thread::Threads;
+use std::time;
 
 /// The status of a command that did what was wanted.
 pub const DONE: u8 = 0;
@@ -74,16 +80,25 @@ fn finish<F: Sink>(gave: Result<Ended, Fault>, faults: &mut F) -> u8
     match gave {
         Ok(Ended::Done) => DONE,
         Ok(Ended::NotAccepted) => NOT_ACCEPTED,
+        Ok(Ended::Faulted) => FAULT,
         Err(fault) => tell_fault(&fault, faults),
     }
 }
 
-/// Runs the command that the words ask for, of which the first names it, and gives the program's status. Files come
-/// from `sources`; what the command is to print goes to `output`, and a fault to `faults`. Faults are looked for in this
-/// order: the words; then for a plan the file, the configuration, the request; for a timeline the file, the configuration;
-/// for a run or a check the file, or the input where none is named, and then the script or the transcript; last the output.
-pub fn run_words<S: Sources, I: Source, O: Sink, F: Sink>(
+/// Runs the command that the words ask for, of which the first names it, and gives the program's status. A node or a proxy
+/// is served by `servers`. Files come from `sources`; what the command is to print goes to `output`, and a fault to `faults`.
+/// Faults are looked for in this order: the words; then for a plan the file, the configuration, the request; for a timeline
+/// the file, the configuration; for a run or a check the file, or the input where none is named, and then the script or the
+/// transcript; for a node its capacity and the socket; for a proxy the file, the configuration, the socket; last the output.
+pub fn run_words<
+    R: Net<Listener = TcpListener, Stream = TcpStream> + Threads + Wait + time::Clock + Sync,
+    S: Sources,
+    I: Source,
+    O: Sink,
+    F: Sink,
+>(
     alloc: Global,
+    servers: &mut HostServers<'_, R>,
     words: &[&str],
     sources: &mut S,
     input: &mut I,
@@ -92,15 +107,16 @@ pub fn run_words<S: Sources, I: Source, O: Sink, F: Sink>(
 ) -> u8
     ensures runs { Runs (map (λ word. word.now) words.now)
         (devices (S.told sources.old) (I.told input.old) (O.told output.old) (F.told faults.old))
-        (devices (S.told sources.new) (I.told input.new) (O.told output.new) (F.told faults.new)) result }
+        (devices (S.told sources.new) (I.told input.new) (O.told output.new) (F.told faults.new)) servers.old servers.new result }
     ensures reads { ReadsFew (map (λ word. word.now) words.now)
         (devices (S.told sources.old) (I.told input.old) (O.told output.old) (F.told faults.old))
         (devices (S.told sources.new) (I.told input.new) (O.told output.new) (F.told faults.new)) }
 
-    // What was wanted was done only where no device failed, and so was a check that doesn't accept.
+    // What was wanted was done only where no device failed and each service began, and so was a check that doesn't accept.
     ensures done { (result ≡ DONE) ⊎ (result ≡ NOT_ACCEPTED) → NoneFailed
         (devices (S.told sources.old) (I.told input.old) (O.told output.old) (F.told faults.old))
-        (devices (S.told sources.new) (I.told input.new) (O.told output.new) (F.told faults.new)) }
+        (devices (S.told sources.new) (I.told input.new) (O.told output.new) (F.told faults.new))
+        × (servers.new.failures ≡ servers.old.failures) }
 {
     match read_words(alloc, words) {
         Ok(Wanted::Plan(values)) => {
@@ -111,6 +127,10 @@ pub fn run_words<S: Sources, I: Source, O: Sink, F: Sink>(
         }
         Ok(Wanted::Run(file)) => finish(run_script(alloc, file, sources, input, output), faults),
         Ok(Wanted::Check(file)) => finish(run_check(alloc, file, sources, input, output), faults),
+        Ok(Wanted::Node(values)) => finish(run_node(alloc, &values, servers, output), faults),
+        Ok(Wanted::Proxy(values)) => {
+            finish(run_proxy(alloc, &values, servers, sources, output), faults)
+        }
         Ok(Wanted::Explain(explanation)) => {
             finish(run_explain(alloc, &explanation, output), faults)
         }

@@ -1,17 +1,21 @@
 //! Whole runs, over files, inputs and outputs in memory.
-use files_at::{FilesAt, Place};
+use mr_command_test_parts::{FilesAt, Place};
 use mr_commands::{Sources, run_words};
+use mr_servers::HostServers;
 use mr_text::{OverReader, OverWriter, Source};
 use std::alloc::Global;
 use std::io;
 use std::io::Read;
+use std::net::{Net, TcpListener, TcpStream};
 use std::process::Abort;
+use std::sync::Wait;
+use std::thread::Threads;
+use std::time::Clock;
 
 mod arguments;
 mod configs;
 mod devices;
 mod explanations;
-mod files_at;
 mod host_files;
 mod plans;
 mod plays;
@@ -52,15 +56,22 @@ struct Ran {
     faults: Vec<u8>,
 }
 
-fn run_over<S: Sources, I: Source>(
-    alloc: Global,
-    words: &[&str],
-    sources: &mut S,
-    input: &mut I,
-) -> Ran {
+fn run_over<
+    R: Net<Listener = TcpListener, Stream = TcpStream> + Threads + Wait + Clock + Sync,
+    S: Sources,
+    I: Source,
+>(rt: &R, alloc: Global, words: &[&str], sources: &mut S, input: &mut I) -> Ran {
     let mut output = OverWriter::new(Vec::new(alloc));
     let mut faults = OverWriter::new(Vec::new(alloc));
-    let status = run_words(alloc, words, sources, input, &mut output, &mut faults);
+    let status = run_words(
+        alloc,
+        &mut HostServers::new(rt),
+        words,
+        sources,
+        input,
+        &mut output,
+        &mut faults,
+    );
     Ran {
         status,
         output: output.into_inner(),
@@ -68,9 +79,14 @@ fn run_over<S: Sources, I: Source>(
     }
 }
 
-fn run(alloc: Global, words: &[&str], input: &[u8]) -> Ran {
+fn run<R: Net<Listener = TcpListener, Stream = TcpStream> + Threads + Wait + Clock + Sync>(
+    rt: &R,
+    alloc: Global,
+    words: &[&str],
+    input: &[u8],
+) -> Ran {
     let mut files = FilesAt::new(PLACES.as_slice());
-    run_over(alloc, words, &mut files, &mut OverReader::new(input))
+    run_over(rt, alloc, words, &mut files, &mut OverReader::new(input))
 }
 
 fn expect_run(rt: &impl Abort, ran: &Ran, status: u8, output: &[u8], faults: &[u8]) {

@@ -1,5 +1,6 @@
 -- The addresses that names of nodes are.
-use Rattle.std.specs.Prelude.{◌≡◌, ◌≢◌, ℕ, ◌<◌, ◌^◌, List, [], ◌∷◌, ◌++◌, length, slice_index}
+use Rattle.std.specs.Prelude.{◌≡◌, ◌≢◌, ℕ, ◌<◌, ◌^◌, List, [], ◌∷◌, ◌++◌, length, slice_index, codes, if◌then◌else◌}
+use Rattle.std.specs.Str.{bytes_eq}
 use Rattle.std.specs.Str.Parse.{IsNumeral, digits_value}
 
 -- what stands between host and port: ':'
@@ -23,3 +24,7 @@ pub record IsAddress (name host : List ℕ) (port : ℕ) : Type 0 where
 -- the name is an address
 abbrev pub HasAddress : List ℕ → Type 0
 HasAddress name = (host : List ℕ) × (port : ℕ) × IsAddress name host port
+
+-- the host that is asked for where an address names this one
+abbrev pub host_reached : List ℕ → List ℕ
+host_reached host = if bytes_eq host (codes "localhost") then codes "127.0.0.1" else host

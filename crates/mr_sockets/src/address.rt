@@ -1,6 +1,6 @@
 //! The addresses that names of nodes are.
 ghost use Rattle.std.specs.Prelude.{◌≡◌, ℕ, List, Option, Some, MatchOption};
-ghost use Rattle.mr_sockets.specs.Address.{IsAddress, IsPort};
+ghost use Rattle.mr_sockets.specs.Address.{IsAddress, IsPort, host_reached};
 
 /// The port that a text is: decimal digits alone, of a number of at most 65,535.
 fn port_of(digits: &str) -> Option<u16>
@@ -15,8 +15,8 @@ fn port_of(digits: &str) -> Option<u16>
     }
 }
 
-/// The host and the port that a name is; None where it is no address.
-pub(crate) fn address_of(name: &str) -> Option<(&str, u16)>
+/// The host and the port that a name is: a host, one colon, and a decimal port of at most 65,535. None where it is no address.
+pub fn address_of(name: &str) -> Option<(&str, u16)>
     ensures { MatchOption result
         ((host : List ℕ) → (port : ℕ) → ¬ IsAddress name.now host port)
         (λ address. IsAddress name.now address.0.now address.1) }
@@ -30,5 +30,16 @@ pub(crate) fn address_of(name: &str) -> Option<(&str, u16)>
     match port_of(digits) {
         Some(port) => Some((host, port)),
         None => None,
+    }
+}
+
+/// The host that is asked for where an address names this one: `localhost` is 127.0.0.1, whatever the machine's tables say.
+pub fn host_to_reach(host: &str) -> &str
+    ensures { result.now ≡ host_reached host.now }
+{
+    if host == "localhost" {
+        "127.0.0.1"
+    } else {
+        host
     }
 }

@@ -7,6 +7,11 @@ use std::net::TcpStream;
 use std::sync::{Mutex, Wait};
 use std::thread;
 use std::thread::{Scope, Threads};
+use std::time::{Clock, Duration};
+
+/// For how many milliseconds nothing is accepted after a connection that couldn't be: what there is too little of, descriptors
+/// most often, may be there again then.
+const PAUSE_MILLIS: u64 = 100;
 
 /// What is done with each connection.
 pub(crate) trait Service {
@@ -25,8 +30,8 @@ fn serve_one<S: Service, R: Wait>(rt: &R, service: &S, stream: TcpStream, well: 
 }
 
 /// Accepts so many connections, and serves each in a thread of its own that isn't kept. Gives the listener back, and how many
-/// got a thread. One that can't be accepted or gets no thread is passed over.
-fn accept_all<'s, 'e, L: Listener + Drop, S: Service + Sync, R: Threads + Wait + Sync>(
+/// got a thread. One that can't be accepted or gets no thread is passed over; after one that can't be accepted there is a pause.
+fn accept_all<'s, 'e, L: Listener + Drop, S: Service + Sync, R: Threads + Wait + Clock + Sync>(
     rt: &'s R,
     scope: &'s Scope<'s, &'e ()>,
     mut listener: L,
@@ -38,13 +43,15 @@ fn accept_all<'s, 'e, L: Listener + Drop, S: Service + Sync, R: Threads + Wait +
 {
     let mut started = 0;
     for client in 0..clients {
-        if let Ok(stream) = listener.accept() {
-            if scope
-                .spawn(move || serve_one(rt, service, stream, well))
-                .is_ok()
-            {
-                started += 1;
-            }
+        let Ok(stream) = listener.accept() else {
+            thread::sleep(rt, Duration::from_millis(PAUSE_MILLIS));
+            continue;
+        };
+        if scope
+            .spawn(move || serve_one(rt, service, stream, well))
+            .is_ok()
+        {
+            started += 1;
         }
     }
     (listener, started)
@@ -52,7 +59,7 @@ fn accept_all<'s, 'e, L: Listener + Drop, S: Service + Sync, R: Threads + Wait +
 
 /// Accepts so many connections, serves each in a thread of its own, and gives the listener back, with how many connections
 /// ended without a fault, once all have ended. Nothing is kept of a connection that has ended.
-pub(crate) fn serve_all<L: Listener + Drop, S: Service + Sync, R: Threads + Wait + Sync>(
+pub(crate) fn serve_all<L: Listener + Drop, S: Service + Sync, R: Threads + Wait + Clock + Sync>(
     rt: &R,
     listener: L,
     service: &S,

@@ -9,6 +9,7 @@ mod node_service;
 mod proxy_service;
 mod socket_carrier;
 
+pub use address::{address_of, host_to_reach};
 pub use carriers::node_carriers;
 pub use listener::{AcceptFault, Listener, OverListener};
 pub use node_service::serve_node;

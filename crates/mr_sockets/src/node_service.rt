@@ -11,6 +11,7 @@ use std::alloc::Global;
 use std::net::TcpStream;
 use std::sync::Wait;
 use std::thread::Threads;
+use std::time;
 
 /// What serves each connection of a node.
 struct NodeService<'a, K: Clock + Clone, R: Wait> {
@@ -58,9 +59,9 @@ impl<'a, K: Clock + Clone, R: Wait> Service for NodeService<'a, K, R> {
 /// each connection. Gives the listener back once all connections have ended, with how many ended without a fault: by a quit,
 /// at the end of their input, or with a request that was refused and answered.
 ///
-/// A connection that can't be accepted, or gets no thread or no clock, has ended with a fault, and stops no other. Nothing is
-/// kept of a connection that has ended.
-pub fn serve_node<L: Listener + Drop, K: Clock + Clone + Sync, R: Threads + Wait + Sync>(
+/// A connection that can't be accepted, or gets no thread or no clock, has ended with a fault, and stops no other; after one
+/// that can't be accepted there is a pause of 100 milliseconds. Nothing is kept of a connection that has ended.
+pub fn serve_node<L: Listener + Drop, K: Clock + Clone + Sync, R: Threads + Wait + time::Clock + Sync>(
     rt: &R,
     alloc: Global,
     listener: L,

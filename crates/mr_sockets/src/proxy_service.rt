@@ -14,6 +14,7 @@ use std::alloc::Global;
 use std::net::{Net, TcpListener, TcpStream};
 use std::sync::Wait;
 use std::thread::Threads;
+use std::time;
 
 /// What serves each connection of a proxy.
 struct ProxyService<'a, N: Net + Copy, D: Desk<SocketCarrier<N>>, K: Clock + Clone, R: Wait> {
@@ -74,13 +75,13 @@ impl<'a, N: Net + Copy, D: Desk<SocketCarrier<N>>, K: Clock + Clone, R: Wait> Se
 /// was refused and answered.
 ///
 /// A connection that can't be accepted, or gets no thread, no clock or no carriers, has ended with a fault, and stops no
-/// other. Nothing is kept of a connection that has ended.
+/// other; after one that can't be accepted there is a pause of 100 milliseconds. Nothing is kept of a connection that has ended.
 pub fn serve_proxy<
     L: Listener + Drop,
     N: Net<Listener = TcpListener, Stream = TcpStream> + Copy + Send + Sync,
     D: Desk<SocketCarrier<N>> + Sync,
     K: Clock + Clone + Sync,
-    R: Threads + Wait + Sync,
+    R: Threads + Wait + time::Clock + Sync,
 >(
     rt: &R,
     alloc: Global,

@@ -4,7 +4,7 @@ ghost use Rattle.mr_workers.specs.Local.{IsOfItsKind};
 ghost use Rattle.mr_sockets.specs.Address.{HasAddress};
 ghost use Rattle.mr_sockets.specs.SocketCarrier.{fresh_carrier, IsNewLink, CarriesOver, CarriesFrom, CarriesSo, Carries};
 
-use crate::address::address_of;
+use crate::address::{address_of, host_to_reach};
 use mr_join::LegReply;
 use mr_links::NodeLink;
 use mr_pools::NodeName;
@@ -57,12 +57,7 @@ impl<N: Net + Copy> Model for SocketCarrier<N> {
 
 /// A connection to the host of this name, without delay of small packets.
 fn stream_to<N: Net>(net: &N, host: &str, port: u16) -> Option<N::Stream> {
-    let host = if host == "localhost" {
-        "127.0.0.1"
-    } else {
-        host
-    };
-    match TcpStream::connect(net, (host, port)) {
+    match TcpStream::connect(net, (host_to_reach(host), port)) {
         Ok(stream) => {
             let _ = stream.set_nodelay(true);
             Some(stream)

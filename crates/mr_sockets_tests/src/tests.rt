@@ -22,6 +22,7 @@ use std::net::{Net, OpenStream, Shutdown, SocketAddr, TcpListener, TcpStream};
 use std::sync::Wait;
 use std::test::Fail;
 use std::thread::Threads;
+use std::time::Clock;
 
 /// How many reads each connection is allowed.
 const TURNS: u64 = 1_000_000;
@@ -64,7 +65,7 @@ fn node(alloc: Global) -> Result<SharedNode, Fail> {
 }
 
 /// Serves so many connections of a node, whose clock shows 999, and gives how many ended without a fault.
-fn node_serves<R: Threads + Wait + Sync>(
+fn node_serves<R: Threads + Wait + Clock + Sync>(
     rt: &R,
     alloc: Global,
     listener: TcpListener,
@@ -87,7 +88,7 @@ fn node_serves<R: Threads + Wait + Sync>(
 fn proxy_serves<
     N: Net<Listener = TcpListener, Stream = TcpStream> + Copy + Send + Sync,
     D: Desk<SocketCarrier<N>> + Sync,
-    R: Threads + Wait + Sync,
+    R: Threads + Wait + Clock + Sync,
 >(
     rt: &R,
     alloc: Global,

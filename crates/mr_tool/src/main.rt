@@ -1,7 +1,8 @@
-//! The program `migctl`: where the requests of a memcached migration go.
+//! The program `migctl`: where the requests of a memcached migration go, and the nodes and proxies that serve them.
 #![tactic(auto)]
 
 use mr_commands::{HostFiles, run_arguments};
+use mr_servers::HostServers;
 use mr_text::{OverReader, OverWriter};
 use std::env;
 use std::process::ExitCode;
@@ -9,6 +10,7 @@ use std::process::ExitCode;
 fn main(rt: HostRuntime) -> ExitCode {
     let status = run_arguments(
         rt.alloc(),
+        &mut HostServers::new(&rt),
         env::args(&rt),
         &mut HostFiles::new(&rt),
         &mut OverReader::new(rt.stdin()),

@@ -1,8 +1,11 @@
+pub mod CommandLemmas
 pub mod ListLemmas
 pub mod PlainWalk
 pub mod PlainPlan
 pub mod PlainTimeline
 pub mod PlainFile
+pub mod PlainNode
+pub mod PlainProxy
 pub mod PlainExplain
 pub mod ReadLemmas
 pub mod WordLemmas

@@ -104,6 +104,14 @@ number_taken word number is =
     let fits : digits_value 10 (without_leading_plus word) < 2 ^ 64 = rw (← is.value) is.fits in
     Accepts-accepts false numbers word (is.digits, fits, omega arith, omega arith)
 
+-- a word that is taken for a value, and for a number
+pub record IsTakenNumber (word : Text) : Type 0 where
+  pub plain : IsPlainWord word
+  pub accepted : accepts false numbers word ≡ true
+
+pub number_is_taken : (word : Text) (number : ℕ) → IsNumberWord word number → IsTakenNumber word
+number_is_taken word number is = record { plain = plain_word word (number_word word is.digits); accepted = number_taken word number is }
+
 -- words that plainly say a plan say it to `clap`
 pub plan_said : (said : List Text) (values : PlanValues) → SaysPlan said values → Say said (Plan values)
 plan_said said values says =

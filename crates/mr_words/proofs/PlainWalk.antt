@@ -1,13 +1,13 @@
 -- The walk of `clap` over options that are given as a name and a value, of which the value doesn't look like an option.
-use Rattle.std.proofs.Common.{◌≡◌, ◌∙◌, ap, refl, List, [], ◌∷◌, None, false, true, ℕ, Bool}
+use Rattle.std.proofs.Common.{◌≡◌, ◌∙◌, ap, ap₂, refl, List, [], ◌∷◌, None, Some, false, true, ℕ, Bool}
 use Rattle.std.proofs.lemmas.Bool.Decides.{Decides-eqb}
-use Rattle.std.specs.Prelude.{◌==◌}
+use Rattle.std.specs.Prelude.{◌==◌, fold}
 use Rattle.std.specs.Str.{bytes_eq}
-use Rattle.clap.specs.Faults.{walk_fault, turn_fault}
-use Rattle.clap.specs.Kinds.{or_else}
+use Rattle.clap.specs.Faults.{walk_fault, turn_fault, settle_fault, defaults_fault, check_fault, level_fault}
+use Rattle.clap.specs.Kinds.{Kinds, or_else}
 use Rattle.clap.specs.Lexer.{long_of, short_of}
 use Rattle.clap.specs.Simple.{Shape}
-use Rattle.clap.specs.Walk.{Held, Rule, Walk, walked, arg_by_id, idle, option, option_word}
+use Rattle.clap.specs.Walk.{Held, Rule, Walk, walk, walked, arg_by_id, finished, idle, nothing_held, option, option_word, settled}
 use Rattle.clap.specs.Words.{Text}
 use Rattle.mr_words.specs.Words.{IsNoOption}
 
@@ -66,3 +66,49 @@ value_step s id h word rest plain =
 pub no_word_left : (s : Shape) (w : Walk) → walk_fault s [] w [] ≡ []
 unfolding walk_fault
 no_word_left s w = refl
+
+-- what is held once an option of this id was named, and once its value was given
+abbrev pub with_named : Shape → Text → Held → Held
+with_named s id h = record (settled s.rules h) { pending = Some (id, []) }
+
+abbrev pub with_given : Shape → Text → Text → Held → Held
+with_given s id value h = record (settled s.rules h) { pending = Some (id, value ∷ []) }
+
+-- the words lead from one walk to another, and no fault is found in them
+pub record Leads (s : Shape) (start : Walk) (words : List Text) (end : Walk) : Type 0 where
+  pub ends : fold (walked s.rules []) start words ≡ end
+  pub taken : walk_fault s [] start words ≡ []
+
+pub no_words : (s : Shape) (w : Walk) → Leads s w [] w
+no_words s w = record { ends = refl; taken = no_word_left s w }
+
+-- an option before the words
+pub option_before : (s : Shape) (name id value : Text) (h named : Held) (rest : List Text) (end : Walk)
+    → walked s.rules [] (standing h) name ≡ asking id named → turn_fault s [] (standing h) name ≡ [] → IsPlainWord value
+    → Leads s (answered s.rules id named value) rest end → Leads s (standing h) (name ∷ value ∷ rest) end
+option_before s name id value h named rest end is none plain more =
+    let rules : List Rule = s.rules in
+    let after_name : Walk = walked rules [] (standing h) name in
+    record {
+      ends = ap (λ (w : Walk). fold (walked rules []) (walked rules [] w value) rest) is
+          ∙ (ap (λ (w : Walk). fold (walked rules []) w rest) (value_walked rules id named value plain) ∙ more.ends);
+      taken = word_step s (standing h) name (value ∷ rest) none
+          ∙ (ap (λ (w : Walk). walk_fault s [] w (value ∷ rest)) is ∙ (value_step s id named value rest plain ∙ more.taken));
+    }
+
+-- the words of a command that walks to an end without a fault
+pub record IsWalked (s : Shape) (words : List Text) (end : Walk) : Type 0 where
+  pub fits : level_fault s [] nothing_held words false [] ≡ []
+  pub ends : walk s.rules [] nothing_held words ≡ end
+
+-- what is left to look at once the words are walked
+abbrev pub after_walk : Shape → Walk → Kinds
+after_walk s w =
+    or_else (settle_fault s.rules s.args_override_self w.held)
+    (or_else (defaults_fault (settled s.rules w.held).rows s.rules) (check_fault s (finished s.rules w.held) false))
+
+pub all_walked : (s : Shape) (words : List Text) (end : Walk) → Leads s (standing nothing_held) words end → after_walk s end ≡ [] → IsWalked s words end
+all_walked s words end leads fits = record {
+  fits = ap₂ or_else leads.taken (ap (after_walk s) leads.ends ∙ fits);
+  ends = leads.ends;
+}

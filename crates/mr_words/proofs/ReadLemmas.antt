@@ -9,14 +9,16 @@ use Rattle.clap.specs.declared.error.Error.{Error}
 use Rattle.clap.specs.declared.error.kind.ErrorKind.TheVariants.{OutOfMemory}
 use Rattle.mr_words.proofs.PlainExplain.{explanation_said}
 use Rattle.mr_words.proofs.PlainFile.{check_said, run_said}
+use Rattle.mr_words.proofs.PlainNode.{node_said}
 use Rattle.mr_words.proofs.PlainPlan.{plan_said}
+use Rattle.mr_words.proofs.PlainProxy.{proxy_said}
 use Rattle.mr_words.proofs.PlainTimeline.{timeline_said}
 use Rattle.mr_words.proofs.WordLemmas.{one_said, said_not_bad}
 use Rattle.mr_words.specs.Command.{program_app}
 use Rattle.mr_words.specs.Words.{FindsBadReadings, FindsCommand, Found, ReadsAs, ReadsWords, Say, SayNothing, SaysPlainly, SayWhat}
 use Rattle.mr_words.specs.WordSteps.{GivesCommand, IsFaultOf}
 use Rattle.mr_words.specs.declared.words.Wanted.{Wanted}
-use Rattle.mr_words.specs.declared.words.Wanted.TheVariants.{Plan, Timeline, Run, Check, Explain}
+use Rattle.mr_words.specs.declared.words.Wanted.TheVariants.{Plan, Timeline, Run, Check, Node, Proxy, Explain}
 use Rattle.mr_words.specs.declared.words.WordsFault.{WordsFault}
 use Rattle.mr_words.specs.declared.words.WordsFault.TheVariants.{Wrong, Readings, Memory}
 
@@ -78,6 +80,8 @@ plainly_said words (Plan values) says = plan_said words values says
 plainly_said words (Timeline values) says = timeline_said words values says.0 says.1 says.2
 plainly_said words (Run file) says = run_said words file says
 plainly_said words (Check file) says = check_said words file says
+plainly_said words (Node values) says = node_said words values says
+plainly_said words (Proxy values) says = proxy_said words values says
 plainly_said words (Explain explanation) says = explanation_said words explanation says
 
 -- what is read of words that plainly say a command

@@ -2,6 +2,7 @@
 use Rattle.std.proofs.Common.{◌≡◌, ℕ, ◌<◌, ◌^◌, ◌&&◌, ◌∙◌, Bool, true, false, not, List, [], ◌∷◌, Option, Some, None, ap, ap₂, refl, subst, sym, codes}
 use Rattle.std.specs.Prelude.{Box, IfNone, IfSome, option_map}
 use Rattle.std.specs.Box.{box_value}
+use Rattle.std.specs.Str.{bytes_eq}
 use Rattle.std.specs.Str.Parse.{IsNumeral, digits_value, without_leading_plus}
 use Rattle.clap.specs.Matches.{subcommand_name_of}
 use Rattle.clap.specs.Simple.{subcommand_rows}
@@ -12,11 +13,13 @@ use Rattle.clap.specs.declared.parser.matches.SubCommand.{SubCommand}
 use Rattle.mr_faults.proofs.TableLemmas.{table_complete}
 use Rattle.mr_faults.specs.Explain.{Told, explanation_of, told_by}
 use Rattle.mr_faults.specs.declared.explain.Explanation.{Explanation}
-use Rattle.mr_words.specs.Words.{AgreesWith, AreNumberWords, AreReadings, FindsBadReadings, FindsCommand, Found, HasBadReadings, HasExplanation, HasPlan, HasTimeline, IsNumberList, IsNumberWord, Say, SayBadReadings, readings_in}
+use Rattle.mr_words.specs.Words.{AgreesWith, AreNumberWords, AreReadings, FindsBadReadings, FindsCommand, Found, HasBadReadings, HasExplanation, HasNode, HasPlan, HasProxy, HasTimeline, IsNumberList, IsNumberOr, IsNumberWord, Say, SayBadReadings, readings_in}
+use Rattle.mr_words.specs.declared.service_words.NodeValues.{NodeValues}
+use Rattle.mr_words.specs.declared.service_words.ProxyValues.{ProxyValues}
 use Rattle.mr_words.specs.declared.words.PlanValues.{PlanValues}
 use Rattle.mr_words.specs.declared.words.TimelineValues.{TimelineValues}
 use Rattle.mr_words.specs.declared.words.Wanted.{Wanted}
-use Rattle.mr_words.specs.declared.words.Wanted.TheVariants.{Plan, Timeline, Run, Check, Explain}
+use Rattle.mr_words.specs.declared.words.Wanted.TheVariants.{Plan, Timeline, Run, Check, Node, Proxy, Explain}
 
 row_of_subcommand : {Z : Type 0} (o : Option (Box SubCommand Z)) (name : List ℕ) (rows : List Row)
     → option_map (λ (b : Box SubCommand Z). (out-SubCommand (box_value b)).name.now) o ≡ Some name
@@ -48,6 +51,26 @@ pub number_missing : (text : Option (List ℕ))
     → (word : List ℕ) (number : ℕ) → text ≡ Some word → IsNumberWord word number → ⊥
 number_missing text unread word number is number_is = unread word is (number_is.digits, rw (← number_is.value) number_is.fits)
 
+-- what std's `parse` says of a text that it reads
+abbrev IsNumeral64 : List ℕ → Type 0
+IsNumeral64 text = IsNumeral 10 (without_leading_plus text) × (digits_value 10 (without_leading_plus text) < 2 ^ 64)
+
+-- the number of an option that may be left out: its word's, or the usual one, or none where the word is no number
+pub number_given : (usual number : ℕ) (text : Option (List ℕ)) → ¬ (text ≡ None)
+    → ((t : List ℕ) → text ≡ Some t → IsNumeral64 t × (number ≡ digits_value 10 (without_leading_plus t))) → IsNumberOr usual text number
+number_given usual number None given value = absurd (given refl)
+number_given usual number (Some t) given value =
+    let read = value t refl in record { digits = read.0.0; value = read.1; fits = rw read.1 read.0.1 }
+
+pub number_left_out : (usual : ℕ) (text : Option (List ℕ)) → ((t : List ℕ) → ¬ (text ≡ Some t)) → IsNumberOr usual text usual
+number_left_out usual None none = refl
+number_left_out usual (Some t) none = absurd (none t refl)
+
+pub no_number_given : (usual : ℕ) (text : Option (List ℕ)) → ¬ (text ≡ None) → ((t : List ℕ) → text ≡ Some t → ¬ IsNumeral64 t) → (number : ℕ)
+    → ¬ IsNumberOr usual text number
+no_number_given usual None given unread number is = given refl
+no_number_given usual (Some t) given unread number is = unread t refl (is.digits, rw (← is.value) is.fits)
+
 pub third_is_false : (a b g r : Bool) → (a && (b && (not g && r))) ≡ true → g ≡ false
 third_is_false true true false r h = refl
 third_is_false true true true r h = cc
@@ -60,6 +83,10 @@ same_inside a b o e f = cc
 same_number : (word other : List ℕ) (number same : ℕ) → word ≡ other → IsNumberWord word number → IsNumberWord other same → number ≡ same
 same_number word other number same e is other_is =
     is.value ∙ (ap (λ (w : List ℕ). digits_value 10 (without_leading_plus w)) e ∙ sym other_is.value)
+
+same_number_or : (usual : ℕ) (text : Option Text) (number same : ℕ) → IsNumberOr usual text number → IsNumberOr usual text same → number ≡ same
+same_number_or usual None number same is other_is = is ∙ sym other_is
+same_number_or usual (Some word) number same is other_is = same_number word word number same refl is other_is
 
 same_numbers : (words : List Text) (numbers same : List ℕ) → AreNumberWords words numbers → AreNumberWords words same → numbers ≡ same
 same_numbers [] [] [] are also = refl
@@ -84,12 +111,18 @@ same_readings (Some text) (Some r) (Some s) are also = ap (λ (numbers : List �
 other_name : {X : Type 0} (found : Option (Text × X)) (a b : Text) (r s : X) → found ≡ Some (a, r) → found ≡ Some (b, s) → a ≡ b
 other_name {X = X} found a b r s e f = ap (λ (p : Text × X). p.0) (same_inside (a, r) (b, s) found e f)
 
+-- texts that differ in a byte
+texts_differ : (text other : Text) → bytes_eq text other ≡ false → bytes_eq other other ≡ true → ¬ (text ≡ other)
+texts_differ text other differs same is = let never : false ≡ true = sym differs ∙ (ap (λ (t : Text). bytes_eq t other) is ∙ same) in cc
+
 -- the name of a command
 abbrev name_of : Wanted → Text
 name_of (Plan values) = codes "plan"
 name_of (Timeline values) = codes "timeline"
 name_of (Run file) = codes "run"
 name_of (Check file) = codes "check"
+name_of (Node values) = codes "node"
+name_of (Proxy values) = codes "proxy"
 name_of (Explain explanation) = codes "explain"
 
 -- what was found of a command begins with its name
@@ -98,6 +131,8 @@ found_named found (Plan values) h = (h.0, h.1)
 found_named found (Timeline values) h = (h.0, h.1)
 found_named found (Run file) h = (h.0, h.1)
 found_named found (Check file) h = (h.0, h.1)
+found_named found (Node values) h = (h.0, h.1)
+found_named found (Proxy values) h = (h.0, h.1)
 found_named found (Explain explanation) h = (h.0, h.1)
 
 one_name : (found : Found) (wanted : Wanted) (name : Text) (rows : List Row) → FindsCommand found wanted → found ≡ Some (name, rows) → name_of wanted ≡ name
@@ -128,12 +163,28 @@ one_found found (Timeline read) (Timeline values) r p =
     )
 one_found found (Run read) (Run file) r p = sym r.2 ∙ (ap (first_of (codes "file")) (same_rows found _ r.0 p.0 r.1 p.1) ∙ p.2)
 one_found found (Check read) (Check file) r p = sym r.2 ∙ (ap (first_of (codes "file")) (same_rows found _ r.0 p.0 r.1 p.1) ∙ p.2)
+one_found found (Node read) (Node values) r p =
+    let also : HasNode r.0 values = subst (λ (rows : List Row). HasNode rows values) (same_rows found _ p.0 r.0 p.1 r.1) p.2 in (
+      same_inside _ _ _ r.2.listen_is also.listen_is,
+      same_number_or _ _ _ _ r.2.capacity_is also.capacity_is,
+      same_number_or _ _ _ _ r.2.clients_is also.clients_is,
+      same_number_or _ _ _ _ r.2.turns_is also.turns_is,
+    )
+one_found found (Proxy read) (Proxy values) r p =
+    let also : HasProxy r.0 values = subst (λ (rows : List Row). HasProxy rows values) (same_rows found _ p.0 r.0 p.1 r.1) p.2 in (
+      same_inside _ _ _ r.2.config_is also.config_is,
+      same_inside _ _ _ r.2.listen_is also.listen_is,
+      same_number_or _ _ _ _ r.2.room_is also.room_is,
+      same_number_or _ _ _ _ r.2.clients_is also.clients_is,
+      same_number_or _ _ _ _ r.2.turns_is also.turns_is,
+    )
 one_found found (Explain read) (Explain explanation) r p =
     let also : HasExplanation r.0 (told_by explanation) =
     subst (λ (rows : List Row). HasExplanation rows (told_by explanation)) (same_rows found _ p.0 r.0 p.1 r.1) p.2 in
     same_told r.0 (told_by read) (told_by explanation) r.2 also
 one_found found read wanted r p =
-    let named = found_named found wanted p in let same : name_of read ≡ name_of wanted = one_name found read (name_of wanted) named.0 r named.1 in cc
+    let named = found_named found wanted p in
+    absurd (texts_differ (name_of read) (name_of wanted) refl refl (one_name found read (name_of wanted) named.0 r named.1))
 
 -- words say one command
 pub one_said : (words : List Text) (read wanted : Wanted) → Say words read → Say words wanted → AgreesWith wanted read
@@ -155,7 +206,7 @@ said_not_bad words (Timeline values) says bad =
     let also : HasBadReadings says.finds.0 = subst HasBadReadings (same_rows _ _ bad.finds.0 says.finds.0 bad.finds.1 says.finds.1) bad.finds.2 in
     readings_not_bad says.finds.0 (readings_in values) says.finds.2.readings_are also
 said_not_bad words wanted says bad =
-    let same : name_of wanted ≡ codes "timeline" = one_name _ wanted (codes "timeline") bad.finds.0 says.finds bad.finds.1 in cc
+    texts_differ (name_of wanted) (codes "timeline") refl refl (one_name _ wanted (codes "timeline") bad.finds.0 says.finds bad.finds.1)
 
 -- the readings that were given, and those that weren't
 pub readings_given : (text : Option Text) (word : Text) (numbers : List ℕ) → Some word ≡ text → IsNumberList word numbers → AreReadings text (Some numbers)
@@ -173,7 +224,8 @@ plan_not_said : (found : Found) (rows : List Row) → found ≡ Some (codes "pla
     → (wanted : Wanted) → ¬ FindsCommand found wanted
 plan_not_said found rows is none (Plan values) finds =
     none values (subst (λ (r : List Row). HasPlan r values) (same_rows found _ finds.0 rows finds.1 is) finds.2)
-plan_not_said found rows is none wanted finds = let same : name_of wanted ≡ codes "plan" = one_name found wanted (codes "plan") rows finds is in cc
+plan_not_said found rows is none wanted finds =
+    texts_differ (name_of wanted) (codes "plan") refl refl (one_name found wanted (codes "plan") rows finds is)
 
 -- a command of another name than `timeline` has no readings
 no_readings_of : (found : Found) (name : Text) (rows : List Row) → found ≡ Some (name, rows) → ¬ (name ≡ codes "timeline") → ¬ FindsBadReadings found
@@ -181,6 +233,12 @@ no_readings_of found name rows is other finds = other (other_name found _ _ _ _ 
 
 plan_is_no_timeline : ¬ (codes "plan" ≡ codes "timeline")
 plan_is_no_timeline e = cc
+
+node_is_no_timeline : ¬ (codes "node" ≡ codes "timeline")
+node_is_no_timeline e = cc
+
+proxy_is_no_timeline : ¬ (codes "proxy" ≡ codes "timeline")
+proxy_is_no_timeline e = cc
 
 explain_is_no_timeline : ¬ (codes "explain" ≡ codes "timeline")
 explain_is_no_timeline e = cc
@@ -193,12 +251,42 @@ plan_not_found m rows is none = record {
   no_readings = no_readings_of (subcommand_rows_of m) (codes "plan") rows is plan_is_no_timeline;
 }
 
+node_not_said : (found : Found) (rows : List Row) → found ≡ Some (codes "node", rows) → ((values : NodeValues) → ¬ HasNode rows values)
+    → (wanted : Wanted) → ¬ FindsCommand found wanted
+node_not_said found rows is none (Node values) finds =
+    none values (subst (λ (r : List Row). HasNode r values) (same_rows found _ finds.0 rows finds.1 is) finds.2)
+node_not_said found rows is none wanted finds =
+    texts_differ (name_of wanted) (codes "node") refl refl (one_name found wanted (codes "node") rows finds is)
+
+-- a node without its values
+pub node_not_found : (m : ArgMatches) (rows : List Row) → subcommand_rows_of m ≡ Some (codes "node", rows) → ((values : NodeValues) → ¬ HasNode rows values)
+    → FindsNothing (subcommand_rows_of m)
+node_not_found m rows is none = record {
+  no_command = node_not_said (subcommand_rows_of m) rows is none;
+  no_readings = no_readings_of (subcommand_rows_of m) (codes "node") rows is node_is_no_timeline;
+}
+
+proxy_not_said : (found : Found) (rows : List Row) → found ≡ Some (codes "proxy", rows) → ((values : ProxyValues) → ¬ HasProxy rows values)
+    → (wanted : Wanted) → ¬ FindsCommand found wanted
+proxy_not_said found rows is none (Proxy values) finds =
+    none values (subst (λ (r : List Row). HasProxy r values) (same_rows found _ finds.0 rows finds.1 is) finds.2)
+proxy_not_said found rows is none wanted finds =
+    texts_differ (name_of wanted) (codes "proxy") refl refl (one_name found wanted (codes "proxy") rows finds is)
+
+-- a proxy without its values
+pub proxy_not_found : (m : ArgMatches) (rows : List Row) → subcommand_rows_of m ≡ Some (codes "proxy", rows) → ((values : ProxyValues) → ¬ HasProxy rows values)
+    → FindsNothing (subcommand_rows_of m)
+proxy_not_found m rows is none = record {
+  no_command = proxy_not_said (subcommand_rows_of m) rows is none;
+  no_readings = no_readings_of (subcommand_rows_of m) (codes "proxy") rows is proxy_is_no_timeline;
+}
+
 explanation_not_said : (found : Found) (rows : List Row) → found ≡ Some (codes "explain", rows)
     → ((explanation : Explanation) → ¬ HasExplanation rows (told_by explanation)) → (wanted : Wanted) → ¬ FindsCommand found wanted
 explanation_not_said found rows is none (Explain explanation) finds =
     none explanation (subst (λ (r : List Row). HasExplanation r (told_by explanation)) (same_rows found _ finds.0 rows finds.1 is) finds.2)
 explanation_not_said found rows is none wanted finds =
-    let same : name_of wanted ≡ codes "explain" = one_name found wanted (codes "explain") rows finds is in cc
+    texts_differ (name_of wanted) (codes "explain") refl refl (one_name found wanted (codes "explain") rows finds is)
 
 -- a fault that no layer has
 pub explanation_not_found : (m : ArgMatches) (rows : List Row) → subcommand_rows_of m ≡ Some (codes "explain", rows)

@@ -26,6 +26,14 @@ at_rule = option_rule (codes "at") (Some numbers) true
 abbrev pub readings_rule : Rule
 readings_rule = option_rule (codes "readings") None false
 
+-- the option that names where clients connect, which has to be there
+abbrev pub listen_rule : Rule
+listen_rule = option_rule (codes "listen") None true
+
+-- an option of this name that gives a number, which may be left out
+abbrev pub number_rule : List ℕ → Rule
+number_rule name = option_rule name (Some numbers) false
+
 -- a file, which may be left out; help gives it one name
 abbrev pub file_rule : Rule
 file_rule = record (new_rule (codes "file")) { value_names = 1; action = Some Set }
@@ -50,6 +58,23 @@ run_app = file_app (codes "run")
 abbrev pub check_app : App
 check_app = file_app (codes "check")
 
+-- the command `node`
+abbrev pub node_app : App
+node_app =
+    let with_listen = with_rule (new_app (codes "node")) listen_rule in
+    let with_capacity = with_rule with_listen (number_rule (codes "capacity")) in
+    let with_clients = with_rule with_capacity (number_rule (codes "clients")) in
+    with_rule with_clients (number_rule (codes "turns"))
+
+-- the command `proxy`
+abbrev pub proxy_app : App
+proxy_app =
+    let with_config = with_rule (new_app (codes "proxy")) config_rule in
+    let with_listen = with_rule with_config listen_rule in
+    let with_room = with_rule with_listen (number_rule (codes "room")) in
+    let with_clients = with_rule with_room (number_rule (codes "clients")) in
+    with_rule with_clients (number_rule (codes "turns"))
+
 -- a word of its own, by its name, which has to be there
 abbrev pub word_rule : List ℕ → Option ValueParser → Rule
 word_rule name read_by = record (new_rule name) { action = Some Set; parser = read_by; required = true }
@@ -65,5 +90,7 @@ program_app =
     let with_timeline = with_subcommand with_plan timeline_app.top in
     let with_run = with_subcommand with_timeline run_app.top in
     let with_check = with_subcommand with_run check_app.top in
-    let whole = with_subcommand with_check explain_app.top in
+    let with_node = with_subcommand with_check node_app.top in
+    let with_proxy = with_subcommand with_node proxy_app.top in
+    let whole = with_subcommand with_proxy explain_app.top in
     record whole { top = record whole.top { no_binary_name = true; subcommand_required = true; arg_required_else_help = true } }

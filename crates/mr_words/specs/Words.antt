@@ -1,15 +1,17 @@
 -- What the words of the command line say.
-use Rattle.std.specs.Prelude.{◌≡◌, ◌≢◌, ℕ, ◌<◌, ◌^◌, ◌==◌, ⊤, List, [], ◌∷◌, Option, Some, None, option_map, Result, Ok, Err, codes}
+use Rattle.std.specs.Prelude.{◌≡◌, ◌≢◌, ℕ, ◌<◌, ◌^◌, ◌==◌, ◌⊎◌, ⊤, List, [], ◌∷◌, Option, Some, None, option_map, Result, Ok, Err, codes}
 use Rattle.std.specs.Borrow.{Bor}
 use Rattle.std.specs.List.{slice_split}
 use Rattle.std.specs.Str.Parse.{IsNumeral, digits_value, without_leading_plus}
 use Rattle.clap.specs.Words.{Row, Text, fault_of, first_of, one_of, subcommand_of}
 use Rattle.mr_words.specs.Command.{program_app}
 use Rattle.mr_faults.specs.Explain.{Told, told_by, explanation_of}
+use Rattle.mr_words.specs.declared.service_words.NodeValues.{NodeValues}
+use Rattle.mr_words.specs.declared.service_words.ProxyValues.{ProxyValues}
 use Rattle.mr_words.specs.declared.words.PlanValues.{PlanValues}
 use Rattle.mr_words.specs.declared.words.TimelineValues.{TimelineValues}
 use Rattle.mr_words.specs.declared.words.Wanted.{Wanted}
-use Rattle.mr_words.specs.declared.words.Wanted.TheVariants.{Plan, Timeline, Run, Check, Explain}
+use Rattle.mr_words.specs.declared.words.Wanted.TheVariants.{Plan, Timeline, Run, Check, Node, Proxy, Explain}
 use Rattle.mr_words.specs.declared.words.WordsFault.{WordsFault}
 use Rattle.mr_words.specs.declared.words.WordsFault.TheVariants.{Wrong, Readings, Memory}
 
@@ -69,6 +71,42 @@ path_in file = option_map (λ path. path.now) file
 abbrev pub HasFile : List Row → Option Text → Type 0
 HasFile rows file = first_of (codes "file") rows ≡ file
 
+-- how many items a node holds, where its words don't say it
+abbrev pub usual_capacity : ℕ
+usual_capacity = 1024
+
+-- how many clients are served, where the words don't say it
+abbrev pub usual_clients : ℕ
+usual_clients = 1
+
+-- how many reads are made of a connection, where the words don't say it
+abbrev pub usual_turns : ℕ
+usual_turns = 1000000
+
+-- how many requests may be under way in a proxy, where its words don't say it
+abbrev pub usual_room : ℕ
+usual_room = 64
+
+-- the word of an option is this number, or the option is left out and the number is the usual one
+abbrev pub IsNumberOr : ℕ → Option Text → ℕ → Type 0
+IsNumberOr usual None number = number ≡ usual
+IsNumberOr usual (Some word) number = IsNumberWord word number
+
+-- the rows that a parse found hold the values of a node
+pub record HasNode (rows : List Row) (values : NodeValues) : Type 0 where
+  pub listen_is : first_of (codes "listen") rows ≡ Some values.listen.now
+  pub capacity_is : IsNumberOr usual_capacity (one_of (codes "capacity") rows) values.capacity
+  pub clients_is : IsNumberOr usual_clients (one_of (codes "clients") rows) values.clients
+  pub turns_is : IsNumberOr usual_turns (one_of (codes "turns") rows) values.turns
+
+-- the rows that a parse found hold the values of a proxy
+pub record HasProxy (rows : List Row) (values : ProxyValues) : Type 0 where
+  pub config_is : first_of (codes "config") rows ≡ Some values.config.now
+  pub listen_is : first_of (codes "listen") rows ≡ Some values.listen.now
+  pub room_is : IsNumberOr usual_room (one_of (codes "room") rows) values.room
+  pub clients_is : IsNumberOr usual_clients (one_of (codes "clients") rows) values.clients
+  pub turns_is : IsNumberOr usual_turns (one_of (codes "turns") rows) values.turns
+
 -- the rows that a parse found name a refusal that is told of
 pub record HasExplanation (rows : List Row) (told : Told) : Type 0 where
   pub number : List ℕ
@@ -91,6 +129,8 @@ FindsCommand found (Plan values) = Finds (codes "plan") (λ rows. HasPlan rows v
 FindsCommand found (Timeline values) = Finds (codes "timeline") (λ rows. HasTimeline rows values) found
 FindsCommand found (Run file) = Finds (codes "run") (λ rows. HasFile rows (path_in file)) found
 FindsCommand found (Check file) = Finds (codes "check") (λ rows. HasFile rows (path_in file)) found
+FindsCommand found (Node values) = Finds (codes "node") (λ rows. HasNode rows values) found
+FindsCommand found (Proxy values) = Finds (codes "proxy") (λ rows. HasProxy rows values) found
 FindsCommand found (Explain explanation) = Finds (codes "explain") (λ rows. HasExplanation rows (told_by explanation)) found
 
 -- a timeline was found whose readings are no list of numbers
@@ -146,6 +186,49 @@ abbrev pub SaysFile : Text → List Text → Option Text → Type 0
 SaysFile name words None = words ≡ name ∷ []
 SaysFile name words (Some file) = (words ≡ name ∷ file ∷ []) × IsNoOption file
 
+-- the words are `node` and where it listens, which doesn't look like an option, and the numbers are the usual ones
+pub record SaysNodeAlone (words : List Text) (values : NodeValues) : Type 0 where
+  pub words_are : words ≡ codes "node" ∷ codes "--listen" ∷ values.listen.now ∷ []
+  pub listen_is_none : IsNoOption values.listen.now
+  pub capacity_is : values.capacity ≡ usual_capacity
+  pub clients_is : values.clients ≡ usual_clients
+  pub turns_is : values.turns ≡ usual_turns
+
+-- the words are `node` and its four options, and where it listens doesn't look like an option
+pub record SaysNode (words : List Text) (values : NodeValues) : Type 0 where
+  pub capacity : Text
+  pub clients : Text
+  pub turns : Text
+  pub words_are : words ≡ codes "node" ∷ codes "--listen" ∷ values.listen.now ∷ codes "--capacity" ∷ capacity
+      ∷ codes "--clients" ∷ clients ∷ codes "--turns" ∷ turns ∷ []
+  pub listen_is_none : IsNoOption values.listen.now
+  pub capacity_is : IsNumberWord capacity values.capacity
+  pub clients_is : IsNumberWord clients values.clients
+  pub turns_is : IsNumberWord turns values.turns
+
+-- the words are `proxy`, the file's name and where it listens, neither of which looks like an option, and the numbers are
+-- the usual ones
+pub record SaysProxyAlone (words : List Text) (values : ProxyValues) : Type 0 where
+  pub words_are : words ≡ codes "proxy" ∷ codes "--config" ∷ values.config.now ∷ codes "--listen" ∷ values.listen.now ∷ []
+  pub config_is_none : IsNoOption values.config.now
+  pub listen_is_none : IsNoOption values.listen.now
+  pub room_is : values.room ≡ usual_room
+  pub clients_is : values.clients ≡ usual_clients
+  pub turns_is : values.turns ≡ usual_turns
+
+-- the words are `proxy` and its five options, and neither the file's name nor where it listens looks like an option
+pub record SaysProxy (words : List Text) (values : ProxyValues) : Type 0 where
+  pub room : Text
+  pub clients : Text
+  pub turns : Text
+  pub words_are : words ≡ codes "proxy" ∷ codes "--config" ∷ values.config.now ∷ codes "--listen" ∷ values.listen.now
+      ∷ codes "--room" ∷ room ∷ codes "--clients" ∷ clients ∷ codes "--turns" ∷ turns ∷ []
+  pub config_is_none : IsNoOption values.config.now
+  pub listen_is_none : IsNoOption values.listen.now
+  pub room_is : IsNumberWord room values.room
+  pub clients_is : IsNumberWord clients values.clients
+  pub turns_is : IsNumberWord turns values.turns
+
 -- the words are `explain`, and the layer and the number of a refusal that is told of
 pub record SaysExplain (words : List Text) (told : Told) : Type 0 where
   pub number : Text
@@ -160,6 +243,8 @@ SaysPlainly words (Timeline values) =
     (readings : Option Text) × SaysTimeline words values.config.now readings × AreReadings readings (readings_in values)
 SaysPlainly words (Run file) = SaysFile (codes "run") words (path_in file)
 SaysPlainly words (Check file) = SaysFile (codes "check") words (path_in file)
+SaysPlainly words (Node values) = SaysNodeAlone words values ⊎ SaysNode words values
+SaysPlainly words (Proxy values) = SaysProxyAlone words values ⊎ SaysProxy words values
 SaysPlainly words (Explain explanation) = SaysExplain words (told_by explanation)
 
 -- both are the same command with the same values
@@ -168,6 +253,10 @@ AgreesWith (Plan values) (Plan read) = (read.config.now ≡ values.config.now) �
 AgreesWith (Timeline values) (Timeline read) = (read.config.now ≡ values.config.now) × (readings_in read ≡ readings_in values)
 AgreesWith (Run file) (Run read) = path_in read ≡ path_in file
 AgreesWith (Check file) (Check read) = path_in read ≡ path_in file
+AgreesWith (Node values) (Node read) = (read.listen.now ≡ values.listen.now) × (read.capacity ≡ values.capacity)
+    × (read.clients ≡ values.clients) × (read.turns ≡ values.turns)
+AgreesWith (Proxy values) (Proxy read) = (read.config.now ≡ values.config.now) × (read.listen.now ≡ values.listen.now)
+    × (read.room ≡ values.room) × (read.clients ≡ values.clients) × (read.turns ≡ values.turns)
 AgreesWith (Explain explanation) (Explain read) = told_by read ≡ told_by explanation
 AgreesWith _ _ = ⊥
 

@@ -54,3 +54,23 @@ pub const CHECK_NOTES: &str = notes!(
     ", 3 not accepted",
     "migctl run far-clocks.json | migctl check"
 );
+
+/// The notes of `node`.
+pub const NODE_NOTES: &str = notes!(
+    "The host is an address, as 127.0.0.1, or localhost. The node is empty at first, and speaks memcached's text protocol.\n\
+    Connections are accepted one after another, and each is served in a thread of its own. At 0 clients none is.\n\
+    The capacity is a number of items; an item that is used least recently makes way for a new one.\n\
+    The standard input isn't read. Once all connections have ended, 'served <n>' is printed: the number of those that\n\
+    ended without a fault. Where that isn't all of them, the status is 1.",
+    "migctl node --listen 127.0.0.1:11211 --capacity 4096 --clients 8"
+);
+
+/// The notes of `proxy`.
+pub const PROXY_NOTES: &str = notes!(
+    "The host is an address, as 127.0.0.1, or localhost. The nodes are those of the configuration, by host and port.\n\
+    Connections are accepted one after another, and each is served in a thread of its own. At 0 clients none is.\n\
+    The turns bound the reads of a node too, for each leg of a request.\n\
+    The standard input isn't read. Once all connections have ended, 'served <n>' is printed: the number of those that\n\
+    ended without a fault. Where that isn't all of them, the status is 1.",
+    "migctl proxy --config fleet.json --listen 127.0.0.1:11210 --clients 8"
+);

@@ -2,7 +2,10 @@
 #![tactic(auto)]
 
 mod help;
+mod options;
 mod readings;
+mod service_words;
 mod words;
 
+pub use service_words::{NodeValues, ProxyValues};
 pub use words::{PlanValues, TimelineValues, Wanted, WordsFault, read_words};

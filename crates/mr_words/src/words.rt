@@ -1,13 +1,17 @@
 //! The words of the command line.
 ghost use Rattle.std.specs.Prelude.{◌≡◌, None, false, map, IfOk, IfSome, IfNone, option_map};
 ghost use Rattle.clap.specs.Words.{app_of, found_of, rows_of, rule_of, subcommand_rows_of};
-ghost use Rattle.mr_words.specs.Command.{option_rule, config_rule, file_rule, file_app, word_rule, plan_app, timeline_app, explain_app, program_app};
+ghost use Rattle.mr_words.specs.Command.{file_rule, file_app, word_rule, plan_app, timeline_app, explain_app, program_app};
 ghost use Rattle.mr_faults.specs.Explain.{told_by};
 ghost use Rattle.mr_words.specs.Words.{HasPlan, HasExplanation, ReadsWords, SaysPlainly, ReadsAs};
 ghost use Rattle.mr_words.specs.WordSteps.{IsFaultOf, GivesReadings, GivesTimeline, GivesCommand};
 
 use crate::help::{CHECK_NOTES, EXPLAIN_NOTES, PLAN_NOTES, RUN_NOTES, TIMELINE_NOTES};
+use crate::options::{config_option, option};
 use crate::readings::numbers_in;
+use crate::service_words::{
+    NodeValues, ProxyValues, node_command, node_values, proxy_command, proxy_values,
+};
 use clap::error::ErrorKind;
 use clap::{Arg, ArgAction, ArgMatches, Command, Error, value_parser};
 use mr_faults::{Explanation, find_explanation};
@@ -56,6 +60,10 @@ pub enum Wanted<'a> {
     Run(Option<&'a str>),
     /// What is found of the transcript in a file, or of the one on the input.
     Check(Option<&'a str>),
+    /// The service of a node.
+    Node(NodeValues<'a>),
+    /// The service of a proxy.
+    Proxy(ProxyValues<'a>),
     /// What a fault means.
     Explain(Explanation<'static>),
 }
@@ -98,27 +106,6 @@ const RUN_ABOUT: &str = "Plays a script and prints its transcript";
 
 /// What help says of the command `check`.
 const CHECK_ABOUT: &str = "Plays a transcript again and prints what is found of it";
-
-/// An option with a value, by its name, and what help calls its value.
-fn option<'a>(alloc: Global, name: &'a str, value: &'a str, help: &'a str) -> Arg<'a>
-    ensures rule { rule_of result ≡ option_rule name.entry.now None false }
-    ensures local { result.global ≡ false }
-{
-    Arg::new(alloc, name)
-        .long(name)
-        .value_name(value)
-        .action(ArgAction::Set)
-        .help(help)
-}
-
-/// The option that names the file of the configuration.
-fn config_option<'a>(alloc: Global) -> Arg<'a>
-    ensures rule { rule_of result ≡ config_rule }
-    ensures local { result.global ≡ false }
-{
-    let config = option(alloc, "config", "file", "The file of the configuration");
-    config.required(true)
-}
 
 /// The command `plan`.
 fn plan_command<'a>(alloc: Global) -> Result<Command<'a>, AllocError>
@@ -206,6 +193,8 @@ fn program<'a>(alloc: Global) -> Result<Command<'a>, AllocError>
     let timeline = timeline_command(alloc)?;
     let run = file_command(alloc, "run", "script", RUN_ABOUT, RUN_NOTES)?;
     let check = file_command(alloc, "check", "transcript", CHECK_ABOUT, CHECK_NOTES)?;
+    let node = node_command(alloc)?;
+    let proxy = proxy_command(alloc)?;
     let explain = explain_command(alloc)?;
     let program = Command::new(alloc, "migctl")
         .bin_name("migctl")?
@@ -214,6 +203,8 @@ fn program<'a>(alloc: Global) -> Result<Command<'a>, AllocError>
         .subcommand(timeline)?
         .subcommand(run)?
         .subcommand(check)?
+        .subcommand(node)?
+        .subcommand(proxy)?
         .subcommand(explain)?;
     Ok(
         program
@@ -290,6 +281,18 @@ fn wanted_of<'a>(alloc: Global, matches: &ArgMatches<'a>) -> Result<Option<Wante
     }
     if let Some(found) = matches.subcommand_matches("check") {
         return Ok(Some(Wanted::Check(found.get_str("file"))));
+    }
+    if let Some(found) = matches.subcommand_matches("node") {
+        return match node_values(found) {
+            Some(values) => Ok(Some(Wanted::Node(values))),
+            None => Ok(None),
+        };
+    }
+    if let Some(found) = matches.subcommand_matches("proxy") {
+        return match proxy_values(found) {
+            Some(values) => Ok(Some(Wanted::Proxy(values))),
+            None => Ok(None),
+        };
     }
     if let Some(found) = matches.subcommand_matches("explain") {
         return match explanation_in(found) {

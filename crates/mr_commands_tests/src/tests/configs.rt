@@ -1,18 +1,32 @@
 //! Configurations that are refused, and files that can't be read.
-use super::files_at::FilesAt;
 use super::{FLEET, Ran, expect_run, plan_words, run_over};
+use mr_command_test_parts::FilesAt;
 use mr_commands::{MOST_CONFIG_BYTES, MOST_LOADED};
 use mr_text::OverReader;
 use std::alloc::Global;
+use std::net::{Net, TcpListener, TcpStream};
 use std::process::Abort;
+use std::sync::Wait;
 use std::test::Fail;
+use std::thread::Threads;
+use std::time::Clock;
 
 /// Runs a plan and a timeline by one configuration, each of which asks for its file once.
-fn run_both(rt: &impl Abort, alloc: Global, config: &[u8]) -> (Ran, Ran) {
+fn run_both(
+    rt: &(impl Abort
+        + Net<Listener = TcpListener, Stream = TcpStream>
+        + Threads
+        + Wait
+        + Clock
+        + Sync),
+    alloc: Global,
+    config: &[u8],
+) -> (Ran, Ran) {
     let places = [("fleet.json", config)];
     let mut files = FilesAt::new(places.as_slice());
     let mut input = OverReader::new(&b"no such command\n"[..]);
     let plan = run_over(
+        rt,
         alloc,
         &plan_words("fleet.json", "9"),
         &mut files,
@@ -20,7 +34,7 @@ fn run_both(rt: &impl Abort, alloc: Global, config: &[u8]) -> (Ran, Ran) {
     );
     assert_eq!(rt; files.calls(), 1);
     let words = ["timeline", "--config", "fleet.json", "--readings", "9"];
-    let timeline = run_over(alloc, &words, &mut files, &mut input);
+    let timeline = run_over(rt, alloc, &words, &mut files, &mut input);
     assert_eq!(rt; files.calls(), 2);
     (plan, timeline)
 }
@@ -66,6 +80,7 @@ fn files_that_cannot_be_read_have_a_line(rt: HostRuntime) {
     let mut files = FilesAt::new(&[]);
     let mut input = OverReader::new(&b"no such command\n"[..]);
     let ran = run_over(
+        &rt,
         rt.alloc(),
         &plan_words("a b.json", "9"),
         &mut files,
@@ -74,7 +89,7 @@ fn files_that_cannot_be_read_have_a_line(rt: HostRuntime) {
     expect_run(&rt, &ran, 1, b"", b"migctl: file a b.json\n");
     assert_eq!(rt; files.calls(), 1);
     let words = ["timeline", "--config", ""];
-    let ran = run_over(rt.alloc(), &words, &mut files, &mut input);
+    let ran = run_over(&rt, rt.alloc(), &words, &mut files, &mut input);
     expect_run(&rt, &ran, 1, b"", b"migctl: file \n");
     assert_eq!(rt; files.calls(), 2);
 }

@@ -1,13 +1,18 @@
 //! What is left where a device fails.
-use super::files_at::FilesAt;
 use super::plays::{ACCEPTED, SCRIPT, TRANSCRIPT};
 use super::{PLACES, byte_by_byte, expect_run, plan_words, run_over};
+use mr_command_test_parts::FilesAt;
 use mr_commands::run_words;
+use mr_servers::HostServers;
 use mr_text::{FailsAt, OverReader, OverWriter};
 use std::alloc::Global;
 use std::io;
 use std::io::Write;
+use std::net::{Net, TcpListener, TcpStream};
 use std::process::Abort;
+use std::sync::Wait;
+use std::thread::Threads;
+use std::time::Clock;
 
 /// A writer of std that takes half of one piece and fails then. It keeps what it took.
 #[derive(Drop)]
@@ -57,7 +62,12 @@ fn expect_device(rt: &impl Abort, device: &TakesHalf, kept: &[u8], calls: usize)
 
 /// Asserts what each output is left with, where one of their calls fails.
 fn runs_with(
-    rt: &impl Abort,
+    rt: &(impl Abort
+        + Net<Listener = TcpListener, Stream = TcpStream>
+        + Threads
+        + Wait
+        + Clock
+        + Sync),
     alloc: Global,
     words: &[&str],
     input: &[u8],
@@ -72,6 +82,7 @@ fn runs_with(
     let mut input = OverReader::new(input);
     let ran = run_words(
         alloc,
+        &mut HostServers::new(rt),
         words,
         &mut files,
         &mut input,
@@ -190,12 +201,24 @@ fn each_write_of_a_timeline_fails(rt: HostRuntime) {
 }
 
 /// Asserts that a command whose output takes half of its text and fails then calls it no more.
-fn expect_half(rt: &impl Abort, alloc: Global, command: &str, input: &[u8], text: &[u8]) {
+fn expect_half(
+    rt: &(impl Abort
+        + Net<Listener = TcpListener, Stream = TcpStream>
+        + Threads
+        + Wait
+        + Clock
+        + Sync),
+    alloc: Global,
+    command: &str,
+    input: &[u8],
+    text: &[u8],
+) {
     let mut written = OverWriter::new(TakesHalf::new(alloc, 1));
     let mut told = OverWriter::new(TakesHalf::new(alloc, 2));
     let mut input = OverReader::new(input);
     let status = run_words(
         alloc,
+        &mut HostServers::new(rt),
         &[command],
         &mut FilesAt::new(&[]),
         &mut input,
@@ -223,11 +246,11 @@ fn each_read_fails(rt: HostRuntime) {
     let mut files = FilesAt::new(PLACES.as_slice());
     for call in 1..8 {
         let mut source = FailsAt::new(byte_by_byte(input), call);
-        let ran = run_over(alloc, &words, &mut files, &mut source);
+        let ran = run_over(&rt, alloc, &words, &mut files, &mut source);
         expect_run(&rt, &ran, 1, b"", b"migctl: input\n");
     }
     let mut source = FailsAt::new(byte_by_byte(input), 8);
-    let ran = run_over(alloc, &words, &mut files, &mut source);
+    let ran = run_over(&rt, alloc, &words, &mut files, &mut source);
     expect_run(
         &rt,
         &ran,
@@ -235,6 +258,6 @@ fn each_read_fails(rt: HostRuntime) {
         b"phase old-only at 999\nleg 0 old 7002\n",
         b"",
     );
-    let ran = run_over(alloc, &words, &mut files, &mut source);
+    let ran = run_over(&rt, alloc, &words, &mut files, &mut source);
     expect_run(&rt, &ran, 1, b"", b"migctl: input\n");
 }

@@ -1,20 +1,25 @@
 //! What faults mean.
-use super::files_at::FilesAt;
 use super::{PLACES, Ran, expect_run, run};
 use mr_clock::ClockError;
+use mr_command_test_parts::FilesAt;
 use mr_commands::run_words;
 use mr_config::PlanError;
 use mr_node::NodeError;
 use mr_phases::ScheduleError;
 use mr_pools::PoolError;
 use mr_proxy::ProxyError;
+use mr_servers::HostServers;
 use mr_text::{FailsAt, OverReader, OverWriter, TextError};
 use mr_workers::WorkerError;
 use mr_world::WorldError;
 use std::alloc::Global;
 use std::fmt::Debug;
+use std::net::{Net, TcpListener, TcpStream};
 use std::process::Abort;
+use std::sync::Wait;
 use std::test::Fail;
+use std::thread::Threads;
+use std::time::Clock;
 
 #[test]
 fn faults_are_explained(rt: HostRuntime) {
@@ -104,14 +109,19 @@ fn faults_are_explained(rt: HostRuntime) {
         ),
     ];
     for (layer, number, text) in cases {
-        let ran = run(rt.alloc(), &["explain", layer, number], b"no request");
+        let ran = run(&rt, rt.alloc(), &["explain", layer, number], b"no request");
         expect_run(&rt, &ran, 0, text, b"");
     }
 }
 
 /// Asserts that a refusal of a layer is explained under its own number and name.
 fn expect_named<E: Debug + Drop>(
-    rt: &impl Abort,
+    rt: &(impl Abort
+        + Net<Listener = TcpListener, Stream = TcpStream>
+        + Threads
+        + Wait
+        + Clock
+        + Sync),
     alloc: Global,
     layer: &str,
     number: u8,
@@ -132,7 +142,7 @@ fn expect_named<E: Debug + Drop>(
     heading.push(b' ')?;
     heading.extend_from_slice(name)?;
     heading.push(b'\n')?;
-    let ran = run(alloc, &["explain", layer, word.as_str()], b"");
+    let ran = run(rt, alloc, &["explain", layer, word.as_str()], b"");
     assert_eq!(rt; ran.status, 0);
     assert!(rt;
         ran.output.as_slice().starts_with(heading.as_slice()),
@@ -302,7 +312,7 @@ fn no_other_number_is_explained(rt: HostRuntime) {
     for (layer, number) in cases {
         for number in [number, "0"] {
             let words = ["explain", layer, number];
-            expect_wrong(&rt, &run(rt.alloc(), &words, b""), &words);
+            expect_wrong(&rt, &run(&rt, rt.alloc(), &words, b""), &words);
         }
     }
     let others: [&[&str]; 4] = [
@@ -312,9 +322,9 @@ fn no_other_number_is_explained(rt: HostRuntime) {
         &["explain", "plan", "1", "2"],
     ];
     for words in others {
-        expect_wrong(&rt, &run(rt.alloc(), words, b""), words);
+        expect_wrong(&rt, &run(&rt, rt.alloc(), words, b""), words);
     }
-    let ran = run(rt.alloc(), &["explain", "plan", "14"], b"");
+    let ran = run(&rt, rt.alloc(), &["explain", "plan", "14"], b"");
     let text: &[u8] =
         b"error: no layer has a fault of this number: 'migctl explain --help' names the layers\n\n\
         Usage: migctl <COMMAND>\n\nFor more information, try '--help'.\n";
@@ -331,6 +341,7 @@ fn a_failed_output_is_told(rt: HostRuntime) {
     let words = ["explain", "plan", "8"];
     let status = run_words(
         alloc,
+        &mut HostServers::new(&rt),
         &words,
         &mut files,
         &mut input,

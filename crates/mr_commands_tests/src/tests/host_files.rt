@@ -32,7 +32,7 @@ fn files_of_the_system_are_configurations(rt: HostRuntime) {
         let mut files = HostFiles::new(&rt);
         let mut input = OverReader::new(&b""[..]);
         let words = ["timeline", "--config", path];
-        let ran: Ran = run_over(rt.alloc(), &words, &mut files, &mut input);
+        let ran: Ran = run_over(&rt, rt.alloc(), &words, &mut files, &mut input);
         expect_run(&rt, &ran, 1, b"", line);
     }
 }

@@ -58,7 +58,7 @@ fn plans(rt: HostRuntime) {
         ("0", b"quit\r\n", b"phase old-only at 0\n"),
     ];
     for (at, input, output) in cases {
-        let ran = run(rt.alloc(), &plan_words("fleet.json", at), input);
+        let ran = run(&rt, rt.alloc(), &plan_words("fleet.json", at), input);
         expect_run(&rt, &ran, 0, output, b"");
     }
 }
@@ -92,7 +92,7 @@ fn plans_by_the_other_hash(rt: HostRuntime) {
         ),
     ];
     for (file, at, input, output) in cases {
-        let ran = run(rt.alloc(), &plan_words(file, at), input);
+        let ran = run(&rt, rt.alloc(), &plan_words(file, at), input);
         expect_run(&rt, &ran, 0, output, b"");
     }
 }
@@ -106,7 +106,7 @@ fn options_stand_in_any_order(rt: HostRuntime) {
         &["plan", "--at=9", "--config=fleet.json"],
     ];
     for words in cases {
-        let ran = run(rt.alloc(), words, b"get k\n");
+        let ran = run(&rt, rt.alloc(), words, b"get k\n");
         expect_run(&rt, &ran, 0, plan, b"");
     }
 }

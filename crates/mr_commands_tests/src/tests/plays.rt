@@ -1,10 +1,14 @@
 //! Scripts that are played, and transcripts that are checked.
-use super::files_at::FilesAt;
 use super::{Ran, byte_by_byte, expect_run, run, run_over};
+use mr_command_test_parts::FilesAt;
 use mr_text::{FailsAt, OverReader};
 use std::alloc::Global;
+use std::net::{Net, TcpListener, TcpStream};
 use std::process::Abort;
+use std::sync::Wait;
 use std::test::Fail;
+use std::thread::Threads;
+use std::time::Clock;
 
 /// A script: one proxy, before the migration, gets a key that nothing stored.
 pub const SCRIPT: &str =
@@ -47,10 +51,20 @@ pub const ACCEPTED: &[u8] =
     b"premises same true new_empty true forward true near true\nverdict safe\naccepted\n";
 
 /// Runs a command that is given an input alone. It asks for no file.
-fn run_on(rt: &impl Abort, alloc: Global, command: &str, input: &str) -> Ran {
+fn run_on(
+    rt: &(impl Abort
+        + Net<Listener = TcpListener, Stream = TcpStream>
+        + Threads
+        + Wait
+        + Clock
+        + Sync),
+    alloc: Global,
+    command: &str,
+    input: &str,
+) -> Ran {
     let mut files = FilesAt::new(&[]);
     let mut input = byte_by_byte(input.as_bytes());
-    let ran = run_over(alloc, &[command], &mut files, &mut input);
+    let ran = run_over(rt, alloc, &[command], &mut files, &mut input);
     assert_eq!(rt; files.calls(), 0);
     ran
 }
@@ -61,11 +75,21 @@ fn file_words<'a>(command: &'a str) -> [&'a str; 2] {
 }
 
 /// Runs a command that is given a file. It asks for that once, and would fail where it read its input.
-fn run_by_file(rt: &impl Abort, alloc: Global, command: &str, file: &[u8]) -> Ran {
+fn run_by_file(
+    rt: &(impl Abort
+        + Net<Listener = TcpListener, Stream = TcpStream>
+        + Threads
+        + Wait
+        + Clock
+        + Sync),
+    alloc: Global,
+    command: &str,
+    file: &[u8],
+) -> Ran {
     let places = [("play.json", file)];
     let mut files = FilesAt::new(places.as_slice());
     let mut input = FailsAt::new(OverReader::new(&b"no JSON"[..]), 1);
-    let ran = run_over(alloc, &file_words(command), &mut files, &mut input);
+    let ran = run_over(rt, alloc, &file_words(command), &mut files, &mut input);
     assert_eq!(rt; files.calls(), 1);
     ran
 }
@@ -95,7 +119,7 @@ fn a_play_with_far_clocks_is_not_accepted(rt: HostRuntime) {
     let alloc = rt.alloc();
     let played = run_on(&rt, alloc, "run", FAR_CLOCKS);
     assert_eq!(rt; played.status, 0);
-    let ran = run(alloc, &["check"], played.output.as_slice());
+    let ran = run(&rt, alloc, &["check"], played.output.as_slice());
     let lines: &[u8] = b"premises same true new_empty true forward true near false\n\
         verdict stale get 1.0.1 delete 0.0.0\nnot accepted: premise false\n";
     expect_run(&rt, &ran, 3, lines, b"");
@@ -156,11 +180,11 @@ fn what_cannot_be_had_is_not_played(rt: HostRuntime) {
         let mut files = FilesAt::new(&[]);
         let mut input = OverReader::new(TRANSCRIPT.as_bytes());
         let words = [command, "a b.json"];
-        let ran = run_over(rt.alloc(), &words, &mut files, &mut input);
+        let ran = run_over(&rt, rt.alloc(), &words, &mut files, &mut input);
         expect_run(&rt, &ran, 1, b"", b"migctl: file a b.json\n");
         assert_eq!(rt; files.calls(), 1);
         let mut failing = FailsAt::new(byte_by_byte(TRANSCRIPT.as_bytes()), 9);
-        let ran = run_over(rt.alloc(), &[command], &mut files, &mut failing);
+        let ran = run_over(&rt, rt.alloc(), &[command], &mut files, &mut failing);
         expect_run(&rt, &ran, 1, b"", b"migctl: input\n");
         assert_eq!(rt; files.calls(), 1);
     }

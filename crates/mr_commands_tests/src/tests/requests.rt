@@ -1,6 +1,6 @@
 //! Requests that are refused, and the longest one.
-use super::files_at::FilesAt;
 use super::{PLACES, byte_by_byte, expect_run, plan_words, run, run_over};
+use mr_command_test_parts::FilesAt;
 use std::test::Fail;
 
 #[test]
@@ -36,10 +36,10 @@ fn requests_are_refused(rt: HostRuntime) -> Result<(), Fail> {
     ];
     for (input, line) in cases {
         let words = plan_words("fleet.json", "999");
-        let ran = run(rt.alloc(), &words, input);
+        let ran = run(&rt, rt.alloc(), &words, input);
         expect_run(&rt, &ran, 1, b"", line);
         let mut files = FilesAt::new(PLACES.as_slice());
-        let ran = run_over(alloc, &words, &mut files, &mut byte_by_byte(input));
+        let ran = run_over(&rt, alloc, &words, &mut files, &mut byte_by_byte(input));
         expect_run(&rt, &ran, 1, b"", line);
     }
     Ok(())
@@ -61,7 +61,7 @@ fn longest_request_is_read_byte_by_byte(rt: HostRuntime) -> Result<(), Fail> {
     let mut files = FilesAt::new(PLACES.as_slice());
     let words = plan_words("fleet.json", "999");
     let mut slow = byte_by_byte(input.as_slice());
-    let ran = run_over(alloc, &words, &mut files, &mut slow);
+    let ran = run_over(&rt, alloc, &words, &mut files, &mut slow);
     expect_run(
         &rt,
         &ran,
@@ -70,7 +70,7 @@ fn longest_request_is_read_byte_by_byte(rt: HostRuntime) -> Result<(), Fail> {
         b"",
     );
     let mut slow = byte_by_byte(cut.as_slice());
-    let ran = run_over(alloc, &words, &mut files, &mut slow);
+    let ran = run_over(&rt, alloc, &words, &mut files, &mut slow);
     expect_run(&rt, &ran, 1, b"", b"migctl: text 8 Truncated\n");
     Ok(())
 }

@@ -8,7 +8,12 @@ fn timelines(rt: HostRuntime) {
     let first: &[u8] =
         b"old-only none\nboth-read-old 0 3599\nboth-read-new 3600 7199\nnew-only 7200\n";
     for (file, times) in [("fleet.json", fleet), ("first.json", first)] {
-        let ran = run(rt.alloc(), &["timeline", "--config", file], b"no request");
+        let ran = run(
+            &rt,
+            rt.alloc(),
+            &["timeline", "--config", file],
+            b"no request",
+        );
         expect_run(&rt, &ran, 0, times, b"");
     }
 }
@@ -41,7 +46,7 @@ fn readings_get_advice(rt: HostRuntime) {
     ];
     for (readings, output) in cases {
         let words = ["timeline", "--config", "fleet.json", "--readings", readings];
-        let ran = run(rt.alloc(), &words, b"");
+        let ran = run(&rt, rt.alloc(), &words, b"");
         expect_run(&rt, &ran, 0, output, b"");
     }
 }

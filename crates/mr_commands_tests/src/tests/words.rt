@@ -1,6 +1,6 @@
 //! Words that say no command.
-use super::files_at::FilesAt;
 use super::{PLACES, expect_run, run, run_over};
+use mr_command_test_parts::FilesAt;
 use mr_text::OverReader;
 
 #[test]
@@ -36,7 +36,7 @@ fn words_are_refused_with_status_2(rt: HostRuntime) {
         &["check", "--help"],
     ];
     for words in cases {
-        let ran = run(rt.alloc(), words, b"delete k\n");
+        let ran = run(&rt, rt.alloc(), words, b"delete k\n");
         assert_eq!(rt; ran.status, 2, "{words:?}");
         assert!(rt; ran.output.is_empty(), "{words:?}");
         assert!(rt; !ran.faults.is_empty(), "{words:?}");
@@ -110,7 +110,7 @@ fn wrong_words_and_help_have_texts(rt: HostRuntime) {
         ),
     ];
     for (words, text) in cases {
-        let ran = run(rt.alloc(), words, b"delete k\n");
+        let ran = run(&rt, rt.alloc(), words, b"delete k\n");
         expect_run(&rt, &ran, 2, b"", text);
     }
 }
@@ -134,7 +134,7 @@ fn readings_are_numbers(rt: HostRuntime) {
         let words = ["timeline", "--config", "none.json", readings];
         let mut files = FilesAt::new(PLACES.as_slice());
         let mut input = OverReader::new(&b""[..]);
-        let ran = run_over(rt.alloc(), &words, &mut files, &mut input);
+        let ran = run_over(&rt, rt.alloc(), &words, &mut files, &mut input);
         expect_run(&rt, &ran, 2, b"", b"migctl: words --readings\n");
         assert_eq!(rt; files.calls(), 0);
     }

@@ -8,6 +8,7 @@ use std::process::Abort;
 use std::sync::Wait;
 use std::test::Fail;
 use std::thread::Threads;
+use std::time::Clock;
 use std::{io, thread};
 
 /// What a client sends, piece by piece, and what it has to be answered.
@@ -33,7 +34,7 @@ const ROWS: [Row<'static>; 6] = [
 ];
 
 /// The node and its clients at once, one after another: how many connections it served, and what each client was answered.
-fn play<R: Net + Threads + Wait + Sync>(
+fn play<R: Net + Threads + Wait + Clock + Sync>(
     rt: &R,
     alloc: Global,
     node_listener: TcpListener,
@@ -86,7 +87,7 @@ fn asks_and_leaves<R: Net>(rt: &R, alloc: Global, address: SocketAddr) -> io::Re
 }
 
 /// The node, and two clients of which the first doesn't read: how many connections it served, and what the second was answered.
-fn play_unread<R: Net + Threads + Wait + Sync>(
+fn play_unread<R: Net + Threads + Wait + Clock + Sync>(
     rt: &R,
     alloc: Global,
     node_listener: TcpListener,

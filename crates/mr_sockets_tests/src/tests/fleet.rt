@@ -12,6 +12,7 @@ use std::sync::Wait;
 use std::test::Fail;
 use std::thread;
 use std::thread::Threads;
+use std::time::Clock;
 
 const REQUESTS: &[u8] = b"set k 0 0 1\r\nv\r\nget k\r\ndelete k\r\nget k\r\nquit\r\n";
 
@@ -21,7 +22,7 @@ const ANSWERS: &[u8] = b"STORED\r\nVALUE k 0 1\r\nv\r\nEND\r\nDELETED\r\nEND\r\n
 fn play<
     N: Net<Listener = TcpListener, Stream = TcpStream> + Copy + Send + Sync,
     D: Desk<SocketCarrier<N>> + Sync,
-    R: Threads + Wait + Sync,
+    R: Threads + Wait + Clock + Sync,
 >(
     rt: &R,
     alloc: Global,

@@ -10,6 +10,7 @@ use std::process::Abort;
 use std::sync::Wait;
 use std::test::Fail;
 use std::thread::Threads;
+use std::time::Clock;
 use std::{io, thread};
 
 /// Accepts a connection, reads of the leg's request, answers half a reply, and goes away.
@@ -21,7 +22,7 @@ fn go_away(listener: &TcpListener) -> io::Result<()> {
 }
 
 /// A node that goes away in the middle of a leg, and comes back for one connection: whether that was served.
-fn unsteady<R: Threads + Wait + Sync>(
+fn unsteady<R: Threads + Wait + Clock + Sync>(
     rt: &R,
     alloc: Global,
     listener: TcpListener,
@@ -38,7 +39,7 @@ fn unsteady<R: Threads + Wait + Sync>(
 fn play<
     N: Net<Listener = TcpListener, Stream = TcpStream> + Copy + Send + Sync,
     D: Desk<SocketCarrier<N>> + Sync,
-    R: Threads + Wait + Sync,
+    R: Threads + Wait + Clock + Sync,
 >(
     rt: &R,
     alloc: Global,

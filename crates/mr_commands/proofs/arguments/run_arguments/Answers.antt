@@ -9,12 +9,12 @@ use Rattle.mr_commands.proofs.arguments.run_arguments.Goals as goal
 
 pub returns-in_default-clause-runs : goal.returns-in_default-clause-runs
 returns-in_default-clause-runs g c =
-    rw c.in-Ok.is (memory_run (map string_bytes (drop 1 (into_iter_items c.in-Ok.given))) _ _ _ _ _ _ c.tell_fault-in_default.ensures.status c.tell_fault-in_default.ensures.told)
+    rw c.in-Ok.is (memory_run (map string_bytes (drop 1 (into_iter_items c.in-Ok.given))) _ _ _ _ _ _ _ c.tell_fault-in_default.ensures.status c.tell_fault-in_default.ensures.told)
 
 pub returns-in_default-words_of-clause-runs : goal.returns-in_default-words_of-clause-runs
 returns-in_default-words_of-clause-runs g c =
     rw c.in-Ok.is
-    (memory_run (map string_bytes (drop 1 (into_iter_items c.in-Ok.given))) _ _ _ _ _ _ c.tell_fault-in_default-words_of.ensures.status
+    (memory_run (map string_bytes (drop 1 (into_iter_items c.in-Ok.given))) _ _ _ _ _ _ _ c.tell_fault-in_default-words_of.ensures.status
     c.tell_fault-in_default-words_of.ensures.told)
 
 pub returns-clause-runs : goal.returns-clause-runs
@@ -23,7 +23,7 @@ returns-clause-runs g c =
     (rw c.in-Ok-collect.is at (items_from_collect c.collect.result c.collect.ensures.ran (YieldsList-from_vec (into_iter_items c.in-Ok.given) refl c.in-Ok.given.rest.ok.0))) in
     let same : map (λ word. word.now) c.as_slice-2.result.now ≡ map string_bytes (drop 1 (into_iter_items c.in-Ok.given)) =
     rw (c.as_slice-2.ensures.value, c.in-Ok-words_of.ensures, c.as_slice.ensures.value, collected) refl in
-    rw c.in-Ok.is (same_words_run _ _ _ _ _ same c.run_words.ensures.runs)
+    rw c.in-Ok.is (same_words_run _ _ _ _ _ _ _ same c.run_words.ensures.runs)
 
 pub returns-clause-reads : goal.returns-clause-reads
 returns-clause-reads g c =

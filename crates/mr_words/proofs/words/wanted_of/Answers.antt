@@ -1,7 +1,7 @@
 use Rattle.std.proofs.Common.{◌∙◌, codes, refl, sym}
 use Rattle.clap.proofs.WalkLemmas.{first_value-rows}
 use Rattle.clap.specs.Words.{found_of}
-use Rattle.mr_words.proofs.WordLemmas.{explanation_not_found, plan_not_found, sub_row}
+use Rattle.mr_words.proofs.WordLemmas.{explanation_not_found, node_not_found, plan_not_found, proxy_not_found, sub_row}
 use Rattle.mr_words.proofs.words.wanted_of.Goals as goal
 
 pub returns-in-None : goal.returns-in-None
@@ -26,9 +26,23 @@ returns-in-Some-subcommand_matches-3 c =
       sym (c.get_str-in-Some-subcommand_matches-3.ensures ∙ first_value-rows (found_of c.in-Some-subcommand_matches-3.found.now) (codes "file")),
     )
 
+pub returns-in-None-node_values : goal.returns-in-None-node_values
+returns-in-None-node_values c =
+    let found =
+    sub_row c.args.matches.now _ _ (c.in-Some-subcommand_matches-4.ensures.found.0 refl) c.in-Some-subcommand_matches-4.ensures.rows in
+    let nothing = node_not_found c.args.matches.now _ found c.in-None-node_values.ensures.missing in
+    (nothing.no_command, nothing.no_readings)
+
+pub returns-in-None-proxy_values : goal.returns-in-None-proxy_values
+returns-in-None-proxy_values c =
+    let found =
+    sub_row c.args.matches.now _ _ (c.in-Some-subcommand_matches-5.ensures.found.0 refl) c.in-Some-subcommand_matches-5.ensures.rows in
+    let nothing = proxy_not_found c.args.matches.now _ found c.in-None-proxy_values.ensures.missing in
+    (nothing.no_command, nothing.no_readings)
+
 pub returns-in-None-explanation_in : goal.returns-in-None-explanation_in
 returns-in-None-explanation_in c =
     let found =
-    sub_row c.args.matches.now _ _ (c.in-Some-subcommand_matches-4.ensures.found.0 refl) c.in-Some-subcommand_matches-4.ensures.rows in
+    sub_row c.args.matches.now _ _ (c.in-Some-subcommand_matches-6.ensures.found.0 refl) c.in-Some-subcommand_matches-6.ensures.rows in
     let nothing = explanation_not_found c.args.matches.now _ found c.in-None-explanation_in.ensures.missing in
     (nothing.no_command, nothing.no_readings)

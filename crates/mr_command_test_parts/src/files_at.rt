@@ -1,6 +1,6 @@
 //! Files in memory.
 ghost use Rattle.std.specs.Prelude.{◌≡◌, take, IfSome, IfNone};
-ghost use Rattle.mr_commands_tests.specs.FilesAt.{known_at, IsReadAt};
+ghost use Rattle.mr_command_test_parts.specs.FilesAt.{known_at, IsReadAt};
 ghost use Rattle.mr_commands.specs.Sources.{Known, most_loaded};
 
 use mr_commands::{LoadFault, MOST_LOADED, Sources};

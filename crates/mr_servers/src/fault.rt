@@ -1,0 +1,11 @@
+//! Why a service can't begin.
+
+use thiserror::Error;
+
+/// Why a service can't begin. Nothing was accepted then.
+#[derive(Clone, Copy, Debug, PartialEq, Eq, Error)]
+pub enum OpenFault {
+    /// The address is none, or no socket can listen there.
+    #[error("no socket can be opened")]
+    Net,
+}

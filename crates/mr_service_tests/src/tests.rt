@@ -1,0 +1,100 @@
+//! Nodes and proxies as commands, and clients of theirs.
+mod beginnings;
+mod nodes;
+mod proxies;
+
+use mr_command_test_parts::{FilesAt, Place};
+use mr_commands::run_words;
+use mr_servers::HostServers;
+use mr_text::{FailsAt, OverReader, OverWriter};
+use std::alloc::{AllocError, Global};
+use std::io::{Read, Write};
+use std::net::{Net, Shutdown, SocketAddr, TcpListener, TcpStream};
+use std::process::Abort;
+use std::sync::Wait;
+use std::thread::Threads;
+use std::time::{Clock, Duration};
+use std::{io, thread};
+
+/// What a command left.
+#[derive(Drop)]
+struct Ran {
+    status: u8,
+    output: Vec<u8>,
+    faults: Vec<u8>,
+}
+
+/// Runs a command over files. It doesn't read its input: a read would fail.
+fn run<R: Net<Listener = TcpListener, Stream = TcpStream> + Threads + Wait + Clock + Sync>(
+    rt: &R,
+    alloc: Global,
+    places: &[Place],
+    words: &[&str],
+) -> Ran {
+    let mut input = FailsAt::new(OverReader::new(&b""[..]), 1);
+    let mut output = OverWriter::new(Vec::new(alloc));
+    let mut faults = OverWriter::new(Vec::new(alloc));
+    let status = run_words(
+        alloc,
+        &mut HostServers::new(rt),
+        words,
+        &mut FilesAt::new(places),
+        &mut input,
+        &mut output,
+        &mut faults,
+    );
+    Ran {
+        status,
+        output: output.into_inner(),
+        faults: faults.into_inner(),
+    }
+}
+
+fn expect_run(rt: &impl Abort, ran: &Ran, status: u8, output: &[u8], faults: &[u8]) {
+    assert_eq!(rt; ran.output.as_slice(), output);
+    assert_eq!(rt; ran.faults.as_slice(), faults);
+    assert_eq!(rt; ran.status, status);
+}
+
+/// An address of this host, one of this machine's, at which nothing listens now.
+fn free_address<R: Net<Listener = TcpListener, Stream = TcpStream>>(
+    rt: &R,
+    host: &str,
+) -> io::Result<SocketAddr> {
+    TcpListener::bind(rt, (host, 0))?.local_addr()
+}
+
+/// The address as words have it.
+fn word_of(alloc: Global, address: SocketAddr) -> Result<String, AllocError> {
+    format!(in alloc; "{address}")
+}
+
+/// A connection to an address at which something listens some time soon.
+fn reach<R: Net<Stream = TcpStream> + Clock>(rt: &R, address: SocketAddr) -> io::Result<TcpStream> {
+    for _ in 0..500 {
+        if let Ok(stream) = TcpStream::connect(rt, address) {
+            return Ok(stream);
+        }
+        thread::sleep(rt, Duration::from_millis(20));
+    }
+    TcpStream::connect(rt, address)
+}
+
+/// What is answered to a client that sends these pieces, waits a moment after each, then sends no more and reads to the end.
+fn answers<R: Net<Stream = TcpStream> + Clock>(
+    rt: &R,
+    alloc: Global,
+    address: SocketAddr,
+    pieces: &[&[u8]],
+) -> io::Result<Vec<u8>> {
+    let mut stream = reach(rt, address)?;
+    stream.set_nodelay(true)?;
+    for piece in pieces {
+        stream.write_all(piece)?;
+        thread::sleep(rt, Duration::from_millis(20));
+    }
+    let _ = stream.shutdown(Shutdown::Write);
+    let mut answers = Vec::new(alloc);
+    stream.read_to_end(&mut answers)?;
+    Ok(answers)
+}

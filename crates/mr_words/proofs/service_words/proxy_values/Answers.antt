@@ -1,0 +1,24 @@
+use Rattle.std.proofs.Common.{◌∙◌, sym, codes}
+use Rattle.clap.proofs.WalkLemmas.{first_value-rows}
+use Rattle.clap.specs.Words.{found_of}
+use Rattle.mr_words.proofs.WordLemmas.{text_missing}
+use Rattle.mr_words.proofs.service_words.proxy_values.Goals as goal
+
+pub returns-clause-found : goal.returns-clause-found
+returns-clause-found c = record {
+  config_is = sym (c.in_ok-get_str.ensures ∙ first_value-rows (found_of c.args.matches.now) (codes "config"));
+  listen_is = sym (c.in_ok-get_str-2.ensures ∙ first_value-rows (found_of c.args.matches.now) (codes "listen"));
+  room_is = c.in_ok-number_or.ensures.found;
+  clients_is = c.in_ok-number_or-2.ensures.found;
+  turns_is = c.in_ok-number_or-3.ensures.found;
+}
+
+pub returns-in_err-get_str-clause-missing : goal.returns-in_err-get_str-clause-missing
+returns-in_err-get_str-clause-missing c =
+    rw c.from_residual.ensures
+    (λ proxy has. text_missing _ _ (c.in_err-get_str.ensures ∙ first_value-rows (found_of c.args.matches.now) (codes "config")) has.config_is)
+
+pub returns-in_err-get_str-2-clause-missing : goal.returns-in_err-get_str-2-clause-missing
+returns-in_err-get_str-2-clause-missing c =
+    rw c.from_residual-in_err-get_str-2.ensures
+    (λ proxy has. text_missing _ _ (c.in_err-get_str-2.ensures ∙ first_value-rows (found_of c.args.matches.now) (codes "listen")) has.listen_is)

@@ -1,0 +1,138 @@
+//! The words of the commands that serve clients: a node, and a proxy.
+ghost use Rattle.std.specs.Prelude.{◌≡◌, false, IfOk, IfSome, IfNone, codes};
+ghost use Rattle.clap.specs.Words.{app_of, found_of, rows_of, rule_of};
+ghost use Rattle.mr_words.specs.Command.{node_app, proxy_app, number_rule};
+ghost use Rattle.mr_words.specs.Words.{HasNode, HasProxy};
+
+use crate::help::{NODE_NOTES, PROXY_NOTES};
+use crate::options::{config_option, listen_option, number_option, number_or};
+use clap::{Arg, ArgMatches, Command};
+use std::alloc::{AllocError, Global};
+
+/// How many items a node holds, where its words don't say it.
+const USUAL_CAPACITY: u64 = 1024;
+
+/// How many clients are served, where the words don't say it.
+const USUAL_CLIENTS: u64 = 1;
+
+/// How many reads are made of a connection, where the words don't say it.
+const USUAL_TURNS: u64 = 1_000_000;
+
+/// How many requests may be under way in a proxy, where its words don't say it.
+const USUAL_ROOM: u64 = 64;
+
+/// The values of the command `node`.
+#[derive(Clone, Copy, Debug)]
+pub struct NodeValues<'a> {
+    /// Where clients connect: a host and a port, with a colon between them.
+    pub listen: &'a str,
+    /// How many items the node holds at most.
+    pub capacity: u64,
+    /// How many clients are served, until the command ends.
+    pub clients: u64,
+    /// How many reads are made at most of each client's connection.
+    pub turns: u64,
+}
+
+/// The values of the command `proxy`.
+#[derive(Clone, Copy, Debug)]
+pub struct ProxyValues<'a> {
+    /// The path of the configuration's file.
+    pub config: &'a str,
+    /// Where clients connect: a host and a port, with a colon between them.
+    pub listen: &'a str,
+    /// How many requests may be under way at once.
+    pub room: u64,
+    /// How many clients are served, until the command ends.
+    pub clients: u64,
+    /// How many reads are made at most of each client's connection, and of a node for each leg.
+    pub turns: u64,
+}
+
+/// The option that says how many clients are served.
+fn clients_option<'a>(alloc: Global) -> Arg<'a>
+    ensures rule { rule_of result ≡ number_rule (codes "clients") }
+    ensures local { result.global ≡ false }
+{
+    number_option(
+        alloc,
+        "clients",
+        "How many connections are served until the command ends; 1 where it is left out",
+    )
+}
+
+/// The option that says how many reads are made of a connection.
+fn turns_option<'a>(alloc: Global) -> Arg<'a>
+    ensures rule { rule_of result ≡ number_rule (codes "turns") }
+    ensures local { result.global ≡ false }
+{
+    number_option(
+        alloc,
+        "turns",
+        "How many reads are made of a connection at most; 1000000 where it is left out",
+    )
+}
+
+/// The command `node`.
+pub fn node_command<'a>(alloc: Global) -> Result<Command<'a>, AllocError>
+    ensures { IfOk result (λ command. app_of command ≡ node_app) }
+{
+    let capacity = number_option(
+        alloc,
+        "capacity",
+        "How many items the node holds at most; 1024 where it is left out",
+    );
+    Command::new(alloc, "node")
+        .about("Serves a memcached node that is empty at first")
+        .after_help(NODE_NOTES)
+        .arg(listen_option(alloc))?
+        .arg(capacity)?
+        .arg(clients_option(alloc))?
+        .arg(turns_option(alloc))
+}
+
+/// The command `proxy`.
+pub fn proxy_command<'a>(alloc: Global) -> Result<Command<'a>, AllocError>
+    ensures { IfOk result (λ command. app_of command ≡ proxy_app) }
+{
+    let room = number_option(
+        alloc,
+        "room",
+        "How many requests may be under way at once; 64 where it is left out",
+    );
+    Command::new(alloc, "proxy")
+        .about("Serves a proxy that migrates the pool of a configuration")
+        .after_help(PROXY_NOTES)
+        .arg(config_option(alloc))?
+        .arg(listen_option(alloc))?
+        .arg(room)?
+        .arg(clients_option(alloc))?
+        .arg(turns_option(alloc))
+}
+
+/// The values of the command `node`, where each of them was found or is the usual one.
+pub fn node_values<'a>(matches: &ArgMatches<'a>) -> Option<NodeValues<'a>>
+    ensures found { IfSome result (HasNode (rows_of (found_of matches.now))) }
+    ensures missing { IfNone result ((values : NodeValues) → ¬ HasNode (rows_of (found_of matches.now)) values) }
+{
+    Some(NodeValues {
+        listen: matches.get_str("listen")?,
+        capacity: number_or(matches, "capacity", USUAL_CAPACITY)?,
+        clients: number_or(matches, "clients", USUAL_CLIENTS)?,
+        turns: number_or(matches, "turns", USUAL_TURNS)?,
+    })
+}
+
+/// The values of the command `proxy`, where each of them was found or is the usual one.
+pub fn proxy_values<'a>(matches: &ArgMatches<'a>) -> Option<ProxyValues<'a>>
+    ensures found { IfSome result (HasProxy (rows_of (found_of matches.now))) }
+    ensures missing { IfNone result ((values : ProxyValues) → ¬ HasProxy (rows_of (found_of matches.now)) values) }
+{
+    Some(ProxyValues {
+        config: matches.get_str("config")?,
+        listen: matches.get_str("listen")?,
+        room: number_or(matches, "room", USUAL_ROOM)?,
+        clients: number_or(matches, "clients", USUAL_CLIENTS)?,
+        turns: number_or(matches, "turns", USUAL_TURNS)?,
+    })
+}
