@@ -97,26 +97,28 @@ idle_steady before between idle busy steady same = (steady, ap (λ (s : ServersV
 node_steady : (values : NodeValues) (ended : Ended) (before between : Devices) (idle busy : ServersView) → NodeGives values before between idle busy (Ok ended)
     → between.faults ≡ before.faults → AllSteady before between idle busy
 node_steady values ended before between idle busy h silent =
-    let steady = service_steady _ ended before between idle busy h.runs in
-    (record {
-      sources = ap (λ (s : SourcesView). s.failures) h.unasked;
-      input = ap (λ (s : SourceView). s.failures) h.unread;
-      output = steady.1;
-      faults = ap (λ (s : SinkView). s.failures) silent;
-    },
-    steady.0)
+    let steady = service_steady _ ended before between idle busy h.runs in (
+      record {
+        sources = ap (λ (s : SourcesView). s.failures) h.unasked;
+        input = ap (λ (s : SourceView). s.failures) h.unread;
+        output = steady.1;
+        faults = ap (λ (s : SinkView). s.failures) silent;
+      },
+      steady.0,
+    )
 
 proxy_steady : (values : ProxyValues) (ended : Ended) (before between : Devices) (idle busy : ServersView) → ProxyGives values before between idle busy (Ok ended)
     → between.faults ≡ before.faults → AllSteady before between idle busy
 proxy_steady values ended before between idle busy h silent =
-    let steady = service_steady _ ended before between idle busy h.runs in
-    (record {
-      sources = config_steady values.config.now before.sources between.sources h.config h.has.loaded;
-      input = ap (λ (s : SourceView). s.failures) h.has.unread;
-      output = steady.1;
-      faults = ap (λ (s : SinkView). s.failures) silent;
-    },
-    steady.0)
+    let steady = service_steady _ ended before between idle busy h.runs in (
+      record {
+        sources = config_steady values.config.now before.sources between.sources h.config h.has.loaded;
+        input = ap (λ (s : SourceView). s.failures) h.has.unread;
+        output = steady.1;
+        faults = ap (λ (s : SinkView). s.failures) silent;
+      },
+      steady.0,
+    )
 
 command_steady : (wanted : Wanted) (ended : Ended) (before between : Devices) (idle busy : ServersView) → Gives wanted before between idle busy (Ok ended)
     → between.faults ≡ before.faults → AllSteady before between idle busy

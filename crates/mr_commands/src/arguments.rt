@@ -13,11 +13,10 @@ use mr_servers::HostServers;
 use mr_text::{Sink, Source};
 use std::alloc::{AllocError, Global};
 use std::env::Args;
-use std::io;
 use std::net::{Net, TcpListener, TcpStream};
 use std::sync::Wait;
 use std::thread::Threads;
-use std::time;
+use std::{io, time};
 
 /// The words after the program's name, each borrowed from the arguments.
 fn words_of(alloc: Global, arguments: &[String]) -> Result<Vec<&str>, AllocError>

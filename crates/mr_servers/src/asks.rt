@@ -15,13 +15,7 @@ pub(crate) enum Asks {
     /// Nothing yet.
     Nothing,
     /// A node: its address, its cache, its clients and their turns.
-    Node(
-        Snapshot<Asks>,
-        Snapshot<GhostBytes>,
-        Snapshot<CacheNode>,
-        Snapshot<u64>,
-        Snapshot<u64>,
-    ),
+    Node(Snapshot<Asks>, Snapshot<GhostBytes>, Snapshot<CacheNode>, Snapshot<u64>, Snapshot<u64>),
     /// A proxy: its address, its core, the routing of its carriers, its clients and their turns.
     Proxy(
         Snapshot<Asks>,

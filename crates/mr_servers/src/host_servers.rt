@@ -30,8 +30,10 @@ pub struct HostServers<
     failures: GhostCount,
 }
 
-impl<'a, R: Net<Listener = TcpListener, Stream = TcpStream> + Threads + Wait + time::Clock + Sync>
-    Drop for HostServers<'a, R> {
+impl<
+    'a,
+    R: Net<Listener = TcpListener, Stream = TcpStream> + Threads + Wait + time::Clock + Sync,
+> Drop for HostServers<'a, R> {
     fn drop(self) {
         let Self {
             rt: _,
@@ -41,8 +43,10 @@ impl<'a, R: Net<Listener = TcpListener, Stream = TcpStream> + Threads + Wait + t
     }
 }
 
-impl<'a, R: Net<Listener = TcpListener, Stream = TcpStream> + Threads + Wait + time::Clock + Sync>
-    Model for HostServers<'a, R> {
+impl<
+    'a,
+    R: Net<Listener = TcpListener, Stream = TcpStream> + Threads + Wait + time::Clock + Sync,
+> Model for HostServers<'a, R> {
     ghost use Rattle.mr_servers.specs.Servers.{ServersView};
 
     ghost Value = { ServersView };
@@ -114,8 +118,10 @@ fn proxy_at<
     Ok(served)
 }
 
-impl<'a, R: Net<Listener = TcpListener, Stream = TcpStream> + Threads + Wait + time::Clock + Sync>
-    HostServers<'a, R> {
+impl<
+    'a,
+    R: Net<Listener = TcpListener, Stream = TcpStream> + Threads + Wait + time::Clock + Sync,
+> HostServers<'a, R> {
     ghost use Rattle.std.specs.Prelude.{[]};
 
     /// The sockets, threads and time of a machine, of which no service was asked yet.

@@ -61,7 +61,11 @@ impl<'a, K: Clock + Clone, R: Wait> Service for NodeService<'a, K, R> {
 ///
 /// A connection that can't be accepted, or gets no thread or no clock, has ended with a fault, and stops no other; after one
 /// that can't be accepted there is a pause of 100 milliseconds. Nothing is kept of a connection that has ended.
-pub fn serve_node<L: Listener + Drop, K: Clock + Clone + Sync, R: Threads + Wait + time::Clock + Sync>(
+pub fn serve_node<
+    L: Listener + Drop,
+    K: Clock + Clone + Sync,
+    R: Threads + Wait + time::Clock + Sync,
+>(
     rt: &R,
     alloc: Global,
     listener: L,
