@@ -80,18 +80,22 @@ fn reach<R: Net<Stream = TcpStream> + Clock>(rt: &R, address: SocketAddr) -> io:
     TcpStream::connect(rt, address)
 }
 
-/// What is answered to a client that sends these pieces, waits a moment after each, then sends no more and reads to the end.
+/// How many bytes a client sends at once: a whole `get k` with its line end.
+const PIECE: usize = 7;
+
+/// What is answered to a client that sends these bytes piece by piece, waits a moment after each, then sends no more and reads
+/// to the end.
 fn answers<R: Net<Stream = TcpStream> + Clock>(
     rt: &R,
     alloc: Global,
     address: SocketAddr,
-    pieces: &[&[u8]],
+    bytes: &[u8],
 ) -> io::Result<Vec<u8>> {
     let mut stream = reach(rt, address)?;
     stream.set_nodelay(true)?;
-    for piece in pieces {
+    for piece in bytes.chunks(PIECE) {
         stream.write_all(piece)?;
-        thread::sleep(rt, Duration::from_millis(20));
+        thread::sleep(rt, Duration::from_millis(100));
     }
     let _ = stream.shutdown(Shutdown::Write);
     let mut answers = Vec::new(alloc);

@@ -1,6 +1,6 @@
 //! Nodes as commands.
 use super::{Ran, answers, expect_run, free_address, run, word_of};
-use std::alloc::{AllocError, Global};
+use std::alloc::Global;
 use std::net::{Net, SocketAddr, TcpListener, TcpStream};
 use std::process::Abort;
 use std::sync::Wait;
@@ -9,16 +9,16 @@ use std::thread::Threads;
 use std::time::Clock;
 use std::{io, thread};
 
-/// What clients that come one after another are answered, each of whom sends these pieces.
+/// What clients that come one after another are answered, each of whom sends these bytes.
 fn all_answers<R: Net<Stream = TcpStream> + Clock>(
     rt: &R,
     alloc: Global,
     address: SocketAddr,
-    clients: &[&[&[u8]]],
+    clients: &[&[u8]],
 ) -> io::Result<Vec<Vec<u8>>> {
     let mut all = Vec::new(alloc);
-    for pieces in clients {
-        all.push(answers(rt, alloc, address, pieces)?)?;
+    for bytes in clients {
+        all.push(answers(rt, alloc, address, bytes)?)?;
     }
     Ok(all)
 }
@@ -29,27 +29,13 @@ fn play<R: Net<Listener = TcpListener, Stream = TcpStream> + Threads + Wait + Cl
     alloc: Global,
     words: &[&str],
     address: SocketAddr,
-    clients: &[&[&[u8]]],
+    clients: &[&[u8]],
 ) -> (Ran, io::Result<Vec<Vec<u8>>>) {
     thread::join(
         rt,
         move || run(rt, alloc, &[], words),
         move || all_answers(rt, alloc, address, clients),
     )
-}
-
-/// The words of a node at an address, and these options.
-fn words_of<'a>(
-    alloc: Global,
-    address: &'a str,
-    options: &[&'a str],
-) -> Result<Vec<&'a str>, AllocError> {
-    let mut words = Vec::new(alloc);
-    words.push("node")?;
-    words.push("--listen")?;
-    words.push(address)?;
-    words.extend_from_slice(options)?;
-    Ok(words)
 }
 
 /// Asserts what a node with these options leaves, and what each of its clients is answered.
@@ -61,16 +47,25 @@ fn expect_node(
         + Clock
         + Sync),
     alloc: Global,
-    options: &[&str],
-    clients: &[&[&[u8]]],
+    options: [&str; 4],
+    clients: &[&[u8]],
     wanted: &[&[u8]],
     status: u8,
     output: &[u8],
 ) -> Result<(), Fail> {
     let address = free_address(rt, "127.0.0.2")?;
     let word = word_of(alloc, address)?;
-    let words = words_of(alloc, word.as_str(), options)?;
-    let (ran, got) = play(rt, alloc, words.as_slice(), address, clients);
+    let [first, value, second, other] = options;
+    let words = [
+        "node",
+        "--listen",
+        word.as_str(),
+        first,
+        value,
+        second,
+        other,
+    ];
+    let (ran, got) = play(rt, alloc, &words, address, clients);
     expect_run(rt, &ran, status, output, b"");
     let got = got?;
     assert_eq!(rt; got.len(), wanted.len());
@@ -86,8 +81,8 @@ fn one_client_is_served(rt: HostRuntime) -> Result<(), Fail> {
     expect_node(
         &rt,
         rt.alloc(),
-        &[],
-        &[&[b"set k 7 0 1\r\nv\r\nget k\r\ndelete k\r\nget k\r\nquit\r\n"]],
+        ["--capacity", "1024", "--turns", "1000000"],
+        &[b"set k 7 0 1\r\nv\r\nget k\r\ndelete k\r\nget k\r\nquit\r\n"],
         &[b"STORED\r\nVALUE k 7 1\r\nv\r\nEND\r\nDELETED\r\nEND\r\n"],
         0,
         b"served 1\n",
@@ -100,11 +95,11 @@ fn clients_share_one_cache(rt: HostRuntime) -> Result<(), Fail> {
     expect_node(
         &rt,
         rt.alloc(),
-        &["--clients", "3", "--capacity", "2"],
+        ["--clients", "3", "--capacity", "2"],
         &[
-            &[b"set a 0 0 1\r\n1\r\n"],
-            &[b"set b 0 0 1\r\n2\r\nget a\r\n"],
-            &[b"set c 0 0 1\r\n3\r\nget a b c\r\n"],
+            b"set a 0 0 1\r\n1\r\n",
+            b"set b 0 0 1\r\n2\r\nget a\r\n",
+            b"set c 0 0 1\r\n3\r\nget a b c\r\n",
         ],
         &[
             b"STORED\r\n",
@@ -122,12 +117,8 @@ fn turns_are_those_of_one_connection(rt: HostRuntime) -> Result<(), Fail> {
     expect_node(
         &rt,
         rt.alloc(),
-        &["--clients", "3", "--turns", "2"],
-        &[
-            &[b"get k\r\n"],
-            &[b"get k\r\n", b"get k\r\n", b"get k\r\n"],
-            &[b"get k\r\n"],
-        ],
+        ["--clients", "3", "--turns", "2"],
+        &[b"get k\r\n", b"get k\r\nget k\r\nget k\r\n", b"get k\r\n"],
         &[b"END\r\n", b"END\r\nEND\r\n", b"END\r\n"],
         1,
         b"served 2\n",

@@ -41,7 +41,7 @@ fn play<R: Net<Listener = TcpListener, Stream = TcpStream> + Threads + Wait + Cl
             thread::join(
                 rt,
                 move || run(rt, alloc, places, proxy_words),
-                move || answers(rt, alloc, address, &[REQUESTS]),
+                move || answers(rt, alloc, address, REQUESTS),
             )
         },
     );
@@ -110,12 +110,12 @@ fn play_alone<R: Net<Listener = TcpListener, Stream = TcpStream> + Threads + Wai
     places: &[Place],
     words: &[&str],
     address: SocketAddr,
-    pieces: &[&[u8]],
+    bytes: &[u8],
 ) -> (Ran, io::Result<Vec<u8>>) {
     thread::join(
         rt,
         move || run(rt, alloc, places, words),
-        move || answers(rt, alloc, address, pieces),
+        move || answers(rt, alloc, address, bytes),
     )
 }
 
@@ -129,7 +129,7 @@ fn expect_alone(
         + Sync),
     alloc: Global,
     options: [&str; 2],
-    pieces: &[&[u8]],
+    bytes: &[u8],
     wanted: &[u8],
     status: u8,
     output: &[u8],
@@ -148,7 +148,7 @@ fn expect_alone(
         option,
         value,
     ];
-    let (ran, got) = play_alone(rt, alloc, places.as_slice(), &words, address, pieces);
+    let (ran, got) = play_alone(rt, alloc, places.as_slice(), &words, address, bytes);
     expect_run(rt, &ran, status, output, b"");
     assert_eq!(rt; got?.as_slice(), wanted);
     Ok(())
@@ -157,7 +157,7 @@ fn expect_alone(
 /// A proxy without room is busy at each request, and one whose nodes are away loses each leg.
 #[test]
 fn a_proxy_has_room_for_so_many_requests(rt: HostRuntime) -> Result<(), Fail> {
-    let requests: &[&[u8]] = &[b"get k\r\nget k\r\n"];
+    let requests = b"get k\r\nget k\r\n";
     let busy = b"SERVER_ERROR busy\r\nSERVER_ERROR busy\r\n";
     let lost = b"SERVER_ERROR leg lost\r\nSERVER_ERROR leg lost\r\n";
     expect_alone(
@@ -183,13 +183,13 @@ fn a_proxy_has_room_for_so_many_requests(rt: HostRuntime) -> Result<(), Fail> {
 /// Its reads are counted for each connection; one whose reads are spent ends with a fault.
 #[test]
 fn a_proxy_reads_so_often(rt: HostRuntime) -> Result<(), Fail> {
-    let pieces: &[&[u8]] = &[b"get k\r\n", b"get k\r\n", b"get k\r\n"];
+    let requests = b"get k\r\nget k\r\nget k\r\n";
     let lost = b"SERVER_ERROR leg lost\r\nSERVER_ERROR leg lost\r\n";
     expect_alone(
         &rt,
         rt.alloc(),
         ["--turns", "2"],
-        pieces,
+        requests,
         lost,
         1,
         b"served 0\n",
