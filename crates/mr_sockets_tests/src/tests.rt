@@ -1,6 +1,7 @@
 //! Nodes, proxies and clients on sockets of this machine. Each listener takes a free port, and the routing is made of the
 //! names; its hash is the sum of a key's bytes, and the migration starts at 1000 with an interval of 100 seconds.
 mod clients;
+mod connections;
 mod crowd;
 mod fleet;
 mod loss;
@@ -124,8 +125,30 @@ fn answers<R: Net>(
     for piece in pieces {
         stream.write_all(piece)?;
     }
+    rest_of(alloc, stream)
+}
+
+/// What is answered to the end of a connection, over which no more is sent.
+fn rest_of<S: Read + OpenStream + Drop>(alloc: Global, mut stream: S) -> io::Result<Vec<u8>> {
     let _ = stream.shutdown(Shutdown::Write);
     let mut answers = Vec::new(alloc);
     stream.read_to_end(&mut answers)?;
     Ok(answers)
+}
+
+/// A connection over which half a request was sent.
+fn half_asked<R: Net>(rt: &R, address: SocketAddr, half: &[u8]) -> io::Result<R::Stream> {
+    let mut stream = TcpStream::connect(rt, address)?;
+    stream.write_all(half)?;
+    Ok(stream)
+}
+
+/// What is answered over it once the other half is sent too.
+fn asked_whole<S: Read + Write + OpenStream + Drop>(
+    alloc: Global,
+    mut stream: S,
+    half: &[u8],
+) -> io::Result<Vec<u8>> {
+    stream.write_all(half)?;
+    rest_of(alloc, stream)
 }

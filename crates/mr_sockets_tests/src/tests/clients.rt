@@ -1,5 +1,5 @@
 //! Clients of a node that leave in the middle, send byte by byte, send garbage, or don't read.
-use super::{answers, listener, node, node_serves};
+use super::{answers, asked_whole, half_asked, listener, node, node_serves};
 use mr_workers::SharedNode;
 use std::alloc::Global;
 use std::io::Write;
@@ -113,5 +113,48 @@ fn a_client_that_does_not_read(rt: HostRuntime) -> Result<(), Fail> {
     let (served, got) = play_unread(&rt, alloc, listener, &node, address);
     assert_eq!(rt; served, 1);
     assert_eq!(rt; got?.as_slice(), b"END\r\n".as_slice());
+    Ok(())
+}
+
+/// A client that waits in the middle of a request while another is served: what the other was answered, and what the first was.
+fn waits_and_goes_on<R: Net>(
+    rt: &R,
+    alloc: Global,
+    address: SocketAddr,
+) -> io::Result<(Vec<u8>, Vec<u8>)> {
+    let waiting = half_asked(rt, address, b"get ")?;
+    let other = answers(rt, alloc, address, &[b"set k 0 0 1\r\nv\r\n"])?;
+    Ok((other, asked_whole(alloc, waiting, b"k\r\n")?))
+}
+
+/// The node and both clients at once.
+fn play_waiting<R: Net + Threads + Wait + Clock + Sync>(
+    rt: &R,
+    alloc: Global,
+    node_listener: TcpListener,
+    node: &SharedNode,
+    address: SocketAddr,
+) -> (u64, io::Result<(Vec<u8>, Vec<u8>)>) {
+    thread::join(
+        rt,
+        move || node_serves(rt, alloc, node_listener, node, 2),
+        move || waits_and_goes_on(rt, alloc, address),
+    )
+}
+
+#[test]
+fn a_client_that_waits_holds_no_other(rt: HostRuntime) -> Result<(), Fail> {
+    let alloc = rt.alloc();
+    let listener = listener(&rt)?;
+    let address = listener.local_addr()?;
+    let node = node(alloc)?;
+    let (served, got) = play_waiting(&rt, alloc, listener, &node, address);
+    let (other, waited) = got?;
+    assert_eq!(rt; served, 2);
+    assert_eq!(rt; other.as_slice(), b"STORED\r\n".as_slice());
+    assert_eq!(rt;
+        waited.as_slice(),
+        b"VALUE k 0 1\r\nv\r\nEND\r\n".as_slice()
+    );
     Ok(())
 }

@@ -1,5 +1,7 @@
 //! Several clients at once through two proxies, which have one old node and one new one.
-use super::{answers, core_of, listener, node, node_serves, proxy_serves, routing};
+use super::{
+    answers, asked_whole, core_of, half_asked, listener, node, node_serves, proxy_serves, routing,
+};
 use mr_pools::Routing;
 use mr_sockets::SocketCarrier;
 use mr_workers::{Desk, SharedNode, SharedProxy};
@@ -8,9 +10,9 @@ use std::net::{Net, SocketAddr, TcpListener, TcpStream};
 use std::process::Abort;
 use std::sync::Wait;
 use std::test::Fail;
-use std::thread;
 use std::thread::Threads;
 use std::time::Clock;
+use std::{io, thread};
 
 /// How many clients there are at once at each proxy.
 const CLIENTS: usize = 3;
@@ -38,23 +40,26 @@ fn is_answered<N: Net>(net: &N, alloc: Global, address: SocketAddr, client: usiz
     }
 }
 
-/// All clients at once, then one more at each proxy, of which the second gets what the first has set: whether each was
-/// answered what it has to be.
+/// All clients at once, while one at the second proxy waits in the middle of a get; then one more at the first, which sets what that
+/// one gets: whether each was answered what it has to be.
 fn crowd<
     N: Net<Listener = TcpListener, Stream = TcpStream> + Copy + Send + Sync,
     R: Threads + Sync,
->(rt: &R, alloc: Global, net: N, addresses: [SocketAddr; 2]) -> Result<bool, AllocError> {
+>(rt: &R, alloc: Global, net: N, addresses: [SocketAddr; 2]) -> io::Result<bool> {
+    let waiting = half_asked(&net, addresses[1], b"get ")?;
     let each = thread::map_indices(
         rt,
         alloc,
         2 * CLIENTS,
         &|client| { is_answered(&net, alloc, addresses[client % 2], client) },
     )?;
-    let set = answers(&net, alloc, addresses[0], &[b"set x 7 0 2\r\nhi\r\n"]);
-    let got = answers(&net, alloc, addresses[1], &[b"get x\r\n"]);
-    let set = set.is_ok_and(|bytes| bytes.as_slice() == b"STORED\r\n".as_slice());
-    let got = got.is_ok_and(|bytes| bytes.as_slice() == b"VALUE x 7 2\r\nhi\r\nEND\r\n".as_slice());
-    Ok(set && got && each.iter().all(|answered| *answered))
+    let set = answers(&net, alloc, addresses[0], &[b"set x 7 0 2\r\nhi\r\n"])?;
+    let got = asked_whole(alloc, waiting, b"x\r\n")?;
+    Ok(
+        set.as_slice() == b"STORED\r\n".as_slice()
+            && got.as_slice() == b"VALUE x 7 2\r\nhi\r\nEND\r\n".as_slice()
+            && each.iter().all(|answered| *answered),
+    )
 }
 
 /// What each proxy served.
@@ -95,7 +100,7 @@ fn play<
     desks: &(D, D),
     routing: &Routing,
     addresses: [SocketAddr; 2],
-) -> (u64, (u64, u64), Result<bool, AllocError>) {
+) -> (u64, (u64, u64), io::Result<bool>) {
     let all = 2 * (CLIENTS as u64 + 1);
     let (by_node, (by_proxies, answered)) = thread::join(
         rt,
