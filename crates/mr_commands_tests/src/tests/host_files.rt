@@ -2,6 +2,7 @@
 use super::{Ran, expect_run, run_over};
 use mr_commands::{HostFiles, LoadFault, MOST_LOADED, Sources};
 use mr_text::OverReader;
+use std::fs;
 use std::test::Fail;
 
 #[test]
@@ -35,4 +36,20 @@ fn files_of_the_system_are_configurations(rt: HostRuntime) {
         let ran: Ran = run_over(&rt, rt.alloc(), &words, &mut files, &mut input);
         expect_run(&rt, &ran, 1, b"", line);
     }
+}
+
+/// A file holds more than one read brings, and no two neighbours are alike.
+#[test]
+fn what_a_file_holds_is_loaded(rt: HostRuntime) -> Result<(), Fail> {
+    let alloc = rt.alloc();
+    let path = "what_a_file_holds_is_loaded";
+    let mut held = Vec::new(alloc);
+    for index in 0..100_000_u32 {
+        held.push((index % 251) as u8)?;
+    }
+    fs::write(&rt, path, held.as_slice())?;
+    let loaded = HostFiles::new(&rt).load(alloc, path);
+    fs::remove_file(&rt, path)?;
+    assert!(rt; loaded.is_ok_and(|bytes| bytes.as_slice() == held.as_slice()));
+    Ok(())
 }

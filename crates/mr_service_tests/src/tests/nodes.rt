@@ -124,3 +124,17 @@ fn turns_are_those_of_one_connection(rt: HostRuntime) -> Result<(), Fail> {
         b"served 2\n",
     )
 }
+
+/// It goes by the machine's time: an item whose time ended in 1970 is gone at once, one that has until 2096 is kept.
+#[test]
+fn a_node_goes_by_the_time_of_the_machine(rt: HostRuntime) -> Result<(), Fail> {
+    expect_node(
+        &rt,
+        rt.alloc(),
+        ["--clients", "1", "--capacity", "2"],
+        &[b"set a 0 2592001 1\r\n1\r\nset b 0 4000000000 1\r\n2\r\nget a b\r\n"],
+        &[b"STORED\r\nSTORED\r\nVALUE b 0 1\r\n2\r\nEND\r\n"],
+        0,
+        b"served 1\n",
+    )
+}
