@@ -40,8 +40,8 @@ fn is_answered<N: Net>(net: &N, alloc: Global, address: SocketAddr, client: usiz
     }
 }
 
-/// All clients at once, while one at the second proxy waits in the middle of a get; then one more at the first, which sets what that
-/// one gets: whether each was answered what it has to be.
+/// All clients at once, while one at the second proxy waits in the middle of a get; then one more at the first, which sets
+/// what that one gets: whether each was answered what it has to be.
 fn crowd<
     N: Net<Listener = TcpListener, Stream = TcpStream> + Copy + Send + Sync,
     R: Threads + Sync,
