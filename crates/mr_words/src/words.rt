@@ -1,7 +1,7 @@
 //! The words of the command line.
 ghost use Rattle.std.specs.Prelude.{◌≡◌, None, false, map, IfOk, IfSome, IfNone, option_map};
 ghost use Rattle.clap.specs.Words.{app_of, found_of, rows_of, rule_of, subcommand_rows_of};
-ghost use Rattle.mr_words.specs.Command.{file_rule, file_app, word_rule, plan_app, timeline_app, explain_app, program_app};
+ghost use Rattle.mr_words.specs.Command.{file_app, word_rule, plan_app, timeline_app, run_app, check_app, explain_app, program_app};
 ghost use Rattle.mr_faults.specs.Explain.{told_by};
 ghost use Rattle.mr_words.specs.Words.{HasPlan, HasExplanation, ReadsWords, SaysPlainly, ReadsAs};
 ghost use Rattle.mr_words.specs.WordSteps.{IsFaultOf, GivesReadings, GivesTimeline, GivesCommand};
@@ -101,12 +101,6 @@ impl From<Error> for WordsFault {
     }
 }
 
-/// What help says of the command `run`.
-const RUN_ABOUT: &str = "Plays a script and prints its transcript";
-
-/// What help says of the command `check`.
-const CHECK_ABOUT: &str = "Plays a transcript again and prints what is found of it";
-
 /// The command `plan`.
 fn plan_command<'a>(alloc: Global) -> Result<Command<'a>, AllocError>
     ensures { IfOk result (λ command. app_of command ≡ plan_app) }
@@ -161,6 +155,22 @@ fn file_command<'a>(
         .arg(file)
 }
 
+/// The command `run`.
+fn run_command<'a>(alloc: Global) -> Result<Command<'a>, AllocError>
+    ensures { IfOk result (λ command. app_of command ≡ run_app) }
+{
+    let about = "Plays a script and prints its transcript";
+    file_command(alloc, "run", "script", about, RUN_NOTES)
+}
+
+/// The command `check`.
+fn check_command<'a>(alloc: Global) -> Result<Command<'a>, AllocError>
+    ensures { IfOk result (λ command. app_of command ≡ check_app) }
+{
+    let about = "Plays a transcript again and prints what is found of it";
+    file_command(alloc, "check", "transcript", about, CHECK_NOTES)
+}
+
 /// A word of its own, by its name.
 fn word<'a>(alloc: Global, name: &'a str, help: &'a str) -> Arg<'a>
     ensures rule { rule_of result ≡ word_rule name.entry.now None }
@@ -189,23 +199,16 @@ fn explain_command<'a>(alloc: Global) -> Result<Command<'a>, AllocError>
 fn program<'a>(alloc: Global) -> Result<Command<'a>, AllocError>
     ensures { IfOk result (λ command. app_of command ≡ program_app) }
 {
-    let plan = plan_command(alloc)?;
-    let timeline = timeline_command(alloc)?;
-    let run = file_command(alloc, "run", "script", RUN_ABOUT, RUN_NOTES)?;
-    let check = file_command(alloc, "check", "transcript", CHECK_ABOUT, CHECK_NOTES)?;
-    let node = node_command(alloc)?;
-    let proxy = proxy_command(alloc)?;
-    let explain = explain_command(alloc)?;
     let program = Command::new(alloc, "migctl")
         .bin_name("migctl")?
         .about("Plans the migration of a memcached pool")
-        .subcommand(plan)?
-        .subcommand(timeline)?
-        .subcommand(run)?
-        .subcommand(check)?
-        .subcommand(node)?
-        .subcommand(proxy)?
-        .subcommand(explain)?;
+        .subcommand(plan_command(alloc)?)?
+        .subcommand(timeline_command(alloc)?)?
+        .subcommand(run_command(alloc)?)?
+        .subcommand(check_command(alloc)?)?
+        .subcommand(node_command(alloc)?)?
+        .subcommand(proxy_command(alloc)?)?
+        .subcommand(explain_command(alloc)?)?;
     Ok(
         program
             .no_binary_name(true)

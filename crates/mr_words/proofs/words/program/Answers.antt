@@ -6,13 +6,13 @@ use Rattle.mr_words.proofs.words.program.Goals as goal
 
 pub returns : goal.returns
 returns c =
-    let plan_is : app_of c.in_ok-plan.plan ≡ plan_app = c.in_ok-plan.ensures in
-    let timeline_is : app_of c.in_ok-timeline.timeline ≡ timeline_app = c.in_ok-timeline.ensures in
-    let run_is : app_of c.in_ok-run.run' ≡ run_app = c.in_ok-run.ensures in
-    let check_is : app_of c.in_ok-check.check ≡ check_app = c.in_ok-check.ensures in
-    let node_is : app_of c.in_ok-node.node ≡ node_app = c.in_ok-node.ensures in
-    let proxy_is : app_of c.in_ok-proxy.proxy ≡ proxy_app = c.in_ok-proxy.ensures in
-    let explain_is : app_of c.in_ok-explain.explain ≡ explain_app = c.in_ok-explain.ensures in
+    let plan_is : app_of c.in_ok-plan_command.field-0 ≡ plan_app = c.in_ok-plan_command.ensures in
+    let timeline_is : app_of c.in_ok-timeline_command.field-0 ≡ timeline_app = c.in_ok-timeline_command.ensures in
+    let run_is : app_of c.in_ok-run_command.field-0 ≡ run_app = c.in_ok-run_command.ensures in
+    let check_is : app_of c.in_ok-check_command.field-0 ≡ check_app = c.in_ok-check_command.ensures in
+    let node_is : app_of c.in_ok-node_command.field-0 ≡ node_app = c.in_ok-node_command.ensures in
+    let proxy_is : app_of c.in_ok-proxy_command.field-0 ≡ proxy_app = c.in_ok-proxy_command.ensures in
+    let explain_is : app_of c.in_ok-explain_command.field-0 ≡ explain_app = c.in_ok-explain_command.ensures in
     let start : app_of c.about.result ≡ new_app (codes "migctl") = rw (c.about.ensures, c.in_ok-bin_name.ensures.0) c.new.ensures.app in
     let first : App = with_subcommand (new_app (codes "migctl")) plan_app.top in
     let with_plan : app_of c.in_ok-subcommand.field-0 ≡ first =
