@@ -1,4 +1,5 @@
 //! What a writer leaves where one of its calls fails.
+use super::{are, is};
 use mr_test_parts::{TakesHalf, add_repeated, reply_text, request_text};
 use mr_text::{
     Block, Cause, Item, ItemList, Key, KeyList, Line, MAX_ITEMS, OverWriter, Reply, Request,
@@ -10,31 +11,34 @@ use std::test::Fail;
 
 /// Asserts what a device that failed in one call was left with: a beginning of the text, half of the failing piece
 /// with it, and no call after the one that failed.
-fn has_stopped(rt: &impl Abort, device: &TakesHalf, text: &[u8], at: &str) {
-    assert!(rt; text.starts_with(device.kept.as_slice()), "{at}");
-    assert!(rt; device.kept.len() < text.len(), "{at}");
-    assert_eq!(rt; device.calls, device.fails_at.saturating_add(1), "{at}");
+fn has_stopped(rt: &impl Abort, device: &TakesHalf, text: &[u8]) {
+    is(rt, text.starts_with(device.kept.as_slice()), true);
+    is(rt, device.kept.len() < text.len(), true);
+    is(rt, device.calls, device.fails_at.saturating_add(1));
+}
+
+/// Asserts that a device took the whole text in so many calls.
+fn has_all(rt: &impl Abort, device: &TakesHalf, text: &[u8], calls: usize) {
+    is(rt, device.calls, calls);
+    are(rt, device.kept.as_slice(), text);
+}
+
+/// A writer over a device that fails in one call.
+fn fails_at(alloc: Global, call: usize) -> OverWriter<TakesHalf> {
+    OverWriter::new(TakesHalf::new(alloc, call))
 }
 
 /// Asserts that a reply takes so many calls, and what each of them leaves where it fails.
-fn reply_takes(
-    rt: &impl Abort,
-    alloc: Global,
-    reply: &Reply,
-    calls: usize,
-    at: &str,
-) -> Result<(), Fail> {
+fn reply_takes(rt: &impl Abort, alloc: Global, reply: &Reply, calls: usize) -> Result<(), Fail> {
     let text = reply_text(alloc, reply)?;
     for call in 1..calls.saturating_add(1) {
-        let mut sink = OverWriter::new(TakesHalf::new(alloc, call));
-        assert!(rt; write_reply(reply, &mut sink).is_err(), "{at}");
-        has_stopped(rt, &sink.into_inner(), text.as_slice(), at);
+        let mut sink = fails_at(alloc, call);
+        is(rt, write_reply(reply, &mut sink), Err(WriteFault));
+        has_stopped(rt, &sink.into_inner(), text.as_slice());
     }
-    let mut sink = OverWriter::new(TakesHalf::new(alloc, calls.saturating_add(1)));
-    assert!(rt; write_reply(reply, &mut sink).is_ok(), "{at}");
-    let device = sink.into_inner();
-    assert_eq!(rt; device.calls, calls, "{at}");
-    assert_eq!(rt; device.kept.as_slice(), text.as_slice(), "{at}");
+    let mut sink = fails_at(alloc, calls.saturating_add(1));
+    is(rt, write_reply(reply, &mut sink), Ok(()));
+    has_all(rt, &sink.into_inner(), text.as_slice(), calls);
     Ok(())
 }
 
@@ -44,19 +48,16 @@ fn request_takes(
     alloc: Global,
     request: &Request,
     calls: usize,
-    at: &str,
 ) -> Result<(), Fail> {
     let text = request_text(alloc, request)?;
     for call in 1..calls.saturating_add(1) {
-        let mut sink = OverWriter::new(TakesHalf::new(alloc, call));
-        assert!(rt; write_request(request, &mut sink).is_err(), "{at}");
-        has_stopped(rt, &sink.into_inner(), text.as_slice(), at);
+        let mut sink = fails_at(alloc, call);
+        is(rt, write_request(request, &mut sink), Err(WriteFault));
+        has_stopped(rt, &sink.into_inner(), text.as_slice());
     }
-    let mut sink = OverWriter::new(TakesHalf::new(alloc, calls.saturating_add(1)));
-    assert!(rt; write_request(request, &mut sink).is_ok(), "{at}");
-    let device = sink.into_inner();
-    assert_eq!(rt; device.calls, calls, "{at}");
-    assert_eq!(rt; device.kept.as_slice(), text.as_slice(), "{at}");
+    let mut sink = fails_at(alloc, calls.saturating_add(1));
+    is(rt, write_request(request, &mut sink), Ok(()));
+    has_all(rt, &sink.into_inner(), text.as_slice(), calls);
     Ok(())
 }
 
@@ -66,15 +67,22 @@ fn block_of(alloc: Global, length: usize) -> Result<Block, Fail> {
     Ok(Block::new(alloc, bytes.as_slice())?)
 }
 
+/// An item of `k` with data of this length.
+fn item_of(alloc: Global, length: usize) -> Result<Item, Fail> {
+    let block = block_of(alloc, length)?;
+    let key = Key::new(alloc, b"k")?;
+    Ok(Item {
+        key,
+        flags: 0,
+        block,
+    })
+}
+
 /// Items of `k` with data of these lengths.
 fn items_of(rt: &impl Abort, alloc: Global, lengths: &[usize]) -> Result<Reply, Fail> {
     let mut items = Vec::new(alloc);
     for length in lengths {
-        items.push(Item {
-            key: Key::new(alloc, b"k")?,
-            flags: 0,
-            block: block_of(alloc, *length)?,
-        })?;
+        items.push(item_of(alloc, *length)?)?;
     }
     assert!(rt; items.len() <= MAX_ITEMS);
     Ok(Reply::Items(ItemList::new(items)))
@@ -83,10 +91,10 @@ fn items_of(rt: &impl Abort, alloc: Global, lengths: &[usize]) -> Result<Reply, 
 #[test]
 fn short_replies_take_one_call(rt: HostRuntime) -> Result<(), Fail> {
     let alloc = rt.alloc();
-    reply_takes(&rt, alloc, &Reply::Stored, 1, "stored")?;
-    reply_takes(&rt, alloc, &Reply::ServerError(Cause::LegLost), 1, "lost")?;
-    reply_takes(&rt, alloc, &items_of(&rt, alloc, &[])?, 1, "none")?;
-    reply_takes(&rt, alloc, &items_of(&rt, alloc, &[1, 0, 7])?, 1, "three")
+    reply_takes(&rt, alloc, &Reply::Stored, 1)?;
+    reply_takes(&rt, alloc, &Reply::ServerError(Cause::LegLost), 1)?;
+    reply_takes(&rt, alloc, &items_of(&rt, alloc, &[])?, 1)?;
+    reply_takes(&rt, alloc, &items_of(&rt, alloc, &[1, 0, 7])?, 1)
 }
 
 #[test]
@@ -95,25 +103,20 @@ fn reply_of_4096_bytes_takes_one_call(rt: HostRuntime) -> Result<(), Fail> {
     // Beside the data, the line of the item, `END` and the line ends have 23 bytes.
     let whole = items_of(&rt, alloc, &[4073])?;
     assert_eq!(rt; reply_text(alloc, &whole)?.len(), 4096);
-    reply_takes(&rt, alloc, &whole, 1, "4096")?;
-    reply_takes(&rt, alloc, &items_of(&rt, alloc, &[4074])?, 2, "4097")
+    reply_takes(&rt, alloc, &whole, 1)?;
+    reply_takes(&rt, alloc, &items_of(&rt, alloc, &[4074])?, 2)
 }
 
 #[test]
 fn long_replies_take_two_calls_for_an_item(rt: HostRuntime) -> Result<(), Fail> {
     let alloc = rt.alloc();
     // The line, the block by itself, and its line end with `END`.
-    reply_takes(&rt, alloc, &items_of(&rt, alloc, &[8192])?, 3, "one")?;
+    reply_takes(&rt, alloc, &items_of(&rt, alloc, &[8192])?, 3)?;
     // The line of the second item goes out with the line end of the first.
-    reply_takes(&rt, alloc, &items_of(&rt, alloc, &[8192, 8192])?, 5, "two")?;
+    reply_takes(&rt, alloc, &items_of(&rt, alloc, &[8192, 8192])?, 5)?;
     // Small ones are gathered.
-    reply_takes(
-        &rt,
-        alloc,
-        &items_of(&rt, alloc, &[1000, 1000, 1000, 1000, 1000])?,
-        2,
-        "five",
-    )
+    let five = items_of(&rt, alloc, &[1000, 1000, 1000, 1000, 1000])?;
+    reply_takes(&rt, alloc, &five, 2)
 }
 
 #[test]
@@ -121,8 +124,8 @@ fn long_error_takes_three_calls(rt: HostRuntime) -> Result<(), Fail> {
     let alloc = rt.alloc();
     let mut text = Vec::new(alloc);
     add_repeated(&mut text, b'x', 8179)?;
-    let error = Reply::ServerError(Cause::Other(Line::new(alloc, text.as_slice())?));
-    reply_takes(&rt, alloc, &error, 3, "8179")
+    let line = Line::new(alloc, text.as_slice())?;
+    reply_takes(&rt, alloc, &Reply::ServerError(Cause::Other(line)), 3)
 }
 
 fn set_of(alloc: Global, length: usize) -> Result<Request, Fail> {
@@ -138,12 +141,12 @@ fn set_of(alloc: Global, length: usize) -> Result<Request, Fail> {
 #[test]
 fn requests_take_few_calls(rt: HostRuntime) -> Result<(), Fail> {
     let alloc = rt.alloc();
-    request_takes(&rt, alloc, &Request::Quit, 1, "quit")?;
+    request_takes(&rt, alloc, &Request::Quit, 1)?;
     let key = Key::new(alloc, b"k")?;
     let noreply = false;
-    request_takes(&rt, alloc, &Request::Delete { key, noreply }, 1, "delete")?;
-    request_takes(&rt, alloc, &set_of(alloc, 1)?, 1, "set")?;
-    request_takes(&rt, alloc, &set_of(alloc, 8192)?, 3, "long set")
+    request_takes(&rt, alloc, &Request::Delete { key, noreply }, 1)?;
+    request_takes(&rt, alloc, &set_of(alloc, 1)?, 1)?;
+    request_takes(&rt, alloc, &set_of(alloc, 8192)?, 3)
 }
 
 /// A writer of one command or error.
@@ -182,15 +185,12 @@ fn commands_of_one_key_stop_at_a_fault(rt: HostRuntime) -> Result<(), Fail> {
         (Writer::Delete, b"delete k\r\n".as_slice()),
         (Writer::ServerError, b"SERVER_ERROR busy\r\n".as_slice()),
     ] {
-        let mut sink = OverWriter::new(TakesHalf::new(alloc, 1));
-        assert!(rt;
-            writer.write(&key, &block, &mut sink).is_err(),
-            "{writer:?}"
-        );
-        has_stopped(&rt, &sink.into_inner(), text, "one key");
-        let mut sink = OverWriter::new(TakesHalf::new(alloc, 2));
-        assert!(rt; writer.write(&key, &block, &mut sink).is_ok(), "{writer:?}");
-        assert_eq!(rt; sink.into_inner().kept.as_slice(), text, "{writer:?}");
+        let mut sink = fails_at(alloc, 1);
+        is(&rt, writer.write(&key, &block, &mut sink), Err(WriteFault));
+        has_stopped(&rt, &sink.into_inner(), text);
+        let mut sink = fails_at(alloc, 2);
+        is(&rt, writer.write(&key, &block, &mut sink), Ok(()));
+        has_all(&rt, &sink.into_inner(), text, 1);
     }
     Ok(())
 }
@@ -204,5 +204,5 @@ fn get_of_many_keys_takes_three_calls(rt: HostRuntime) -> Result<(), Fail> {
     }
     let keys = KeyList::new(keys)?;
     // 8,193 bytes: twice the buffer, and what is left.
-    request_takes(&rt, alloc, &Request::Get { keys }, 3, "get")
+    request_takes(&rt, alloc, &Request::Get { keys }, 3)
 }
