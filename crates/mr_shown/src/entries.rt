@@ -24,32 +24,35 @@ fn entry_value(alloc: Global, entry: &Entry) -> Result<Value, AllocError>
     ensures { IfOk result (λ value. view value ≡ entry_json entry.now) }
 {
     match entry {
-        Entry::Issued { op, proxy, request } => {
-            let op = op_value(alloc, *op)?;
-            let request = request_value(alloc, request)?;
-            json!(in alloc; {"entry": "issued", "op": op, "proxy": *proxy, "request": request})
-        }
+        Entry::Issued { op, proxy, request } => json!(in alloc; {
+            "entry": "issued",
+            "op": op_value(alloc, *op)?,
+            "proxy": *proxy,
+            "request": request_value(alloc, request)?
+        }),
         Entry::Stored {
             by,
             key,
             flags,
             block,
-        } => {
-            let by = author_value(alloc, *by)?;
-            let data = bytes_value(alloc, block.as_bytes())?;
-            let key = bytes_value(alloc, key.as_bytes())?;
-            json!(in alloc; {"by": by, "data": data, "entry": "stored", "flags": *flags, "key": key})
-        }
-        Entry::Removed { op, side, key } => {
-            let key = bytes_value(alloc, key.as_bytes())?;
-            let op = op_value(alloc, *op)?;
-            json!(in alloc; {"entry": "removed", "key": key, "op": op, "side": side.as_str()})
-        }
-        Entry::Answered { op, reply } => {
-            let op = op_value(alloc, *op)?;
-            let reply = reply_value(alloc, reply)?;
-            json!(in alloc; {"entry": "answered", "op": op, "reply": reply})
-        }
+        } => json!(in alloc; {
+            "by": author_value(alloc, *by)?,
+            "data": bytes_value(alloc, block.as_bytes())?,
+            "entry": "stored",
+            "flags": *flags,
+            "key": bytes_value(alloc, key.as_bytes())?
+        }),
+        Entry::Removed { op, side, key } => json!(in alloc; {
+            "entry": "removed",
+            "key": bytes_value(alloc, key.as_bytes())?,
+            "op": op_value(alloc, *op)?,
+            "side": side.as_str()
+        }),
+        Entry::Answered { op, reply } => json!(in alloc; {
+            "entry": "answered",
+            "op": op_value(alloc, *op)?,
+            "reply": reply_value(alloc, reply)?
+        }),
     }
 }
 

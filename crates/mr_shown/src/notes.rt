@@ -16,15 +16,11 @@ fn note_value(alloc: Global, note: Note) -> Result<Value, AllocError>
     match note {
         Note::Nothing => json!(in alloc; "nothing"),
         Note::Issued { op, first, count } => {
-            let op = op_value(alloc, op)?;
-            json!(in alloc; {"issued": op, "messages": [first, count]})
+            json!(in alloc; {"issued": op_value(alloc, op)?, "messages": [first, count]})
         }
         Note::Performed { reply } => json!(in alloc; {"performed": reply}),
         Note::Waiting => json!(in alloc; "waiting"),
-        Note::Answered { op } => {
-            let op = op_value(alloc, op)?;
-            json!(in alloc; {"answered": op})
-        }
+        Note::Answered { op } => json!(in alloc; {"answered": op_value(alloc, op)?}),
         Note::Stranger => json!(in alloc; "stranger"),
     }
 }
@@ -58,16 +54,14 @@ pub fn verdict_value(alloc: Global, verdict: &KeptVerdict) -> Result<Value, Allo
 {
     match verdict {
         KeptVerdict::Safe => json!(in alloc; "safe"),
-        KeptVerdict::Stale { get, key, delete } => {
-            let get = op_value(alloc, *get)?;
-            let key = bytes_value(alloc, key.as_bytes())?;
-            let delete = op_value(alloc, *delete)?;
-            json!(in alloc; {"stale": {"delete": delete, "get": get, "key": key}})
-        }
-        KeptVerdict::Invented { get, key } => {
-            let get = op_value(alloc, *get)?;
-            let key = bytes_value(alloc, key.as_bytes())?;
-            json!(in alloc; {"invented": {"get": get, "key": key}})
-        }
+        KeptVerdict::Stale { get, key, delete } => json!(in alloc; {"stale": {
+            "delete": op_value(alloc, *delete)?,
+            "get": op_value(alloc, *get)?,
+            "key": bytes_value(alloc, key.as_bytes())?
+        }}),
+        KeptVerdict::Invented { get, key } => json!(in alloc; {"invented": {
+            "get": op_value(alloc, *get)?,
+            "key": bytes_value(alloc, key.as_bytes())?
+        }}),
     }
 }

@@ -11,9 +11,11 @@ use std::alloc::{AllocError, Global};
 fn item_value(alloc: Global, item: &Item) -> Result<Value, AllocError>
     ensures { IfOk result (λ value. view value ≡ item_json item.now) }
 {
-    let data = bytes_value(alloc, item.block.as_bytes())?;
-    let key = bytes_value(alloc, item.key.as_bytes())?;
-    json!(in alloc; {"data": data, "flags": item.flags, "key": key})
+    json!(in alloc; {
+        "data": bytes_value(alloc, item.block.as_bytes())?,
+        "flags": item.flags,
+        "key": bytes_value(alloc, item.key.as_bytes())?
+    })
 }
 
 fn items_value(alloc: Global, items: &[Item]) -> Result<Vec<Value>, AllocError>
@@ -32,19 +34,17 @@ pub fn reply_value(alloc: Global, reply: &Reply) -> Result<Value, AllocError>
 {
     match reply {
         Reply::Items(items) => {
-            let items = items_value(alloc, items.as_slice())?;
-            json!(in alloc; {"items": items})
+            let items = items.as_slice();
+            json!(in alloc; {"items": items_value(alloc, items)?})
         }
         Reply::Stored => json!(in alloc; "stored"),
         Reply::Deleted => json!(in alloc; "deleted"),
         Reply::NotFound => json!(in alloc; "not_found"),
         Reply::ServerError(cause) => {
-            let text = bytes_value(alloc, cause.text())?;
-            json!(in alloc; {"server_error": text})
+            json!(in alloc; {"server_error": bytes_value(alloc, cause.text())?})
         }
         Reply::ClientError(cause) => {
-            let text = bytes_value(alloc, cause.text())?;
-            json!(in alloc; {"client_error": text})
+            json!(in alloc; {"client_error": bytes_value(alloc, cause.text())?})
         }
         Reply::Error => json!(in alloc; "error"),
     }

@@ -24,8 +24,7 @@ pub fn request_value(alloc: Global, request: &Request) -> Result<Value, AllocErr
 {
     match request {
         Request::Get { keys } => {
-            let keys = keys_value(alloc, keys.as_slice())?;
-            json!(in alloc; {"keys": keys, "kind": "get"})
+            json!(in alloc; {"keys": keys_value(alloc, keys.as_slice())?, "kind": "get"})
         }
         Request::Set {
             key,
@@ -33,22 +32,17 @@ pub fn request_value(alloc: Global, request: &Request) -> Result<Value, AllocErr
             exptime,
             block,
             noreply,
-        } => {
-            let data = bytes_value(alloc, block.as_bytes())?;
-            let key = bytes_value(alloc, key.as_bytes())?;
-            json!(in alloc; {
-                "data": data,
-                "exptime": *exptime,
-                "flags": *flags,
-                "key": key,
-                "kind": "set",
-                "noreply": *noreply
-            })
-        }
-        Request::Delete { key, noreply } => {
-            let key = bytes_value(alloc, key.as_bytes())?;
-            json!(in alloc; {"key": key, "kind": "delete", "noreply": *noreply})
-        }
+        } => json!(in alloc; {
+            "data": bytes_value(alloc, block.as_bytes())?,
+            "exptime": *exptime,
+            "flags": *flags,
+            "key": bytes_value(alloc, key.as_bytes())?,
+            "kind": "set",
+            "noreply": *noreply
+        }),
+        Request::Delete { key, noreply } => json!(in alloc; {
+            "key": bytes_value(alloc, key.as_bytes())?, "kind": "delete", "noreply": *noreply
+        }),
         Request::Quit => json!(in alloc; {"kind": "quit"}),
     }
 }
