@@ -4,6 +4,7 @@ use mr_commands::{Sources, run_words};
 use mr_servers::HostServers;
 use mr_text::{OverReader, OverWriter, Source};
 use std::alloc::Global;
+use std::fmt::Debug;
 use std::io;
 use std::io::Read;
 use std::net::{Net, TcpListener, TcpStream};
@@ -22,6 +23,11 @@ mod plays;
 mod requests;
 mod timelines;
 mod words;
+
+/// Asserts which value there is.
+fn is<T: PartialEq + Debug + Drop>(rt: &impl Abort, value: T, wanted: T) {
+    assert_eq!(rt; value, wanted);
+}
 
 /// A configuration of the smallest fleet that shows all: two old nodes, three new ones.
 const FLEET: &[u8] = b"{\"hash\":\"sum\",\

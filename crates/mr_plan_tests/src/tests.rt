@@ -6,6 +6,7 @@ use mr_pools::{NamedHash, Pool, PoolError};
 use mr_shown::KeptVerdict;
 use mr_text::{Key, KeyList, Request};
 use std::alloc::Global;
+use std::fmt::Debug;
 use std::process::Abort;
 use std::test::Fail;
 
@@ -13,6 +14,11 @@ mod configurations;
 mod errors;
 mod plans;
 mod transcripts;
+
+/// Asserts which value there is.
+fn is<T: PartialEq + Debug + Drop>(rt: &impl Abort, value: T, wanted: T) {
+    assert_eq!(rt; value, wanted);
+}
 
 /// The configuration of the worked examples: start 1000, interval 100, the hash by sums.
 const FLEET: &str =

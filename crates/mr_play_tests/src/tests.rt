@@ -2,6 +2,7 @@
 use mr_config::PlanError;
 use mr_plan::{Outcome, check_transcript, read_events, write_transcript};
 use std::alloc::{AllocError, Global};
+use std::fmt::Debug;
 use std::process::Abort;
 use std::test::Fail;
 
@@ -13,6 +14,16 @@ mod plays;
 mod premises;
 mod refusals;
 mod sizes;
+
+/// Asserts which value there is.
+fn is<T: PartialEq + Debug + Drop>(rt: &impl Abort, value: T, wanted: T) {
+    assert_eq!(rt; value, wanted);
+}
+
+/// Asserts which value there is in one case of several.
+fn is_for<T: PartialEq + Debug + Drop>(rt: &impl Abort, value: T, wanted: T, case: &str) {
+    assert_eq!(rt; value, wanted, "in the case of {case}");
+}
 
 /// A part of a text, and what is put in its place.
 type Change = (&'static str, &'static str);

@@ -2,11 +2,22 @@
 use mr_config::PlanError;
 use mr_script_test_parts::{Change, SCRIPT, refusal};
 use std::alloc::{AllocError, Global};
+use std::fmt::Debug;
 use std::process::Abort;
 
 mod events;
 mod order;
 mod refusals;
+
+/// Asserts which value there is.
+fn is<T: PartialEq + Debug + Drop>(rt: &impl Abort, value: T, wanted: T) {
+    assert_eq!(rt; value, wanted);
+}
+
+/// Asserts which value there is in one case of several.
+fn is_for<T: PartialEq + Debug + Drop>(rt: &impl Abort, value: T, wanted: T, case: &str) {
+    assert_eq!(rt; value, wanted, "in the case of {case}");
+}
 
 /// The text with another part in the place of one that has to stand in it.
 fn changed(

@@ -8,6 +8,7 @@ use mr_commands::run_words;
 use mr_servers::HostServers;
 use mr_text::{FailsAt, OverReader, OverWriter};
 use std::alloc::{AllocError, Global};
+use std::fmt::Debug;
 use std::io::{Read, Write};
 use std::net::{Net, Shutdown, SocketAddr, TcpListener, TcpStream};
 use std::process::Abort;
@@ -15,6 +16,11 @@ use std::sync::Wait;
 use std::thread::Threads;
 use std::time::{Clock, Duration};
 use std::{io, thread};
+
+/// Asserts which value there is.
+fn is<T: PartialEq + Debug + Drop>(rt: &impl Abort, value: T, wanted: T) {
+    assert_eq!(rt; value, wanted);
+}
 
 /// What a command left.
 #[derive(Drop)]

@@ -118,12 +118,10 @@ fn went_so(
     written: &[u8],
     issued: u64,
 ) {
-    assert_eq!(rt;
-        (left.served.ended, left.written.as_slice()),
-        (ended, written)
-    );
-    assert_eq!(rt; left.served.share.count(), issued);
-    assert_eq!(rt; left.served.answers.len() as u64, issued);
+    holds(rt, left.served.ended == ended);
+    holds(rt, left.written.as_slice() == written);
+    holds(rt, left.served.share.count() == issued);
+    holds(rt, left.served.answers.len() as u64 == issued);
 }
 
 /// How a session went, what it wrote, and how often its reader was called.

@@ -17,13 +17,20 @@ use mr_proxy::ProxyCore;
 use mr_sockets::{OverListener, SocketCarrier, serve_node, serve_proxy};
 use mr_workers::{Desk, SharedNode};
 use std::alloc::Global;
+use std::fmt::Debug;
 use std::io;
 use std::io::{Read, Write};
 use std::net::{Net, OpenStream, Shutdown, SocketAddr, TcpListener, TcpStream};
+use std::process::Abort;
 use std::sync::Wait;
 use std::test::Fail;
 use std::thread::Threads;
 use std::time::Clock;
+
+/// Asserts which value there is.
+fn is<T: PartialEq + Debug + Drop>(rt: &impl Abort, value: T, wanted: T) {
+    assert_eq!(rt; value, wanted);
+}
 
 /// How many reads each connection is allowed.
 const TURNS: u64 = 1_000_000;

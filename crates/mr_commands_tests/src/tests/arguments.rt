@@ -1,5 +1,5 @@
 //! The program, from its arguments.
-use super::{PLACES, Ran, expect_run};
+use super::{PLACES, Ran, expect_run, is};
 use mr_command_test_parts::FilesAt;
 use mr_commands::run_arguments;
 use mr_servers::HostServers;
@@ -49,7 +49,7 @@ fn words_are_the_arguments_but_the_first(rt: HostRuntime) -> Result<(), Fail> {
     expect_run(&rt, &ran, 0, plan, b"");
     let none: Vec<String> = Vec::new(alloc);
     let ran = run_with(&rt, alloc, Ok(none.into_iter()));
-    assert_eq!(rt; ran.status, 2);
+    is(&rt, ran.status, 2);
     Ok(())
 }
 

@@ -1,5 +1,5 @@
 //! Configurations that are refused, and files that can't be read.
-use super::{FLEET, Ran, expect_run, plan_words, run_over};
+use super::{FLEET, Ran, expect_run, is, plan_words, run_over};
 use mr_command_test_parts::FilesAt;
 use mr_commands::{MOST_CONFIG_BYTES, MOST_LOADED};
 use mr_text::OverReader;
@@ -32,10 +32,10 @@ fn run_both(
         &mut files,
         &mut input,
     );
-    assert_eq!(rt; files.calls(), 1);
+    is(rt, files.calls(), 1);
     let words = ["timeline", "--config", "fleet.json", "--readings", "9"];
     let timeline = run_over(rt, alloc, &words, &mut files, &mut input);
-    assert_eq!(rt; files.calls(), 2);
+    is(rt, files.calls(), 2);
     (plan, timeline)
 }
 
@@ -87,11 +87,11 @@ fn files_that_cannot_be_read_have_a_line(rt: HostRuntime) {
         &mut input,
     );
     expect_run(&rt, &ran, 1, b"", b"migctl: file a b.json\n");
-    assert_eq!(rt; files.calls(), 1);
+    is(&rt, files.calls(), 1);
     let words = ["timeline", "--config", ""];
     let ran = run_over(&rt, rt.alloc(), &words, &mut files, &mut input);
     expect_run(&rt, &ran, 1, b"", b"migctl: file \n");
-    assert_eq!(rt; files.calls(), 2);
+    is(&rt, files.calls(), 2);
 }
 
 #[test]
@@ -101,9 +101,9 @@ fn a_configuration_may_have_so_many_bytes(rt: HostRuntime) -> Result<(), Fail> {
     config.resize(MOST_CONFIG_BYTES, b' ')?;
     let (plan, timeline) = run_both(&rt, alloc, config.as_slice());
     expect_run(&rt, &plan, 1, b"", b"migctl: text 7 UnknownCommand\n");
-    assert_eq!(rt; timeline.status, 0);
+    is(&rt, timeline.status, 0);
     config.push(b' ')?;
-    assert_eq!(rt; config.len(), MOST_LOADED);
+    is(&rt, config.len(), MOST_LOADED);
     for _ in 0..2 {
         let (plan, timeline) = run_both(&rt, alloc, config.as_slice());
         expect_run(&rt, &plan, 1, b"", b"migctl: plan 11 TooLarge\n");

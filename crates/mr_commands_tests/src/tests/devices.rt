@@ -1,6 +1,6 @@
 //! What is left where a device fails.
 use super::plays::{ACCEPTED, SCRIPT, TRANSCRIPT};
-use super::{PLACES, byte_by_byte, expect_run, plan_words, run_over};
+use super::{PLACES, byte_by_byte, expect_run, is, plan_words, run_over};
 use mr_command_test_parts::FilesAt;
 use mr_commands::run_words;
 use mr_servers::HostServers;
@@ -56,8 +56,8 @@ impl Write for TakesHalf {
 
 /// Asserts what a device kept, and how often it was called.
 fn expect_device(rt: &impl Abort, device: &TakesHalf, kept: &[u8], calls: usize) {
-    assert_eq!(rt; device.kept.as_slice(), kept);
-    assert_eq!(rt; device.calls, calls);
+    is(rt, device.kept.as_slice(), kept);
+    is(rt, device.calls, calls);
 }
 
 /// Asserts what each output is left with, where one of their calls fails.
@@ -89,8 +89,8 @@ fn runs_with(
         &mut written,
         &mut told,
     );
-    assert_eq!(rt; ran, status);
-    assert_eq!(rt; files.calls(), 1);
+    is(rt, ran, status);
+    is(rt, files.calls(), 1);
     expect_device(rt, &written.into_inner(), output.0, output.1);
     expect_device(rt, &told.into_inner(), faults.0, faults.1);
 }
@@ -225,7 +225,7 @@ fn expect_half(
         &mut written,
         &mut told,
     );
-    assert_eq!(rt; status, 1);
+    is(rt, status, 1);
     expect_device(rt, &written.into_inner(), &text[..text.len() / 2], 2);
     expect_device(rt, &told.into_inner(), b"migctl: output\n", 1);
 }

@@ -1,5 +1,5 @@
 //! What faults mean.
-use super::{PLACES, Ran, expect_run, run};
+use super::{PLACES, Ran, expect_run, is, run};
 use mr_clock::ClockError;
 use mr_command_test_parts::FilesAt;
 use mr_commands::run_words;
@@ -143,10 +143,11 @@ fn expect_named<E: Debug + Drop>(
     heading.extend_from_slice(name)?;
     heading.push(b'\n')?;
     let ran = run(rt, alloc, &["explain", layer, word.as_str()], b"");
-    assert_eq!(rt; ran.status, 0);
-    assert!(rt;
+    is(rt, ran.status, 0);
+    is(
+        rt,
         ran.output.as_slice().starts_with(heading.as_slice()),
-        "{layer} {refusal:?}"
+        true,
     );
     Ok(())
 }
@@ -282,9 +283,9 @@ fn plans_are_named(rt: HostRuntime) -> Result<(), Fail> {
 
 /// Asserts that words have no explanation.
 fn expect_wrong(rt: &impl Abort, ran: &Ran, words: &[&str]) {
-    assert_eq!(rt; ran.status, 2, "{words:?}");
-    assert!(rt; ran.output.is_empty(), "{words:?}");
-    assert!(rt; !ran.faults.is_empty(), "{words:?}");
+    is(rt, ran.status, 2);
+    is(rt, ran.output.is_empty(), true);
+    is(rt, ran.faults.is_empty(), false);
 }
 
 #[test]
@@ -348,11 +349,12 @@ fn a_failed_output_is_told(rt: HostRuntime) {
         &mut output,
         &mut faults,
     );
-    assert_eq!(rt; status, 1);
-    assert_eq!(rt;
+    is(&rt, status, 1);
+    is(
+        &rt,
         faults.into_inner().as_slice(),
-        b"migctl: output\n".as_slice()
+        b"migctl: output\n".as_slice(),
     );
-    assert!(rt; output.into_inner().into_inner().is_empty());
-    assert_eq!(rt; files.calls(), 0);
+    is(&rt, output.into_inner().into_inner().is_empty(), true);
+    is(&rt, files.calls(), 0);
 }

@@ -1,5 +1,5 @@
 //! The files of the system.
-use super::{Ran, expect_run, run_over};
+use super::{Ran, expect_run, is, run_over};
 use mr_commands::{HostFiles, LoadFault, MOST_LOADED, Sources};
 use mr_text::OverReader;
 use std::fs;
@@ -10,14 +10,14 @@ fn files_of_the_system_are_loaded(rt: HostRuntime) -> Result<(), Fail> {
     let alloc = rt.alloc();
     let mut files = HostFiles::new(&rt);
     let empty = files.load(alloc, "/dev/null").expect(&rt, "an empty file");
-    assert!(rt; empty.is_empty());
+    is(&rt, empty.is_empty(), true);
     let endless = files
         .load(alloc, "/dev/zero")
         .expect(&rt, "an endless file");
-    assert_eq!(rt; endless.len(), MOST_LOADED);
+    is(&rt, endless.len(), MOST_LOADED);
     for path in ["/", "/no such file", ""] {
         let fault = files.load(alloc, path).err();
-        assert_eq!(rt; fault, Some(LoadFault::Unreadable), "{path}");
+        is(&rt, fault, Some(LoadFault::Unreadable));
     }
     Ok(())
 }
@@ -50,6 +50,10 @@ fn what_a_file_holds_is_loaded(rt: HostRuntime) -> Result<(), Fail> {
     fs::write(&rt, path, held.as_slice())?;
     let loaded = HostFiles::new(&rt).load(alloc, path);
     fs::remove_file(&rt, path)?;
-    assert!(rt; loaded.is_ok_and(|bytes| bytes.as_slice() == held.as_slice()));
+    is(
+        &rt,
+        loaded.is_ok_and(|bytes| bytes.as_slice() == held.as_slice()),
+        true,
+    );
     Ok(())
 }

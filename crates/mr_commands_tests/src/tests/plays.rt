@@ -1,5 +1,5 @@
 //! Scripts that are played, and transcripts that are checked.
-use super::{Ran, byte_by_byte, expect_run, run, run_over};
+use super::{Ran, byte_by_byte, expect_run, is, run, run_over};
 use mr_command_test_parts::FilesAt;
 use mr_text::{FailsAt, OverReader};
 use std::alloc::Global;
@@ -65,7 +65,7 @@ fn run_on(
     let mut files = FilesAt::new(&[]);
     let mut input = byte_by_byte(input.as_bytes());
     let ran = run_over(rt, alloc, &[command], &mut files, &mut input);
-    assert_eq!(rt; files.calls(), 0);
+    is(rt, files.calls(), 0);
     ran
 }
 
@@ -90,7 +90,7 @@ fn run_by_file(
     let mut files = FilesAt::new(places.as_slice());
     let mut input = FailsAt::new(OverReader::new(&b"no JSON"[..]), 1);
     let ran = run_over(rt, alloc, &file_words(command), &mut files, &mut input);
-    assert_eq!(rt; files.calls(), 1);
+    is(rt, files.calls(), 1);
     ran
 }
 
@@ -118,7 +118,7 @@ fn a_transcript_is_accepted(rt: HostRuntime) {
 fn a_play_with_far_clocks_is_not_accepted(rt: HostRuntime) {
     let alloc = rt.alloc();
     let played = run_on(&rt, alloc, "run", FAR_CLOCKS);
-    assert_eq!(rt; played.status, 0);
+    is(&rt, played.status, 0);
     let ran = run(&rt, alloc, &["check"], played.output.as_slice());
     let lines: &[u8] = b"premises same true new_empty true forward true near false\n\
         verdict stale get 1.0.1 delete 0.0.0\nnot accepted: premise false\n";
@@ -182,10 +182,10 @@ fn what_cannot_be_had_is_not_played(rt: HostRuntime) {
         let words = [command, "a b.json"];
         let ran = run_over(&rt, rt.alloc(), &words, &mut files, &mut input);
         expect_run(&rt, &ran, 1, b"", b"migctl: file a b.json\n");
-        assert_eq!(rt; files.calls(), 1);
+        is(&rt, files.calls(), 1);
         let mut failing = FailsAt::new(byte_by_byte(TRANSCRIPT.as_bytes()), 9);
         let ran = run_over(&rt, rt.alloc(), &[command], &mut files, &mut failing);
         expect_run(&rt, &ran, 1, b"", b"migctl: input\n");
-        assert_eq!(rt; files.calls(), 1);
+        is(&rt, files.calls(), 1);
     }
 }

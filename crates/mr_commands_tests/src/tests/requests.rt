@@ -1,5 +1,5 @@
 //! Requests that are refused, and the longest one.
-use super::{PLACES, byte_by_byte, expect_run, plan_words, run, run_over};
+use super::{PLACES, byte_by_byte, expect_run, is, plan_words, run, run_over};
 use mr_command_test_parts::FilesAt;
 use std::test::Fail;
 
@@ -55,7 +55,7 @@ fn longest_request_is_read_byte_by_byte(rt: HostRuntime) -> Result<(), Fail> {
     input.extend_from_slice(b"\r\n")?;
     input.extend_from_slice(&[b'v'; 8192])?;
     input.extend_from_slice(b"\r\n")?;
-    assert_eq!(rt; input.len(), 16_388);
+    is(&rt, input.len(), 16_388);
     let mut cut = input.clone()?;
     let _ = cut.pop();
     let mut files = FilesAt::new(PLACES.as_slice());

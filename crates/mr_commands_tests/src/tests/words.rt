@@ -1,5 +1,5 @@
 //! Words that say no command.
-use super::{PLACES, expect_run, run, run_over};
+use super::{PLACES, expect_run, is, run, run_over};
 use mr_command_test_parts::FilesAt;
 use mr_text::OverReader;
 
@@ -37,9 +37,9 @@ fn words_are_refused_with_status_2(rt: HostRuntime) {
     ];
     for words in cases {
         let ran = run(&rt, rt.alloc(), words, b"delete k\n");
-        assert_eq!(rt; ran.status, 2, "{words:?}");
-        assert!(rt; ran.output.is_empty(), "{words:?}");
-        assert!(rt; !ran.faults.is_empty(), "{words:?}");
+        is(&rt, ran.status, 2);
+        is(&rt, ran.output.is_empty(), true);
+        is(&rt, ran.faults.is_empty(), false);
     }
 }
 
@@ -136,6 +136,6 @@ fn readings_are_numbers(rt: HostRuntime) {
         let mut input = OverReader::new(&b""[..]);
         let ran = run_over(&rt, rt.alloc(), &words, &mut files, &mut input);
         expect_run(&rt, &ran, 2, b"", b"migctl: words --readings\n");
-        assert_eq!(rt; files.calls(), 0);
+        is(&rt, files.calls(), 0);
     }
 }

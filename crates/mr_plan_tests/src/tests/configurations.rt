@@ -137,7 +137,7 @@ const REFUSED: [(&str, PlanError); 45] = [
 #[test]
 fn each_refusal_comes_in_its_place(rt: HostRuntime) {
     for (text, wanted) in REFUSED {
-        assert_eq!(rt; refusal(rt.alloc(), text), Some(wanted));
+        is(&rt, refusal(rt.alloc(), text), Some(wanted));
     }
 }
 
@@ -145,16 +145,16 @@ fn each_refusal_comes_in_its_place(rt: HostRuntime) {
 #[test]
 fn bytes_are_utf8(rt: HostRuntime) {
     match Config::read(rt.alloc(), b"\"\xff\"") {
-        Ok(_) => assert!(rt; false),
-        Err(refusal) => assert_eq!(rt; refusal, PlanError::NotJson),
+        Ok(_) => is(&rt, false, true),
+        Err(refusal) => is(&rt, refusal, PlanError::NotJson),
     }
 }
 
 /// Whether a pool has these names in this order.
 fn names_are(rt: &impl Abort, pool: &Pool, wanted: &[&str]) {
-    assert_eq!(rt; pool.len(), wanted.len());
+    is(rt, pool.len(), wanted.len());
     for (name, text) in pool.names().iter().zip(wanted) {
-        assert_eq!(rt; name.as_str(), *text);
+        is(rt, name.as_str(), *text);
     }
 }
 
@@ -164,14 +164,14 @@ fn a_configuration_is_read(rt: HostRuntime) -> Result<(), Fail> {
         Ok(config) => config,
         Err(_) => return Err(Fail::from("refused")),
     };
-    assert_eq!(rt; config.schedule().start(), 1000);
-    assert_eq!(rt; config.schedule().interval(), 100);
-    assert_eq!(rt; config.routing().hash(), NamedHash::Sum);
+    is(&rt, config.schedule().start(), 1000);
+    is(&rt, config.schedule().interval(), 100);
+    is(&rt, config.routing().hash(), NamedHash::Sum);
     names_are(&rt, config.routing().old_pool(), &["7001", "7002"]);
     names_are(&rt, config.routing().new_pool(), &["7101", "7102", "7103"]);
     let copied = config.copy()?;
-    assert!(rt; copied.routing().same_as(config.routing()));
-    assert_eq!(rt; copied.schedule().start(), 1000);
+    is(&rt, copied.routing().same_as(config.routing()), true);
+    is(&rt, copied.schedule().start(), 1000);
     Ok(())
 }
 
@@ -186,8 +186,8 @@ fn what_is_not_said_has_defaults(rt: HostRuntime) -> Result<(), Fail> {
         Ok(config) => config,
         Err(_) => return Err(Fail::from("refused")),
     };
-    assert_eq!(rt; config.schedule().interval(), 3600);
-    assert_eq!(rt; config.routing().hash(), NamedHash::Fnv);
+    is(&rt, config.schedule().interval(), 3600);
+    is(&rt, config.routing().hash(), NamedHash::Fnv);
     names_are(&rt, config.routing().old_pool(), &["x"]);
     Ok(())
 }

@@ -22,6 +22,6 @@ const NUMBERS: [(PlanError, u8); 13] = [
 #[test]
 fn refusals_have_their_numbers(rt: HostRuntime) {
     for (refusal, number) in NUMBERS {
-        assert_eq!(rt; refusal.number(), number);
+        is(&rt, refusal.number(), number);
     }
 }

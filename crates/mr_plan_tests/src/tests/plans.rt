@@ -115,12 +115,12 @@ fn goes(rt: &impl Abort, alloc: Global, config: &Config, row: Row) -> Result<(),
     let Ok(plan) = plan(alloc, config, at, request(alloc, asked)?) else {
         return Err(Fail::from("no plan"));
     };
-    assert_eq!(rt; plan.phase(), phase);
-    assert_eq!(rt; plan.reading(), at);
-    assert_eq!(rt; plan.sheets().len(), legs.len());
+    is(rt, plan.phase(), phase);
+    is(rt, plan.reading(), at);
+    is(rt, plan.sheets().len(), legs.len());
     for (sheet, (side, node)) in plan.sheets().iter().zip(legs) {
-        assert_eq!(rt; sheet.side, *side);
-        assert_eq!(rt; sheet.node, *node);
+        is(rt, sheet.side, *side);
+        is(rt, sheet.node, *node);
     }
     Ok(())
 }
@@ -143,14 +143,15 @@ const fn span(first: u64, last: u64) -> Span {
 fn the_timeline_has_four_spans(rt: HostRuntime) -> Result<(), Fail> {
     let config = fleet(rt.alloc())?;
     let times = timeline(&config);
-    assert_eq!(rt;
+    is(
+        &rt,
         times,
         PhaseTimes {
             old_only: Some(span(0, 999)),
             both_read_old: span(1000, 1099),
             both_read_new: span(1100, 1199),
             new_only: 1200,
-        }
+        },
     );
     Ok(())
 }
@@ -165,14 +166,15 @@ fn a_migration_at_once_has_no_old_only(rt: HostRuntime) -> Result<(), Fail> {
         return Err(Fail::from("refused"));
     };
     let times = timeline(&config);
-    assert_eq!(rt;
+    is(
+        &rt,
         times,
         PhaseTimes {
             old_only: None,
             both_read_old: span(0, 0),
             both_read_new: span(1, 1),
             new_only: 2,
-        }
+        },
     );
     Ok(())
 }
@@ -183,22 +185,23 @@ fn advice_tells_phases_and_spread(rt: HostRuntime) -> Result<(), Fail> {
     let Ok(advice) = advise(rt.alloc(), &config, &[999, 1100]) else {
         return Err(Fail::from("no advice"));
     };
-    assert_eq!(rt;
+    is(
+        &rt,
         advice.phases(),
-        [PhaseName::OldOnly, PhaseName::BothReadNew].as_slice()
+        [PhaseName::OldOnly, PhaseName::BothReadNew].as_slice(),
     );
-    assert_eq!(rt; advice.spread(), 101);
-    assert_eq!(rt; advice.interval(), 100);
-    assert!(rt; !advice.near());
+    is(&rt, advice.spread(), 101);
+    is(&rt, advice.interval(), 100);
+    is(&rt, advice.near(), false);
     let Ok(near) = advise(rt.alloc(), &config, &[1000, 1100, 1050]) else {
         return Err(Fail::from("no advice"));
     };
-    assert_eq!(rt; near.spread(), 100);
-    assert!(rt; near.near());
+    is(&rt, near.spread(), 100);
+    is(&rt, near.near(), true);
     let Ok(none) = advise(rt.alloc(), &config, &[]) else {
         return Err(Fail::from("no advice"));
     };
-    assert_eq!(rt; none.spread(), 0);
-    assert!(rt; none.near());
+    is(&rt, none.spread(), 0);
+    is(&rt, none.near(), true);
     Ok(())
 }

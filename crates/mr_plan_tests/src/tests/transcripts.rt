@@ -23,8 +23,8 @@ fn outcome(alloc: Global, transcript: &str) -> Result<Outcome, PlanError> {
 #[test]
 fn a_script_has_a_transcript(rt: HostRuntime) {
     match transcript(rt.alloc(), SCRIPT) {
-        Ok(text) => assert_eq!(rt; text.as_slice(), TRANSCRIPT.as_bytes()),
-        Err(refusal) => assert_eq!(rt; refusal, PlanError::NotJson),
+        Ok(text) => is(&rt, text.as_slice(), TRANSCRIPT.as_bytes()),
+        Err(refusal) => is(&rt, refusal, PlanError::NotJson),
     }
 }
 
@@ -79,7 +79,7 @@ const CHECKED: [(&str, Outcome); 11] = [
 #[test]
 fn each_outcome_is_found(rt: HostRuntime) {
     for (text, wanted) in CHECKED {
-        assert_eq!(rt; outcome(rt.alloc(), text), Ok(wanted));
+        is(&rt, outcome(rt.alloc(), text), Ok(wanted));
     }
 }
 
@@ -148,12 +148,13 @@ fn goes(rt: &impl Abort, alloc: Global, played: Played) -> Result<(), PlanError>
     let (script, premises, verdict, outcome) = played;
     let checked = check_transcript(alloc, &transcript(alloc, script)?)?;
     let told = checked.premises;
-    assert_eq!(rt;
+    is(
+        rt,
         [told.same, told.new_empty, told.forward, told.near],
-        premises
+        premises,
     );
-    assert_eq!(rt; stale(&checked.verdict), verdict);
-    assert_eq!(rt; checked.outcome, outcome);
+    is(rt, stale(&checked.verdict), verdict);
+    is(rt, checked.outcome, outcome);
     Ok(())
 }
 

@@ -14,7 +14,7 @@ fn all_find(
     for change in changes {
         let text = changed(rt, alloc, TRANSCRIPT, *change)?;
         let found = outcome(alloc, text.as_bytes());
-        assert_eq!(rt; found, Ok(wanted), "with {}", change.1);
+        is_for(rt, found, Ok(wanted), change.1);
     }
     Ok(())
 }
@@ -22,7 +22,7 @@ fn all_find(
 #[test]
 fn order_and_spaces_are_no_matter(rt: HostRuntime) {
     let found = outcome(rt.alloc(), TRANSCRIPT.as_bytes());
-    assert_eq!(rt; found, Ok(Outcome::Accepted));
+    is(&rt, found, Ok(Outcome::Accepted));
 }
 
 /// What says the same in other characters, or is no part of what came of the play.
@@ -247,12 +247,7 @@ fn a_refused_event_is_found(rt: HostRuntime) -> Result<(), Fail> {
     for (change, index) in REFUSED {
         let text = changed(&rt, rt.alloc(), TRANSCRIPT, change)?;
         let found = outcome(rt.alloc(), text.as_bytes());
-        assert_eq!(rt;
-            found,
-            Ok(Outcome::EventRefused(index)),
-            "with {}",
-            change.1
-        );
+        is_for(&rt, found, Ok(Outcome::EventRefused(index)), change.1);
     }
     Ok(())
 }
@@ -292,7 +287,7 @@ fn the_first_of_two_is_found(rt: HostRuntime) -> Result<(), Fail> {
         let once = changed(&rt, rt.alloc(), TRANSCRIPT, change)?;
         let twice = changed(&rt, rt.alloc(), once.as_str(), other)?;
         let found = outcome(rt.alloc(), twice.as_bytes());
-        assert_eq!(rt; found, Ok(wanted), "with {} and {}", change.1, other.1);
+        is(&rt, found, Ok(wanted));
     }
     Ok(())
 }

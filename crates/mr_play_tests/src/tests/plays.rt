@@ -77,7 +77,7 @@ fn finds_each_change(
         parts.told.put(part, other);
         let text = parts.transcript(alloc)?;
         let found = outcome(alloc, text.as_bytes());
-        assert_eq!(rt; found, Ok(part.differing()), "of {}", text.as_str());
+        is_for(rt, found, Ok(part.differing()), text.as_str());
         parts.told.put(part, kept);
     }
     Ok(())
@@ -106,7 +106,7 @@ fn finds_another_script(
     let wanted = wanted(&parts.told, &play);
     let text = parts.transcript(alloc)?;
     let found = outcome(alloc, text.as_bytes());
-    assert_eq!(rt; found, wanted, "of {}", text.as_str());
+    is_for(rt, found, wanted, text.as_str());
     count(&mut tally.kept, found == Ok(Outcome::Accepted));
     count(
         &mut tally.differing,
@@ -127,12 +127,7 @@ fn finds_no_play(
         return Err(Fail::from("no script"));
     };
     let found = outcome(alloc, text.as_bytes());
-    assert_eq!(rt;
-        found,
-        Ok(Outcome::EventRefused(index)),
-        "of {}",
-        text.as_str()
-    );
+    is_for(rt, found, Ok(Outcome::EventRefused(index)), text.as_str());
     Ok(())
 }
 
@@ -147,7 +142,7 @@ fn finds_the_play(
     let wanted = parts.told.outcome_beside(&parts.told);
     let text = parts.transcript(alloc)?;
     let found = outcome(alloc, text.as_bytes());
-    assert_eq!(rt; found, Ok(wanted), "of {}", text.as_str());
+    is_for(rt, found, Ok(wanted), text.as_str());
     count(&mut tally.accepted, wanted == Outcome::Accepted);
     count(
         &mut tally.hits,
@@ -173,11 +168,11 @@ fn goes(
     let script = parts.script(alloc)?;
     match played(alloc, script.as_str())? {
         Ok(told) => {
-            assert_eq!(rt;
+            is_for(
+                rt,
                 told.premises.as_str(),
                 drawn.premises.as_str(),
-                "of {}",
-                script.as_str()
+                script.as_str(),
             );
             count(&mut tally.played, true);
             parts.told = told;
@@ -198,15 +193,12 @@ fn each_play_gets_its_own_outcome(rt: HostRuntime) -> Result<(), Fail> {
         let drawn = draw(rt.alloc(), &mut rng)?;
         goes(&rt, rt.alloc(), &mut rng, drawn, &mut tally)?;
     }
-    assert!(rt; tally.played >= 100, "{tally:?}");
-    assert!(rt; tally.refused >= 20, "{tally:?}");
-    assert!(rt; tally.hits >= 20, "{tally:?}");
-    assert!(rt; tally.accepted >= 100, "{tally:?}");
-    assert!(rt;
-        tally.played.saturating_sub(tally.accepted) >= 20,
-        "{tally:?}"
-    );
-    assert!(rt; tally.kept >= 50, "{tally:?}");
-    assert!(rt; tally.differing >= 50, "{tally:?}");
+    is(&rt, tally.played >= 100, true);
+    is(&rt, tally.refused >= 20, true);
+    is(&rt, tally.hits >= 20, true);
+    is(&rt, tally.accepted >= 100, true);
+    is(&rt, tally.played.saturating_sub(tally.accepted) >= 20, true);
+    is(&rt, tally.kept >= 50, true);
+    is(&rt, tally.differing >= 50, true);
     Ok(())
 }

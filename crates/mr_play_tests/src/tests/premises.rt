@@ -140,7 +140,7 @@ fn true_premises_are_accepted(rt: HostRuntime) -> Result<(), Fail> {
     for changes in TRUE {
         let text = idle_with(&rt, rt.alloc(), changes)?;
         let found = outcome(rt.alloc(), text.as_bytes());
-        assert_eq!(rt; found, Ok(Outcome::Accepted), "with {}", changes[0].1);
+        is_for(&rt, found, Ok(Outcome::Accepted), changes[0].1);
     }
     Ok(())
 }
@@ -153,13 +153,13 @@ fn a_false_premise_is_found_behind_what_differs(rt: HostRuntime) -> Result<(), F
     for (changes, told) in FALSE {
         let hidden = idle_with(&rt, rt.alloc(), changes)?;
         let found = outcome(rt.alloc(), hidden.as_bytes());
-        assert_eq!(rt; found, Ok(Outcome::PremisesDiffer), "with {}", changes[0].1);
+        is_for(&rt, found, Ok(Outcome::PremisesDiffer), changes[0].1);
         let honest = changed(&rt, rt.alloc(), hidden.as_str(), told)?;
         let found = outcome(rt.alloc(), honest.as_bytes());
-        assert_eq!(rt; found, Ok(Outcome::PremiseFalse), "with {}", changes[0].1);
+        is_for(&rt, found, Ok(Outcome::PremiseFalse), changes[0].1);
         let other = changed(&rt, rt.alloc(), honest.as_str(), VERDICT)?;
         let found = outcome(rt.alloc(), other.as_bytes());
-        assert_eq!(rt; found, Ok(Outcome::VerdictDiffers), "with {}", changes[0].1);
+        is_for(&rt, found, Ok(Outcome::VerdictDiffers), changes[0].1);
     }
     Ok(())
 }
@@ -260,7 +260,7 @@ fn a_bad_hit_comes_with_a_false_premise(rt: HostRuntime) -> Result<(), Fail> {
     for (change, wanted) in OF_STALE {
         let text = changed(&rt, rt.alloc(), STALE, change)?;
         let found = outcome(rt.alloc(), text.as_bytes());
-        assert_eq!(rt; found, Ok(wanted), "with {}", change.1);
+        is_for(&rt, found, Ok(wanted), change.1);
     }
     Ok(())
 }

@@ -55,7 +55,7 @@ const KEYS: [(&str, PlanError); 10] = [
 fn a_transcript_has_seven_keys(rt: HostRuntime) {
     for (text, wanted) in KEYS {
         let found = refusal(rt.alloc(), text.as_bytes());
-        assert_eq!(rt; found, Some(wanted), "of {text}");
+        is_for(&rt, found, Some(wanted), text);
     }
 }
 
@@ -98,7 +98,7 @@ fn a_faulty_script_has_no_play(rt: HostRuntime) -> Result<(), Fail> {
     for (change, wanted) in FAULTS {
         let text = changed(&rt, rt.alloc(), TRANSCRIPT, change)?;
         let found = refusal(rt.alloc(), text.as_bytes());
-        assert_eq!(rt; found, Some(wanted), "with {}", change.1);
+        is_for(&rt, found, Some(wanted), change.1);
     }
     Ok(())
 }
@@ -106,7 +106,7 @@ fn a_faulty_script_has_no_play(rt: HostRuntime) -> Result<(), Fail> {
 #[test]
 fn a_transcript_is_no_script(rt: HostRuntime) {
     let found = read_events(rt.alloc(), TRANSCRIPT.as_bytes()).err();
-    assert_eq!(rt; found, Some(PlanError::UnknownKey));
+    is(&rt, found, Some(PlanError::UnknownKey));
 }
 
 /// A script in which nothing happens to no proxy.
@@ -115,7 +115,11 @@ const SCRIPT: &str =
 
 #[test]
 fn a_script_is_no_transcript(rt: HostRuntime) {
-    assert!(rt; read_events(rt.alloc(), SCRIPT.as_bytes()).is_ok());
+    is(
+        &rt,
+        read_events(rt.alloc(), SCRIPT.as_bytes()).is_ok(),
+        true,
+    );
     let found = refusal(rt.alloc(), SCRIPT.as_bytes());
-    assert_eq!(rt; found, Some(PlanError::MissingKey));
+    is(&rt, found, Some(PlanError::MissingKey));
 }

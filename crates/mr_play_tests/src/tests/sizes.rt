@@ -13,18 +13,23 @@ fn padded(alloc: Global, length: usize) -> Result<String, AllocError> {
 #[test]
 fn a_transcript_of_16777216_bytes_is_read(rt: HostRuntime) -> Result<(), Fail> {
     let text = padded(rt.alloc(), 16_777_216)?;
-    assert_eq!(rt; text.len(), 16_777_216);
-    assert_eq!(rt; outcome(rt.alloc(), text.as_bytes()), Ok(Outcome::Accepted));
+    is(&rt, text.len(), 16_777_216);
+    is(
+        &rt,
+        outcome(rt.alloc(), text.as_bytes()),
+        Ok(Outcome::Accepted),
+    );
     Ok(())
 }
 
 #[test]
 fn a_transcript_of_16777217_bytes_is_too_large(rt: HostRuntime) -> Result<(), Fail> {
     let text = padded(rt.alloc(), 16_777_217)?;
-    assert_eq!(rt; text.len(), 16_777_217);
-    assert_eq!(rt;
+    is(&rt, text.len(), 16_777_217);
+    is(
+        &rt,
         outcome(rt.alloc(), text.as_bytes()),
-        Err(PlanError::TooLarge)
+        Err(PlanError::TooLarge),
     );
     Ok(())
 }
@@ -65,15 +70,19 @@ fn a_transcript_of_16777215_bytes_is_written(rt: HostRuntime) -> Result<(), Fail
     let Ok(mut text) = large_transcript(rt.alloc(), "1000000000000")? else {
         return Err(Fail::from("refused"));
     };
-    assert_eq!(rt; text.len(), 16_777_215);
+    is(&rt, text.len(), 16_777_215);
     text.push(b'\n')?;
-    assert_eq!(rt; outcome(rt.alloc(), text.as_slice()), Ok(Outcome::Accepted));
+    is(
+        &rt,
+        outcome(rt.alloc(), text.as_slice()),
+        Ok(Outcome::Accepted),
+    );
     Ok(())
 }
 
 #[test]
 fn a_longer_transcript_is_too_large(rt: HostRuntime) -> Result<(), Fail> {
     let refusal = large_transcript(rt.alloc(), "10000000000000")?.err();
-    assert_eq!(rt; refusal, Some(PlanError::TooLarge));
+    is(&rt, refusal, Some(PlanError::TooLarge));
     Ok(())
 }

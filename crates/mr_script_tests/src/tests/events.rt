@@ -57,7 +57,7 @@ const BAD_PARTS: [(usize, &str, &str); 47] = [
 fn a_faulty_event_is_refused(rt: HostRuntime) -> Result<(), Fail> {
     for (index, part, new) in BAD_PARTS {
         let found = refusal_with(&rt, rt.alloc(), part, new)?;
-        assert_eq!(rt; found, Some(PlanError::BadEvent(index)), "with {new}");
+        is_for(&rt, found, Some(PlanError::BadEvent(index)), new);
     }
     Ok(())
 }
@@ -98,7 +98,7 @@ const BAD_GETS: [&str; 20] = [
 fn a_faulty_get_is_refused(rt: HostRuntime) -> Result<(), Fail> {
     for new in BAD_GETS {
         let found = refusal_with(&rt, rt.alloc(), GET, new)?;
-        assert_eq!(rt; found, Some(PlanError::BadEvent(1)), "with {new}");
+        is_for(&rt, found, Some(PlanError::BadEvent(1)), new);
     }
     Ok(())
 }
@@ -136,7 +136,7 @@ fn a_faulty_set_is_refused(rt: HostRuntime) -> Result<(), Fail> {
     for (part, new) in BAD_SETS {
         let set = changed(&rt, rt.alloc(), SET, part, new)?;
         let found = refusal_with(&rt, rt.alloc(), SET, set.as_str())?;
-        assert_eq!(rt; found, Some(PlanError::BadEvent(2)), "with {new}");
+        is_for(&rt, found, Some(PlanError::BadEvent(2)), new);
     }
     Ok(())
 }
@@ -156,7 +156,7 @@ const BAD_DELETES: [&str; 7] = [
 fn a_faulty_delete_is_refused(rt: HostRuntime) -> Result<(), Fail> {
     for new in BAD_DELETES {
         let found = refusal_with(&rt, rt.alloc(), DELETE, new)?;
-        assert_eq!(rt; found, Some(PlanError::BadEvent(3)), "with {new}");
+        is_for(&rt, found, Some(PlanError::BadEvent(3)), new);
     }
     Ok(())
 }
@@ -169,7 +169,7 @@ fn an_event_is_an_object(rt: HostRuntime) -> Result<(), Fail> {
     for new in BAD_EVENTS {
         let part = r#"{"do": "clock", "proxy": 1, "reading": 10}"#;
         let found = refusal_with(&rt, rt.alloc(), part, new)?;
-        assert_eq!(rt; found, Some(PlanError::BadEvent(0)), "with {new}");
+        is_for(&rt, found, Some(PlanError::BadEvent(0)), new);
     }
     Ok(())
 }

@@ -49,7 +49,7 @@ const WHOLES: [(&str, PlanError); 12] = [
 #[test]
 fn keys_are_looked_for_before_values(rt: HostRuntime) {
     for (text, wanted) in WHOLES {
-        assert_eq!(rt; refusal(rt.alloc(), text), Some(wanted), "of {text}");
+        is_for(&rt, refusal(rt.alloc(), text), Some(wanted), text);
     }
 }
 
@@ -153,7 +153,7 @@ fn the_first_of_two_faults_is_told(rt: HostRuntime) -> Result<(), Fail> {
         let once = changed(&rt, rt.alloc(), SCRIPT, part, new)?;
         let twice = changed(&rt, rt.alloc(), once.as_str(), other, newer)?;
         let found = refusal(rt.alloc(), twice.as_str());
-        assert_eq!(rt; found, Some(wanted), "with {new} and {newer}");
+        is(&rt, found, Some(wanted));
     }
     Ok(())
 }
@@ -186,7 +186,7 @@ const LISTS: [(&str, &str, PlanError); 4] = [
 fn the_first_faulty_member_is_told(rt: HostRuntime) -> Result<(), Fail> {
     for (part, new, wanted) in LISTS {
         let found = refusal_with(&rt, rt.alloc(), part, new)?;
-        assert_eq!(rt; found, Some(wanted), "with {new}");
+        is_for(&rt, found, Some(wanted), new);
     }
     Ok(())
 }

@@ -27,7 +27,7 @@ const WHOLES: [(&str, PlanError); 12] = [
 #[test]
 fn a_script_has_three_keys(rt: HostRuntime) {
     for (text, wanted) in WHOLES {
-        assert_eq!(rt; refusal(rt.alloc(), text), Some(wanted), "of {text}");
+        is_for(&rt, refusal(rt.alloc(), text), Some(wanted), text);
     }
 }
 
@@ -144,7 +144,7 @@ const FAULTS: [(&str, &str, PlanError); 29] = [
 fn a_faulty_setup_is_refused(rt: HostRuntime) -> Result<(), Fail> {
     for (part, new, wanted) in FAULTS {
         let found = refusal_with(&rt, rt.alloc(), part, new)?;
-        assert_eq!(rt; found, Some(wanted), "with {new}");
+        is_for(&rt, found, Some(wanted), new);
     }
     Ok(())
 }
@@ -259,7 +259,7 @@ const BAD_HELD: [(&str, PlanError); 27] = [
 fn a_faulty_item_is_refused(rt: HostRuntime) -> Result<(), Fail> {
     for (new, wanted) in BAD_HELD {
         let found = refusal_with(&rt, rt.alloc(), HELD, new)?;
-        assert_eq!(rt; found, Some(wanted), "with {new}");
+        is_for(&rt, found, Some(wanted), new);
     }
     Ok(())
 }
@@ -304,7 +304,7 @@ const BAD_PROXIES: [(&str, PlanError); 14] = [
 fn a_faulty_proxy_is_refused(rt: HostRuntime) -> Result<(), Fail> {
     for (new, wanted) in BAD_PROXIES {
         let found = refusal_with(&rt, rt.alloc(), PROXIES, new)?;
-        assert_eq!(rt; found, Some(wanted), "with {new}");
+        is_for(&rt, found, Some(wanted), new);
     }
     Ok(())
 }

@@ -112,7 +112,7 @@ fn keys_blocks_and_names_have_limits(rt: HostRuntime) -> Result<(), Fail> {
             after,
         };
         let found = refusal_of_many(&rt, rt.alloc(), part, many)?;
-        assert_eq!(rt; found, wanted, "for {count} at {part}");
+        is(&rt, found, wanted);
     }
     Ok(())
 }
@@ -128,7 +128,7 @@ fn a_character_is_one_byte(rt: HostRuntime) -> Result<(), Fail> {
             after: "\"",
         };
         let found = refusal_of_many(&rt, rt.alloc(), r#""key": "b""#, many)?;
-        assert_eq!(rt; found, wanted, "for {count}");
+        is(&rt, found, wanted);
     }
     for (count, wanted) in [(8192, None), (8193, Some(PlanError::WrongKind))] {
         let many = Many {
@@ -138,7 +138,7 @@ fn a_character_is_one_byte(rt: HostRuntime) -> Result<(), Fail> {
             after: "\"",
         };
         let found = refusal_of_many(&rt, rt.alloc(), r#""data": "d""#, many)?;
-        assert_eq!(rt; found, wanted, "for {count}");
+        is(&rt, found, wanted);
     }
     Ok(())
 }
@@ -162,7 +162,7 @@ fn the_keys_of_a_get_fit_a_line(rt: HostRuntime) -> Result<(), Fail> {
             after: "",
         };
         let found = refusal_of_many(&rt, rt.alloc(), r#""a", "k""#, many)?;
-        assert_eq!(rt; found, wanted, "for {first} and {count}");
+        is(&rt, found, wanted);
     }
     Ok(())
 }
@@ -182,7 +182,7 @@ fn a_script_has_up_to_64_proxies(rt: HostRuntime) -> Result<(), Fail> {
             after: "",
         };
         let found = refusal_of_many(&rt, rt.alloc(), PROXY, many)?;
-        assert_eq!(rt; found, wanted, "for {count} more");
+        is(&rt, found, wanted);
     }
     Ok(())
 }
@@ -202,7 +202,7 @@ fn a_script_has_up_to_65536_items(rt: HostRuntime) -> Result<(), Fail> {
             after: "",
         };
         let found = refusal_of_many(&rt, rt.alloc(), ITEM, many)?;
-        assert_eq!(rt; found, wanted, "for {count} more");
+        is(&rt, found, wanted);
     }
     Ok(())
 }
@@ -223,7 +223,7 @@ fn a_script_has_up_to_65536_events(rt: HostRuntime) -> Result<(), Fail> {
             after: "",
         };
         let found = refusal_of_many(&rt, rt.alloc(), EVENT, many)?;
-        assert_eq!(rt; found, wanted, "for {count} more");
+        is(&rt, found, wanted);
     }
     Ok(())
 }
@@ -267,7 +267,7 @@ const BESIDE_PROXIES: [(&str, &str, PlanError); 5] = [
 fn lists_are_counted_behind_the_setup(rt: HostRuntime) -> Result<(), Fail> {
     for (part, new, wanted) in BESIDE_PROXIES {
         let found = refusal_beside_proxies(&rt, rt.alloc(), part, new)?;
-        assert_eq!(rt; found, Some(wanted), "with {new}");
+        is_for(&rt, found, Some(wanted), new);
     }
     Ok(())
 }

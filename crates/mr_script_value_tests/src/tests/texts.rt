@@ -55,7 +55,7 @@ const NO_JSON: [&[u8]; 34] = [
 fn what_is_no_json_is_refused(rt: HostRuntime) {
     let wanted = [Some(PlanError::NotJson); 3];
     for bytes in NO_JSON {
-        assert_eq!(rt; refusals(rt.alloc(), bytes), wanted, "of {bytes:?}");
+        is(&rt, refusals(rt.alloc(), bytes), wanted);
     }
 }
 
@@ -79,7 +79,7 @@ const NO_OBJECT: [&[u8]; 12] = [
 fn what_is_no_object_is_of_the_wrong_kind(rt: HostRuntime) {
     let wanted = [Some(PlanError::WrongKind); 3];
     for bytes in NO_OBJECT {
-        assert_eq!(rt; refusals(rt.alloc(), bytes), wanted, "of {bytes:?}");
+        is(&rt, refusals(rt.alloc(), bytes), wanted);
     }
 }
 
@@ -104,7 +104,7 @@ fn json_nests_up_to_127(rt: HostRuntime) -> Result<(), Fail> {
     for (open, depth, close, wanted) in NESTED {
         let text = nested(rt.alloc(), open, depth, close)?;
         let found = refusals(rt.alloc(), text.as_bytes());
-        assert_eq!(rt; found, [Some(wanted); 3], "at {open} {depth}");
+        is(&rt, found, [Some(wanted); 3]);
     }
     Ok(())
 }
@@ -121,7 +121,7 @@ fn a_script_nests_as_a_whole(rt: HostRuntime) -> Result<(), Fail> {
         let mut new = String::from_str(rt.alloc(), "\"capacity\": ")?;
         new.push_str(nested(rt.alloc(), "[", depth, "]")?.as_str())?;
         let found = refusal_with(&rt, rt.alloc(), r#""capacity": 4"#, new.as_str())?;
-        assert_eq!(rt; found, Some(wanted), "at {depth}");
+        is(&rt, found, Some(wanted));
     }
     Ok(())
 }
@@ -178,7 +178,7 @@ const REPEATED: [(&str, &str, Option<PlanError>); 12] = [
 fn the_last_value_of_a_key_counts(rt: HostRuntime) -> Result<(), Fail> {
     for (part, new, wanted) in REPEATED {
         let found = refusal_with(&rt, rt.alloc(), part, new)?;
-        assert_eq!(rt; found, wanted, "with {new}");
+        is_for(&rt, found, wanted, new);
     }
     Ok(())
 }
@@ -195,18 +195,19 @@ fn padded(alloc: Global, length: usize) -> Result<String, AllocError> {
 #[test]
 fn a_script_of_16777216_bytes_is_read(rt: HostRuntime) -> Result<(), Fail> {
     let text = padded(rt.alloc(), 16_777_216)?;
-    assert_eq!(rt; text.len(), 16_777_216);
-    assert_eq!(rt; refusal(rt.alloc(), text.as_str()), None);
+    is(&rt, text.len(), 16_777_216);
+    is(&rt, refusal(rt.alloc(), text.as_str()), None);
     Ok(())
 }
 
 #[test]
 fn a_script_of_16777217_bytes_is_too_large(rt: HostRuntime) -> Result<(), Fail> {
     let text = padded(rt.alloc(), 16_777_217)?;
-    assert_eq!(rt; text.len(), 16_777_217);
-    assert_eq!(rt;
+    is(&rt, text.len(), 16_777_217);
+    is(
+        &rt,
         refusal(rt.alloc(), text.as_str()),
-        Some(PlanError::TooLarge)
+        Some(PlanError::TooLarge),
     );
     Ok(())
 }
@@ -215,15 +216,16 @@ fn a_script_of_16777217_bytes_is_too_large(rt: HostRuntime) -> Result<(), Fail> 
 fn the_size_is_looked_at_before_the_text(rt: HostRuntime) -> Result<(), Fail> {
     let most = "{".repeat(rt.alloc(), 16_777_216)?;
     let wanted = [Some(PlanError::NotJson); 3];
-    assert_eq!(rt; refusals(rt.alloc(), most.as_bytes()), wanted);
+    is(&rt, refusals(rt.alloc(), most.as_bytes()), wanted);
     let more = "{".repeat(rt.alloc(), 16_777_217)?;
-    assert_eq!(rt;
+    is(
+        &rt,
         refusals(rt.alloc(), more.as_bytes()),
         [
             Some(PlanError::NotJson),
             Some(PlanError::TooLarge),
             Some(PlanError::TooLarge),
-        ]
+        ],
     );
     Ok(())
 }

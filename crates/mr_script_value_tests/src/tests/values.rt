@@ -13,7 +13,7 @@ fn read_with(rt: &impl Abort, alloc: Global, part: &str, new: &str) -> Result<Sc
     match read_events(alloc, text.as_bytes()) {
         Ok(script) => Ok(script),
         Err(refusal) => {
-            assert_eq!(rt; Some(refusal), None, "with {new}");
+            is_for(rt, Some(refusal), None, new);
             Err(Fail::from("refused"))
         }
     }
@@ -67,17 +67,25 @@ fn is_common(proxy: &ProxySetup) -> bool {
 fn a_setup_is_read(rt: HostRuntime) -> Result<(), Fail> {
     let script = read_whole(rt.alloc())?;
     let setup = script.setup();
-    assert_eq!(rt; setup.capacity(), 4);
+    is(&rt, setup.capacity(), 4);
     let [item] = setup.held() else {
         return Err(Fail::from("no item"));
     };
-    assert!(rt; is_held(item));
+    is(&rt, is_held(item), true);
     let [proxy] = setup.proxies() else {
         return Err(Fail::from("no proxy"));
     };
-    assert_eq!(rt; (proxy.reading, proxy.room), (999, 3));
-    assert!(rt; is_common(proxy));
+    is(&rt, (proxy.reading, proxy.room) == (999, 3), true);
+    is(&rt, is_common(proxy), true);
     Ok(())
+}
+
+/// Whether a proxy has the configuration of its own that the script below gives it.
+fn is_own(proxy: &ProxySetup) -> bool {
+    is_schedule(proxy.schedule, 7, 3600)
+        && proxy.routing.hash() == NamedHash::Fnv
+        && are_names(proxy.routing.old_pool().names(), &["x"])
+        && are_names(proxy.routing.new_pool().names(), &["7101"])
 }
 
 /// Two proxies, of which the second has a configuration of its own.
@@ -90,13 +98,10 @@ fn a_proxy_may_have_its_own_configuration(rt: HostRuntime) -> Result<(), Fail> {
     let [first, second] = script.setup().proxies() else {
         return Err(Fail::from("no two proxies"));
     };
-    assert_eq!(rt; (first.reading, first.room), (1, 2));
-    assert!(rt; is_common(first));
-    assert_eq!(rt; (second.reading, second.room), (3, 4));
-    assert!(rt; is_schedule(second.schedule, 7, 3600));
-    assert_eq!(rt; second.routing.hash(), NamedHash::Fnv);
-    assert!(rt; are_names(second.routing.old_pool().names(), &["x"]));
-    assert!(rt; are_names(second.routing.new_pool().names(), &["7101"]));
+    is(&rt, (first.reading, first.room) == (1, 2), true);
+    is(&rt, is_common(first), true);
+    is(&rt, (second.reading, second.room) == (3, 4), true);
+    is(&rt, is_own(second), true);
     Ok(())
 }
 
@@ -148,9 +153,9 @@ fn is_client(proxy: u32, request: &Request, index: usize) -> bool {
 #[test]
 fn events_are_read_in_order(rt: HostRuntime) -> Result<(), Fail> {
     let script = read_whole(rt.alloc())?;
-    assert_eq!(rt; script.events().len(), 9);
+    is(&rt, script.events().len(), 9);
     for (index, event) in script.events().iter().enumerate() {
-        assert!(rt; is_simple(event, index), "at {index}");
+        is(&rt, is_simple(event, index), true);
     }
     Ok(())
 }
@@ -185,7 +190,8 @@ const SET_NUMBERS: [(&str, &str, (u32, i64)); 6] = [
 fn a_set_has_numbers_in_their_range(rt: HostRuntime) -> Result<(), Fail> {
     for (part, new, wanted) in SET_NUMBERS {
         let script = read_with(&rt, rt.alloc(), part, new)?;
-        assert_eq!(rt; numbers_of_set(&script), Some(wanted), "with {new}");
+        let are_so = numbers_of_set(&script) == Some(wanted);
+        is_for(&rt, are_so, true, new);
     }
     Ok(())
 }
@@ -230,9 +236,9 @@ fn noreply_at(script: &Script, index: usize) -> Option<bool> {
 #[test]
 fn noreply_is_false_where_it_is_absent(rt: HostRuntime) -> Result<(), Fail> {
     let script = read_with(&rt, rt.alloc(), r#", "noreply": true"#, "")?;
-    assert_eq!(rt; noreply_at(&script, 2), Some(false));
+    is(&rt, noreply_at(&script, 2), Some(false));
     let script = read_with(&rt, rt.alloc(), r#", "noreply": false"#, "")?;
-    assert_eq!(rt; noreply_at(&script, 3), Some(false));
+    is(&rt, noreply_at(&script, 3), Some(false));
     Ok(())
 }
 
@@ -282,6 +288,28 @@ fn is_of_one(request: &Request, byte: u8) -> bool {
     }
 }
 
+/// Whether an item's key and its block are this one byte.
+fn is_item_of_one(item: &HeldItem, byte: u8) -> bool {
+    let bytes = [byte];
+    item.key.as_bytes() == bytes.as_slice() && item.block.as_bytes() == bytes.as_slice()
+}
+
+/// Whether the event at this index is a request of this one byte.
+fn is_request_of_one(script: &Script, index: usize, byte: u8) -> bool {
+    request_at(script, index).is_some_and(|request| is_of_one(request, byte))
+}
+
+/// Whether each request of the script that has a key, and the item that is held, are of this one byte.
+fn is_script_of_one(script: &Script, byte: u8) -> bool {
+    let [item] = script.setup().held() else {
+        return false;
+    };
+    is_item_of_one(item, byte)
+        && is_request_of_one(script, 1, byte)
+        && is_request_of_one(script, 2, byte)
+        && is_request_of_one(script, 3, byte)
+}
+
 #[test]
 fn a_character_is_the_byte_of_its_code_point(rt: HostRuntime) -> Result<(), Fail> {
     for (character, byte) in CHARACTERS {
@@ -289,18 +317,7 @@ fn a_character_is_the_byte_of_its_code_point(rt: HostRuntime) -> Result<(), Fail
         let Ok(script) = read_events(rt.alloc(), text.as_bytes()) else {
             return Err(Fail::from("refused"));
         };
-        for index in 1..4 {
-            let request = request_at(&script, index);
-            assert!(rt;
-                request.is_some_and(|request| is_of_one(request, byte)),
-                "{byte} at {index}"
-            );
-        }
-        let [item] = script.setup().held() else {
-            return Err(Fail::from("no item"));
-        };
-        assert_eq!(rt; item.key.as_bytes(), [byte].as_slice());
-        assert_eq!(rt; item.block.as_bytes(), [byte].as_slice());
+        is_for(&rt, is_script_of_one(&script, byte), true, character);
     }
     Ok(())
 }
@@ -311,5 +328,5 @@ const NO_FLEET: &str =
 
 #[test]
 fn a_script_may_be_empty(rt: HostRuntime) {
-    assert_eq!(rt; refusal(rt.alloc(), NO_FLEET), None);
+    is(&rt, refusal(rt.alloc(), NO_FLEET), None);
 }

@@ -1,5 +1,5 @@
 //! Services that can't begin, and those that serve no one.
-use super::{expect_run, run, word_of};
+use super::{expect_run, is, run, word_of};
 use mr_command_test_parts::Place;
 use std::net::TcpListener;
 use std::test::Fail;
@@ -154,9 +154,9 @@ fn services_want_their_words(rt: HostRuntime) {
     ];
     for words in cases {
         let ran = run(&rt, rt.alloc(), PLACES.as_slice(), words);
-        assert_eq!(rt; ran.status, 2);
-        assert!(rt; ran.output.is_empty());
-        assert!(rt; !ran.faults.is_empty());
+        is(&rt, ran.status, 2);
+        is(&rt, ran.output.is_empty(), true);
+        is(&rt, ran.faults.is_empty(), false);
     }
 }
 

@@ -1,5 +1,5 @@
 //! Nodes as commands.
-use super::{Ran, answers, expect_run, free_address, run, word_of};
+use super::{Ran, answers, expect_run, free_address, is, run, word_of};
 use std::alloc::Global;
 use std::net::{Net, SocketAddr, TcpListener, TcpStream};
 use std::process::Abort;
@@ -68,9 +68,9 @@ fn expect_node(
     let (ran, got) = play(rt, alloc, &words, address, clients);
     expect_run(rt, &ran, status, output, b"");
     let got = got?;
-    assert_eq!(rt; got.len(), wanted.len());
+    is(rt, got.len(), wanted.len());
     for (got, wanted) in got.iter().zip(wanted) {
-        assert_eq!(rt; got.as_slice(), *wanted);
+        is(rt, got.as_slice(), *wanted);
     }
     Ok(())
 }

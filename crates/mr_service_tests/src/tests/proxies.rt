@@ -1,5 +1,5 @@
 //! Proxies as commands, each with the nodes of its configuration.
-use super::{Ran, answers, expect_run, free_address, run, word_of};
+use super::{Ran, answers, expect_run, free_address, is, run, word_of};
 use mr_command_test_parts::Place;
 use std::alloc::{AllocError, Global};
 use std::net::{Net, SocketAddr, TcpListener, TcpStream};
@@ -87,7 +87,7 @@ fn expect_proxy(
     );
     expect_run(rt, &by_proxy, 0, b"served 1\n", b"");
     expect_run(rt, &by_node, 0, b"served 1\n", b"");
-    assert_eq!(rt; got?.as_slice(), ANSWERS);
+    is(rt, got?.as_slice(), ANSWERS);
     Ok(())
 }
 
@@ -150,7 +150,7 @@ fn expect_alone(
     ];
     let (ran, got) = play_alone(rt, alloc, places.as_slice(), &words, address, bytes);
     expect_run(rt, &ran, status, output, b"");
-    assert_eq!(rt; got?.as_slice(), wanted);
+    is(rt, got?.as_slice(), wanted);
     Ok(())
 }
 

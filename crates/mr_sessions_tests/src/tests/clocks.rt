@@ -1,6 +1,6 @@
 //! What a session does with the readings of its clock.
-use super::devices::{serve, whole};
-use super::{Nodes, carriers, holds, recorded, went_so};
+use super::devices::{serve_recorded, whole};
+use super::{holds, went_so};
 use mr_clock::{FixedClock, ListClock};
 use mr_node::Ended;
 use std::test::Fail;
@@ -8,12 +8,9 @@ use std::test::Fail;
 #[test]
 fn a_clock_fault_is_answered_and_the_session_goes_on(rt: HostRuntime) -> Result<(), Fail> {
     let alloc = rt.alloc();
-    let nodes = Nodes::new(alloc)?;
-    let mut carriers = carriers(&rt, alloc, &nodes)?;
-    let desk = recorded(alloc, 20)?;
     let mut clock = ListClock::new(Vec::from_array(alloc, [None, Some(999)])?);
     let input = b"get k\r\nget k\r\n";
-    let left = serve(&rt, alloc, &desk, &mut clock, &mut carriers, whole(input))?;
+    let left = serve_recorded(&rt, alloc, 20, &mut clock, whole(input))?;
     let told = b"SERVER_ERROR clock fault\r\nEND\r\n";
     went_so(&rt, &left, Ok(Ended::Ended), told, 1);
     Ok(())
@@ -23,35 +20,21 @@ fn a_clock_fault_is_answered_and_the_session_goes_on(rt: HostRuntime) -> Result<
 #[test]
 fn each_request_takes_one_reading(rt: HostRuntime) -> Result<(), Fail> {
     let alloc = rt.alloc();
-    let nodes = Nodes::new(alloc)?;
-    let mut carriers = carriers(&rt, alloc, &nodes)?;
-    let desk = recorded(alloc, 20)?;
     let mut clock = ListClock::new(Vec::from_array(alloc, [Some(999), Some(1000)])?);
     let input = b"delete k\r\ndelete k\r\n";
-    let left = serve(&rt, alloc, &desk, &mut clock, &mut carriers, whole(input))?;
+    let left = serve_recorded(&rt, alloc, 20, &mut clock, whole(input))?;
     let told = b"NOT_FOUND\r\nNOT_FOUND\r\n";
     went_so(&rt, &left, Ok(Ended::Ended), told, 2);
-    for (answer, (reading, legs)) in left.served.answers.iter().zip([(999, 1), (1000, 2)]) {
-        holds(&rt, answer.reading() == reading);
-        holds(&rt, answer.slots().len() == legs);
+    for (answer, wanted) in left.served.answers.iter().zip([(999, 1), (1000, 2)]) {
+        holds(&rt, (answer.reading(), answer.slots().len()) == wanted);
     }
     Ok(())
 }
 
 #[test]
 fn a_full_book_is_answered(rt: HostRuntime) -> Result<(), Fail> {
-    let alloc = rt.alloc();
-    let nodes = Nodes::new(alloc)?;
-    let mut carriers = carriers(&rt, alloc, &nodes)?;
-    let desk = recorded(alloc, 2)?;
-    let left = serve(
-        &rt,
-        alloc,
-        &desk,
-        &mut FixedClock(999),
-        &mut carriers,
-        whole(b"get k\r\nget k\r\nquit\r\n"),
-    )?;
+    let given = whole(b"get k\r\nget k\r\nquit\r\n");
+    let left = serve_recorded(&rt, rt.alloc(), 2, &mut FixedClock(999), given)?;
     let told = b"END\r\nSERVER_ERROR book full\r\n";
     went_so(&rt, &left, Ok(Ended::Quit), told, 1);
     Ok(())

@@ -1,5 +1,5 @@
 //! What a session reads from and writes to.
-use super::Left;
+use super::{Left, Nodes, carriers, recorded};
 use mr_clock::Clock;
 use mr_sessions::serve_client;
 use mr_test_parts::TakesHalf;
@@ -91,4 +91,24 @@ pub(super) fn serve<C: Carrier, D: Desk<C>, K: Clock, L: Carriers<C>, R: Wait>(
         written: writer.into_inner().into_inner().kept,
         reads: calls.get(),
     })
+}
+
+/// Serves a client at a fresh proxy, whose book keeps at most so many steps, over fresh caches.
+pub(super) fn serve_recorded<K: Clock, R: Wait>(
+    rt: &R,
+    alloc: Global,
+    limit: u64,
+    clock: &mut K,
+    given: Given,
+) -> Result<Left, AllocError> {
+    let nodes = Nodes::new(alloc)?;
+    let mut carriers = carriers(rt, alloc, &nodes)?;
+    serve(
+        rt,
+        alloc,
+        &recorded(alloc, limit)?,
+        clock,
+        &mut carriers,
+        given,
+    )
 }

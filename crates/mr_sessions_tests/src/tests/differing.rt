@@ -86,35 +86,42 @@ fn issue<C: Carrier, D: Desk<C>, R: Wait>(
 /// Asserts that a session ended since a request that was issued has no answer of its own. The answers of
 /// those before it are kept.
 fn differs(rt: &impl Abort, left: &Left, written: &[u8], answered: usize) {
-    assert_eq!(rt;
-        (left.served.ended, left.written.as_slice()),
-        (Err(WorkerError::BookDiffers), written)
+    holds(rt, left.served.ended == Err(WorkerError::BookDiffers));
+    holds(rt, left.written.as_slice() == written);
+    holds(rt, left.served.answers.len() == answered);
+    holds(
+        rt,
+        left.served.share.count() == (answered as u64).saturating_add(1),
     );
-    assert_eq!(rt; left.served.answers.len(), answered);
-    assert_eq!(rt;
-        left.served.share.count(),
-        (answered as u64).saturating_add(1)
-    );
+}
+
+/// A desk over two fresh proxies.
+fn two_proxies<C: Carrier>(alloc: Global) -> Result<Torn<C>, AllocError> {
+    let issues = recorded(alloc, 20)?;
+    let takes = recorded(alloc, 20)?;
+    Ok(Torn { issues, takes })
+}
+
+/// Serves a client at two proxies at 999, where the one that takes legs has issued the gets of these keys before.
+fn serve_torn<R: Wait>(
+    rt: &R,
+    alloc: Global,
+    before: &[&[&[u8]]],
+    input: &[u8],
+) -> Result<Left, Fail> {
+    let nodes = Nodes::new(alloc)?;
+    let mut carriers = carriers(rt, alloc, &nodes)?;
+    let desk = two_proxies(alloc)?;
+    for names in before {
+        issue(rt, alloc, &desk.takes, names)?;
+    }
+    let clock = &mut FixedClock(999);
+    Ok(serve(rt, alloc, &desk, clock, &mut carriers, whole(input))?)
 }
 
 #[test]
 fn a_request_that_is_not_under_way_differs(rt: HostRuntime) -> Result<(), Fail> {
-    let alloc = rt.alloc();
-    let nodes = Nodes::new(alloc)?;
-    let mut carriers = carriers(&rt, alloc, &nodes)?;
-    let desk = Torn {
-        issues: recorded(alloc, 20)?,
-        takes: recorded(alloc, 20)?,
-    };
-    let input = whole(b"get k\r\nget k\r\n");
-    let left = serve(
-        &rt,
-        alloc,
-        &desk,
-        &mut FixedClock(999),
-        &mut carriers,
-        input,
-    )?;
+    let left = serve_torn(&rt, rt.alloc(), &[], b"get k\r\nget k\r\n")?;
     differs(&rt, &left, b"", 0);
     Ok(())
 }
@@ -122,24 +129,27 @@ fn a_request_that_is_not_under_way_differs(rt: HostRuntime) -> Result<(), Fail> 
 /// At the other proxy a get of another key has the request's name.
 #[test]
 fn the_answer_of_another_request_that_is_given_up_differs(rt: HostRuntime) -> Result<(), Fail> {
-    let alloc = rt.alloc();
-    let nodes = Nodes::new(alloc)?;
-    let mut carriers = carriers(&rt, alloc, &nodes)?;
-    let desk = Torn {
-        issues: recorded(alloc, 20)?,
-        takes: recorded(alloc, 20)?,
-    };
-    issue(&rt, alloc, &desk.takes, &[b"b"])?;
-    let input = whole(b"get k\r\nget k\r\n");
-    let left = serve(
-        &rt,
-        alloc,
-        &desk,
-        &mut FixedClock(999),
-        &mut carriers,
-        input,
-    )?;
+    let left = serve_torn(&rt, rt.alloc(), &[&[b"b"]], b"get k\r\nget k\r\n")?;
     differs(&rt, &left, b"", 0);
+    Ok(())
+}
+
+/// Carries the last leg of what was issued, and hands what came back to the proxy, which awaits another leg.
+fn take_last<C: Carrier, L: Carriers<C>, R: Wait + Abort>(
+    rt: &R,
+    proxy: &RecordedProxy<C>,
+    carriers: &mut L,
+    mut issued: Issued,
+) -> Result<(), Fail> {
+    let Some(leg) = issued.legs.pop() else {
+        return Err(Fail::from("no leg"));
+    };
+    holds(rt, carriers.send(leg).is_none());
+    let Some(mut carried) = carriers.receive() else {
+        return Err(Fail::from("no leg came back"));
+    };
+    let taken = proxy.take(rt, &mut carried)?;
+    holds(rt, matches!(taken, Taken::Waiting));
     Ok(())
 }
 
@@ -149,22 +159,9 @@ fn the_answer_of_another_request_that_is_taken_differs(rt: HostRuntime) -> Resul
     let alloc = rt.alloc();
     let nodes = Nodes::new(alloc)?;
     let mut carriers = carriers(&rt, alloc, &nodes)?;
-    let desk = Torn {
-        issues: recorded(alloc, 20)?,
-        takes: recorded(alloc, 20)?,
-    };
-    let mut issued = issue(&rt, alloc, &desk.takes, &[b"k", b"b"])?;
-    let Some(leg) = issued.legs.pop() else {
-        return Err(Fail::from("no leg"));
-    };
-    holds(&rt, carriers.send(leg).is_none());
-    let Some(mut carried) = carriers.receive() else {
-        return Err(Fail::from("no leg came back"));
-    };
-    holds(
-        &rt,
-        matches!(desk.takes.take(&rt, &mut carried)?, Taken::Waiting),
-    );
+    let desk = two_proxies(alloc)?;
+    let issued = issue(&rt, alloc, &desk.takes, &[b"k", b"b"])?;
+    take_last(&rt, &desk.takes, &mut carriers, issued)?;
     let input = whole(b"get k\r\nget k\r\n");
     let left = serve(
         &rt,
@@ -204,23 +201,8 @@ fn the_answer_of_a_leg_that_the_session_did_not_send_differs(rt: HostRuntime) ->
 /// What was answered before stays told and kept.
 #[test]
 fn what_was_answered_before_is_kept(rt: HostRuntime) -> Result<(), Fail> {
-    let alloc = rt.alloc();
-    let nodes = Nodes::new(alloc)?;
-    let mut carriers = carriers(&rt, alloc, &nodes)?;
-    let desk = Torn {
-        issues: recorded(alloc, 20)?,
-        takes: recorded(alloc, 20)?,
-    };
-    issue(&rt, alloc, &desk.takes, &[b"k"])?;
-    let input = whole(b"get k\r\nset k 0 0 1 noreply\r\nv\r\nget k\r\n");
-    let left = serve(
-        &rt,
-        alloc,
-        &desk,
-        &mut FixedClock(999),
-        &mut carriers,
-        input,
-    )?;
+    let input = b"get k\r\nset k 0 0 1 noreply\r\nv\r\nget k\r\n";
+    let left = serve_torn(&rt, rt.alloc(), &[&[b"k"]], input)?;
     differs(&rt, &left, b"END\r\n", 1);
     holds(
         &rt,

@@ -1,6 +1,6 @@
 //! How a session ends.
-use super::devices::{Given, serve, whole};
-use super::{Nodes, carriers, recorded, went_so};
+use super::devices::{Given, serve_recorded, whole};
+use super::{holds, went_so};
 use mr_clock::FixedClock;
 use mr_node::Ended;
 use mr_workers::WorkerError;
@@ -16,12 +16,9 @@ type Row<'a> = (Given<'a>, Result<Ended, WorkerError>, &'a [u8], u64, u64);
 /// Asserts how the session of a client goes at 999.
 fn is_row(rt: &(impl Wait + Abort), alloc: Global, row: Row) -> Result<(), Fail> {
     let (given, ended, written, issued, reads) = row;
-    let nodes = Nodes::new(alloc)?;
-    let mut carriers = carriers(rt, alloc, &nodes)?;
-    let desk = recorded(alloc, 20)?;
-    let left = serve(rt, alloc, &desk, &mut FixedClock(999), &mut carriers, given)?;
+    let left = serve_recorded(rt, alloc, 20, &mut FixedClock(999), given)?;
     went_so(rt, &left, ended, written, issued);
-    assert_eq!(rt; left.reads, reads);
+    holds(rt, left.reads == reads);
     Ok(())
 }
 

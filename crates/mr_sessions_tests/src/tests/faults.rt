@@ -1,6 +1,6 @@
 //! Devices that fail.
-use super::devices::{Given, serve, whole};
-use super::{Nodes, carriers, recorded, went_so};
+use super::devices::{Given, serve_recorded, whole};
+use super::{holds, went_so};
 use mr_clock::FixedClock;
 use mr_workers::WorkerError;
 use std::alloc::Global;
@@ -23,12 +23,9 @@ fn fails_so(
     counts: (u64, u64),
 ) -> Result<(), Fail> {
     let (issued, reads) = counts;
-    let nodes = Nodes::new(alloc)?;
-    let mut carriers = carriers(rt, alloc, &nodes)?;
-    let desk = recorded(alloc, 20)?;
-    let left = serve(rt, alloc, &desk, &mut FixedClock(999), &mut carriers, given)?;
+    let left = serve_recorded(rt, alloc, 20, &mut FixedClock(999), given)?;
     went_so(rt, &left, Err(fault), written, issued);
-    assert_eq!(rt; left.reads, reads);
+    holds(rt, left.reads == reads);
     Ok(())
 }
 
@@ -115,22 +112,11 @@ fn a_beginning_of_an_answer_may_be_written(rt: HostRuntime) -> Result<(), Fail> 
 /// The client isn't told why its issue was refused either.
 #[test]
 fn the_answer_to_a_refused_issue_may_not_be_written(rt: HostRuntime) -> Result<(), Fail> {
-    let alloc = rt.alloc();
-    let nodes = Nodes::new(alloc)?;
-    let mut carriers = carriers(&rt, alloc, &nodes)?;
-    let desk = recorded(alloc, 0)?;
     let given = Given {
         write_fails: 1,
         ..whole(b"get k\r\nget k\r\n")
     };
-    let left = serve(
-        &rt,
-        alloc,
-        &desk,
-        &mut FixedClock(999),
-        &mut carriers,
-        given,
-    )?;
+    let left = serve_recorded(&rt, rt.alloc(), 0, &mut FixedClock(999), given)?;
     went_so(&rt, &left, Err(WorkerError::WriteFault), b"", 0);
     Ok(())
 }

@@ -1,6 +1,6 @@
 //! Refused memory. In the gate no allocation is refused; `refused-memory` refuses each in turn.
-use super::devices::{serve, whole};
-use super::{Nodes, carriers, recorded};
+use super::devices::{serve_recorded, whole};
+use super::holds;
 use mr_clock::FixedClock;
 use mr_node::Ended;
 use mr_workers::WorkerError;
@@ -36,18 +36,12 @@ const OUTCOMES: [(Result<Ended, WorkerError>, &[u8], u64); 8] = [
 
 /// Which of the outcomes a session comes to. Each request that it issued has its answer.
 fn outcome(rt: &(impl Wait + Abort), alloc: Global) -> Result<Option<usize>, AllocError> {
-    let nodes = Nodes::new(alloc)?;
-    let mut carriers = carriers(rt, alloc, &nodes)?;
-    let desk = recorded(alloc, 20)?;
-    let left = serve(
+    let given = whole(b"set k 5 0 1\r\nv\r\nget k\r\nquit\r\n");
+    let left = serve_recorded(rt, alloc, 20, &mut FixedClock(999), given)?;
+    holds(
         rt,
-        alloc,
-        &desk,
-        &mut FixedClock(999),
-        &mut carriers,
-        whole(b"set k 5 0 1\r\nv\r\nget k\r\nquit\r\n"),
-    )?;
-    assert_eq!(rt; left.served.answers.len() as u64, left.served.share.count());
+        left.served.answers.len() as u64 == left.served.share.count(),
+    );
     Ok(
         OUTCOMES.iter().position(|(ended, written, issued)| {
             left.served.ended == *ended

@@ -1,25 +1,14 @@
 //! Requests whose client wants no answer.
-use super::devices::{serve, whole};
-use super::{Nodes, carriers, recorded, went_so};
+use super::devices::{serve_recorded, whole};
+use super::went_so;
 use mr_clock::{FixedClock, ListClock};
 use mr_node::Ended;
 use std::test::Fail;
 
 #[test]
 fn what_gets_no_answer_is_done_and_kept(rt: HostRuntime) -> Result<(), Fail> {
-    let alloc = rt.alloc();
-    let nodes = Nodes::new(alloc)?;
-    let mut carriers = carriers(&rt, alloc, &nodes)?;
-    let desk = recorded(alloc, 20)?;
     let input = b"set k 4 0 1 noreply\r\nv\r\nget k\r\ndelete k noreply\r\nget k\r\n";
-    let left = serve(
-        &rt,
-        alloc,
-        &desk,
-        &mut FixedClock(999),
-        &mut carriers,
-        whole(input),
-    )?;
+    let left = serve_recorded(&rt, rt.alloc(), 20, &mut FixedClock(999), whole(input))?;
     let told = b"VALUE k 4 1\r\nv\r\nEND\r\nEND\r\n";
     went_so(&rt, &left, Ok(Ended::Ended), told, 4);
     Ok(())
@@ -28,12 +17,9 @@ fn what_gets_no_answer_is_done_and_kept(rt: HostRuntime) -> Result<(), Fail> {
 #[test]
 fn nothing_is_told_where_the_issue_is_refused(rt: HostRuntime) -> Result<(), Fail> {
     let alloc = rt.alloc();
-    let nodes = Nodes::new(alloc)?;
-    let mut carriers = carriers(&rt, alloc, &nodes)?;
-    let desk = recorded(alloc, 20)?;
     let mut clock = ListClock::new(Vec::from_array(alloc, [None, None, None, Some(999)])?);
     let input = b"set k 0 0 1 noreply\r\nv\r\ndelete k noreply\r\ndelete k\r\nget k\r\n";
-    let left = serve(&rt, alloc, &desk, &mut clock, &mut carriers, whole(input))?;
+    let left = serve_recorded(&rt, alloc, 20, &mut clock, whole(input))?;
     let told = b"SERVER_ERROR clock fault\r\nEND\r\n";
     went_so(&rt, &left, Ok(Ended::Ended), told, 1);
     Ok(())

@@ -1,8 +1,10 @@
 //! Requests that are answered.
-use super::devices::{Given, serve, whole};
-use super::{Nodes, carriers, holds, recorded, unrecorded, went_so};
+use super::devices::{Given, serve, serve_recorded, whole};
+use super::{Left, Nodes, carriers, holds, unrecorded, went_so};
 use mr_clock::FixedClock;
 use mr_node::Ended;
+use std::alloc::{AllocError, Global};
+use std::sync::Wait;
 use std::test::Fail;
 
 /// A client that sets, gets and deletes, and then quits; nothing is served behind that.
@@ -12,18 +14,7 @@ const TOLD: &[u8] = b"STORED\r\nVALUE k 0 1\r\nv\r\nEND\r\nDELETED\r\nEND\r\n";
 
 #[test]
 fn each_request_of_a_session_has_its_answer(rt: HostRuntime) -> Result<(), Fail> {
-    let alloc = rt.alloc();
-    let nodes = Nodes::new(alloc)?;
-    let mut carriers = carriers(&rt, alloc, &nodes)?;
-    let desk = recorded(alloc, 20)?;
-    let left = serve(
-        &rt,
-        alloc,
-        &desk,
-        &mut FixedClock(999),
-        &mut carriers,
-        whole(CLIENT),
-    )?;
+    let left = serve_recorded(&rt, rt.alloc(), 20, &mut FixedClock(999), whole(CLIENT))?;
     went_so(&rt, &left, Ok(Ended::Quit), TOLD, 4);
     for (number, answer) in left.served.answers.iter().enumerate() {
         holds(&rt, answer.op().number == number as u64);
@@ -32,24 +23,26 @@ fn each_request_of_a_session_has_its_answer(rt: HostRuntime) -> Result<(), Fail>
     Ok(())
 }
 
-#[test]
-fn a_proxy_without_a_book_keeps_no_answers(rt: HostRuntime) -> Result<(), Fail> {
-    let alloc = rt.alloc();
+/// Serves that client at a proxy without a book.
+fn serve_unrecorded<R: Wait>(rt: &R, alloc: Global) -> Result<Left, AllocError> {
     let nodes = Nodes::new(alloc)?;
-    let mut carriers = carriers(&rt, alloc, &nodes)?;
-    let desk = unrecorded(alloc)?;
-    let left = serve(
-        &rt,
+    let mut carriers = carriers(rt, alloc, &nodes)?;
+    let clock = &mut FixedClock(999);
+    serve(
+        rt,
         alloc,
-        &desk,
-        &mut FixedClock(999),
+        &unrecorded(alloc)?,
+        clock,
         &mut carriers,
         whole(CLIENT),
-    )?;
-    assert_eq!(&rt;
-        (left.served.ended, left.written.as_slice()),
-        (Ok(Ended::Quit), TOLD)
-    );
+    )
+}
+
+#[test]
+fn a_proxy_without_a_book_keeps_no_answers(rt: HostRuntime) -> Result<(), Fail> {
+    let left = serve_unrecorded(&rt, rt.alloc())?;
+    holds(&rt, left.served.ended == Ok(Ended::Quit));
+    holds(&rt, left.written.as_slice() == TOLD);
     holds(&rt, left.served.share.count() == 4);
     holds(&rt, left.served.answers.is_empty());
     Ok(())
@@ -58,29 +51,18 @@ fn a_proxy_without_a_book_keeps_no_answers(rt: HostRuntime) -> Result<(), Fail> 
 /// Keys of three caches, in one piece and in pieces that end in a line, in a block, and within an end of line.
 #[test]
 fn requests_are_answered_in_order_however_they_come(rt: HostRuntime) -> Result<(), Fail> {
-    let alloc = rt.alloc();
     let input =
         b"set k 1 0 5\r\nfirst\r\nset b 2 0 6\r\nsecond\r\nset a 3 0 0\r\n\r\nget b k a\r\nget k x k\r\n";
     let told =
         b"STORED\r\nSTORED\r\nSTORED\r\nVALUE b 2 6\r\nsecond\r\nVALUE k 1 5\r\nfirst\r\nVALUE a 3 0\r\n\r\nEND\r\n\
         VALUE k 1 5\r\nfirst\r\nVALUE k 1 5\r\nfirst\r\nEND\r\n";
     for length in [4096, 1, 7, 12, 15, 20] {
-        let nodes = Nodes::new(alloc)?;
-        let mut carriers = carriers(&rt, alloc, &nodes)?;
-        let desk = recorded(alloc, 40)?;
         let given = Given {
             length,
             turns: 200,
             ..whole(input)
         };
-        let left = serve(
-            &rt,
-            alloc,
-            &desk,
-            &mut FixedClock(999),
-            &mut carriers,
-            given,
-        )?;
+        let left = serve_recorded(&rt, rt.alloc(), 40, &mut FixedClock(999), given)?;
         went_so(&rt, &left, Ok(Ended::Ended), told, 5);
     }
     Ok(())

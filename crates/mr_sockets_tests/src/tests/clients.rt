@@ -1,10 +1,9 @@
 //! Clients of a node that leave in the middle, send byte by byte, send garbage, or don't read.
-use super::{answers, asked_whole, half_asked, listener, node, node_serves};
+use super::{answers, asked_whole, half_asked, is, listener, node, node_serves};
 use mr_workers::SharedNode;
 use std::alloc::Global;
 use std::io::Write;
 use std::net::{Net, SocketAddr, TcpListener, TcpStream};
-use std::process::Abort;
 use std::sync::Wait;
 use std::test::Fail;
 use std::thread::Threads;
@@ -64,10 +63,10 @@ fn clients_that_misbehave(rt: HostRuntime) -> Result<(), Fail> {
     let node = node(alloc)?;
     let (served, all) = play(&rt, alloc, listener, &node, address);
     let all = all?;
-    assert_eq!(rt; served, ROWS.len() as u64);
-    assert_eq!(rt; all.len(), ROWS.len());
+    is(&rt, served, ROWS.len() as u64);
+    is(&rt, all.len(), ROWS.len());
     for ((_, wanted), got) in ROWS.iter().zip(&all) {
-        assert_eq!(rt; got.as_slice(), *wanted);
+        is(&rt, got.as_slice(), *wanted);
     }
     Ok(())
 }
@@ -111,8 +110,8 @@ fn a_client_that_does_not_read(rt: HostRuntime) -> Result<(), Fail> {
     let address = listener.local_addr()?;
     let node = node(alloc)?;
     let (served, got) = play_unread(&rt, alloc, listener, &node, address);
-    assert_eq!(rt; served, 1);
-    assert_eq!(rt; got?.as_slice(), b"END\r\n".as_slice());
+    is(&rt, served, 1);
+    is(&rt, got?.as_slice(), b"END\r\n".as_slice());
     Ok(())
 }
 
@@ -150,11 +149,12 @@ fn a_client_that_waits_holds_no_other(rt: HostRuntime) -> Result<(), Fail> {
     let node = node(alloc)?;
     let (served, got) = play_waiting(&rt, alloc, listener, &node, address);
     let (other, waited) = got?;
-    assert_eq!(rt; served, 2);
-    assert_eq!(rt; other.as_slice(), b"STORED\r\n".as_slice());
-    assert_eq!(rt;
+    is(&rt, served, 2);
+    is(&rt, other.as_slice(), b"STORED\r\n".as_slice());
+    is(
+        &rt,
         waited.as_slice(),
-        b"VALUE k 0 1\r\nv\r\nEND\r\n".as_slice()
+        b"VALUE k 0 1\r\nv\r\nEND\r\n".as_slice(),
     );
     Ok(())
 }

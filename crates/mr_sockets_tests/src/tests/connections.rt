@@ -2,7 +2,7 @@
 //! accepted.
 ghost use Rattle.std.specs.Prelude.{◌+◌};
 
-use super::{TURNS, answers, listener, name_of, node, node_serves};
+use super::{TURNS, answers, is, listener, name_of, node, node_serves};
 use mr_clock::FixedClock;
 use mr_history::OpId;
 use mr_join::LegReply;
@@ -15,7 +15,6 @@ use mr_text::{GhostCount, Key, TextError};
 use mr_workers::{Carrier, SharedNode};
 use std::alloc::Global;
 use std::net::{Net, SocketAddr, TcpListener, TcpStream};
-use std::process::Abort;
 use std::sync::{Mutex, Wait};
 use std::test::Fail;
 use std::thread::Threads;
@@ -28,7 +27,7 @@ fn an_accepted_connection_is_without_delay(rt: HostRuntime) -> Result<(), Fail> 
     let address = listener.local_addr()?;
     let _client = TcpStream::connect(&rt, address)?;
     let stream = OverListener::new(listener).accept()?;
-    assert!(rt; stream.nodelay()?);
+    is(&rt, stream.nodelay()?, true);
     Ok(())
 }
 
@@ -124,9 +123,13 @@ fn legs_share_one_connection_without_delay(rt: HostRuntime) -> Result<(), Fail> 
     let node = node(alloc)?;
     let (served, carried) = play(&rt, alloc, listener, &node, &name);
     let (replies, without_delay) = carried?;
-    assert_eq!(rt; served, 1);
-    assert!(rt; matches!(replies, [LegReply::Miss, LegReply::Miss]));
-    assert_eq!(rt; without_delay.as_slice(), [true].as_slice());
+    is(&rt, served, 1);
+    is(
+        &rt,
+        matches!(replies, [LegReply::Miss, LegReply::Miss]),
+        true,
+    );
+    is(&rt, without_delay.as_slice(), [true].as_slice());
     Ok(())
 }
 
@@ -189,8 +192,8 @@ fn a_client_that_cannot_be_accepted_is_waited_after(rt: HostRuntime) -> Result<(
     let begun = rt.monotonic()?;
     let (served, got) = play_failing(&rt, alloc, listener, &node, address);
     let taken = rt.monotonic()?.saturating_sub(begun).as_millis();
-    assert_eq!(rt; served, 1);
-    assert_eq!(rt; got?.as_slice(), b"END\r\n".as_slice());
-    assert!(rt; (200..10_000).contains(&taken));
+    is(&rt, served, 1);
+    is(&rt, got?.as_slice(), b"END\r\n".as_slice());
+    is(&rt, (200..10_000).contains(&taken), true);
     Ok(())
 }

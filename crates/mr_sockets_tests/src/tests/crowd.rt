@@ -1,13 +1,13 @@
 //! Several clients at once through two proxies, which have one old node and one new one.
 use super::{
-    answers, asked_whole, core_of, half_asked, listener, node, node_serves, proxy_serves, routing,
+    answers, asked_whole, core_of, half_asked, is, listener, node, node_serves, proxy_serves,
+    routing,
 };
 use mr_pools::Routing;
 use mr_sockets::SocketCarrier;
 use mr_workers::{Desk, SharedNode, SharedProxy};
 use std::alloc::{AllocError, Global};
 use std::net::{Net, SocketAddr, TcpListener, TcpStream};
-use std::process::Abort;
 use std::sync::Wait;
 use std::test::Fail;
 use std::thread::Threads;
@@ -133,7 +133,7 @@ fn several_clients_through_two_proxies(rt: HostRuntime) -> Result<(), Fail> {
     let (by_node, by_proxies, answered) = play(
         &rt, alloc, &rt, old, &node, listeners, &desks, &routing, addresses,
     );
-    assert_eq!(rt; (by_node, by_proxies), (8, (4, 4)));
-    assert!(rt; answered?);
+    is(&rt, (by_node, by_proxies), (8, (4, 4)));
+    is(&rt, answered?, true);
     Ok(())
 }

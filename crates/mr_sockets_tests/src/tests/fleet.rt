@@ -1,13 +1,12 @@
 //! The worked fleet: two old nodes, three new ones, a proxy and its client. The key `k` is kept by the second old node, so the
 //! other nodes get no leg.
-use super::{answers, core_of, listener, node, node_serves, proxy_serves, routing};
+use super::{answers, core_of, is, listener, node, node_serves, proxy_serves, routing};
 use mr_pools::Routing;
 use mr_proxy::ProxyCore;
 use mr_sockets::SocketCarrier;
 use mr_workers::{Desk, SharedNode, SharedProxy};
 use std::alloc::Global;
 use std::net::{Net, SocketAddr, TcpListener, TcpStream};
-use std::process::Abort;
 use std::sync::Wait;
 use std::test::Fail;
 use std::thread;
@@ -62,11 +61,11 @@ fn fleet_on_loopback(rt: HostRuntime) -> Result<(), Fail> {
     let (by_node, by_proxy, got) = play(
         &rt, alloc, &rt, second, &node, proxy, &desk, &routing, address,
     );
-    assert_eq!(rt; (by_node, by_proxy), (1, 1));
-    assert_eq!(rt; got.as_deref(), Some(ANSWERS));
+    is(&rt, (by_node, by_proxy), (1, 1));
+    is(&rt, got.as_deref(), Some(ANSWERS));
     let [third, fourth, fifth] = new;
     for other in [first, third, fourth, fifth] {
-        assert_eq!(rt; node_serves(&rt, alloc, other, &node, 0), 0);
+        is(&rt, node_serves(&rt, alloc, other, &node, 0), 0);
     }
     Ok(())
 }

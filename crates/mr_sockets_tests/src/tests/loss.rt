@@ -1,12 +1,11 @@
 //! A node that goes away in the middle of a leg and comes back.
-use super::{answers, core_of, listener, node, node_serves, proxy_serves, routing};
+use super::{answers, core_of, is, listener, node, node_serves, proxy_serves, routing};
 use mr_pools::Routing;
 use mr_sockets::SocketCarrier;
 use mr_workers::{Desk, SharedNode, SharedProxy};
 use std::alloc::Global;
 use std::io::{Read, Write};
 use std::net::{Net, SocketAddr, TcpListener, TcpStream};
-use std::process::Abort;
 use std::sync::Wait;
 use std::test::Fail;
 use std::thread::Threads;
@@ -86,10 +85,11 @@ fn a_node_goes_away_and_comes_back(rt: HostRuntime) -> Result<(), Fail> {
     let (by_node, by_proxy, got) = play(
         &rt, alloc, &rt, old, &node, proxy, &desk, &routing, address,
     );
-    assert_eq!(rt; (by_node, by_proxy), (1, 1));
-    assert_eq!(rt;
+    is(&rt, (by_node, by_proxy), (1, 1));
+    is(
+        &rt,
         got?.as_slice(),
-        b"SERVER_ERROR leg lost\r\nSTORED\r\nVALUE k 0 1\r\nv\r\nEND\r\n".as_slice()
+        b"SERVER_ERROR leg lost\r\nSTORED\r\nVALUE k 0 1\r\nv\r\nEND\r\n".as_slice(),
     );
     Ok(())
 }

@@ -1,8 +1,9 @@
 //! How much a book has room for.
 use super::{core_of, delete_of, desk_of, get_of, holds, issue};
 use mr_clock::FixedClock;
+use mr_history::OpId;
 use mr_join::LegReply;
-use mr_proxy::{LegSheet, Taken};
+use mr_proxy::{Leg, LegSheet, Taken};
 use mr_text::GhostCount;
 use mr_workers::{Carried, Carrier, Desk, DeskError, RecordedProxy, RecordedState, WorkerError};
 use std::alloc::Global;
@@ -94,24 +95,41 @@ fn one_get_fills_a_book_of_two_steps(rt: HostRuntime) -> Result<(), Fail> {
     is_full(&rt, alloc, &desk)
 }
 
+/// Takes what came of the leg of a get, and then once more: the second is a stranger.
+fn take_twice(rt: &impl Abort, state: &mut RecordedState<Broken>, leg: Leg) -> Result<(), Fail> {
+    let carried = Carried::of(&mut Broken::new(), leg);
+    let taken = state.take(&carried)?;
+    holds(rt, matches!(taken, Taken::Answered(_)));
+    let again = state.take(&carried)?;
+    holds(rt, matches!(again, Taken::Stranger(_)));
+    Ok(())
+}
+
+/// Asserts that a book has the one answer of its one request, in two steps.
+fn has_one_answer(
+    rt: &impl Abort,
+    alloc: Global,
+    state: RecordedState<Broken>,
+    op: OpId,
+) -> Result<(), Fail> {
+    let answers = state.answers(alloc)?;
+    holds(rt, answers.len() == 1);
+    holds(rt, answers.iter().all(|answer| answer.op() == op));
+    let book = state.into_book();
+    holds(rt, book.steps.len() == 2);
+    holds(rt, book.core.next() == 1);
+    Ok(())
+}
+
 #[test]
 fn a_book_gives_its_answers_again(rt: HostRuntime) -> Result<(), Fail> {
     let alloc = rt.alloc();
-    let mut state: RecordedState<Broken> = RecordedState::new(alloc, core_of(alloc)?, 4);
+    let get = get_of(alloc, b"k")?;
     let mut share = proxy(alloc, 4)?.share();
-    let mut clock = FixedClock(1000);
-    let issued = state.issue(&mut share, &mut clock, &get_of(alloc, b"k")?)?;
+    let mut state: RecordedState<Broken> = RecordedState::new(alloc, core_of(alloc)?, 4);
+    let issued = state.issue(&mut share, &mut FixedClock(1000), &get)?;
     for leg in issued.legs {
-        let carried = Carried::of(&mut Broken::new(), leg);
-        let taken = state.take(&carried)?;
-        holds(&rt, matches!(taken, Taken::Answered(_)));
-        holds(&rt, matches!(state.take(&carried)?, Taken::Stranger(_)));
+        take_twice(&rt, &mut state, leg)?;
     }
-    let answers = state.answers(alloc)?;
-    holds(&rt, answers.len() == 1);
-    holds(&rt, answers.iter().all(|answer| answer.op() == issued.op));
-    let book = state.into_book();
-    holds(&rt, book.steps.len() == 2);
-    holds(&rt, book.core.next() == 1);
-    Ok(())
+    has_one_answer(&rt, alloc, state, issued.op)
 }

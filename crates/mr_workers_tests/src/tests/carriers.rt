@@ -7,7 +7,7 @@ use super::{core_of, delete_of, desk_of, get_of, holds, issue};
 use mr_clock::{FixedClock, ListClock};
 use mr_join::LegReply;
 use mr_node::{CacheNode, NodeCommand, Perform};
-use mr_proxy::{Answer, Taken};
+use mr_proxy::{Answer, Leg, Taken};
 use mr_text::{Block, Cause, Key, Reply, Request};
 use mr_workers::{
     Carrier, Carriers, Desk, DirectCarriers, Gate, LocalCarrier, OpenGate, RecordedProxy,
@@ -93,6 +93,21 @@ fn is_hit(reply: Reply) -> bool {
     }
 }
 
+/// Asserts whether a get finds an item.
+fn finds<C: Carrier, D: Desk<C>, L: Carriers<C>, R: Wait + Abort>(
+    rt: &R,
+    desk: &D,
+    carriers: &mut L,
+    get: &Request,
+    found: bool,
+) -> Result<(), Fail>
+    requires { get.now ≢ Request.Quit }
+{
+    let answer = answer_to(rt, desk, carriers, get)?;
+    holds(rt, is_hit(answer.into_reply()) == found);
+    Ok(())
+}
+
 /// A get finds what the node that its key names keeps, a delete takes it from there, and the next get finds nothing.
 fn hits_until_deleted<C: Carrier, D: Desk<C>, L: Carriers<C>, R: Wait + Abort>(
     rt: &R,
@@ -101,19 +116,13 @@ fn hits_until_deleted<C: Carrier, D: Desk<C>, L: Carriers<C>, R: Wait + Abort>(
     carriers: &mut L,
 ) -> Result<(), Fail> {
     let get = get_of(alloc, b"k")?;
-    let delete = delete_of(alloc, b"k")?;
+    finds(rt, desk, carriers, &get, true)?;
+    let deleted = answer_to(rt, desk, carriers, &delete_of(alloc, b"k")?)?;
     holds(
         rt,
-        is_hit(answer_to(rt, desk, carriers, &get)?.into_reply()),
+        (deleted.slots().len(), deleted.given_up()) == (2, false),
     );
-    let deleted = answer_to(rt, desk, carriers, &delete)?;
-    holds(rt, deleted.slots().len() == 2);
-    holds(rt, !deleted.given_up());
-    holds(
-        rt,
-        !is_hit(answer_to(rt, desk, carriers, &get)?.into_reply()),
-    );
-    Ok(())
+    finds(rt, desk, carriers, &get, false)
 }
 
 /// The same over two caches of the old pool and one of the new, through either desk.
@@ -197,6 +206,20 @@ fn a_carrier_whose_clock_fails_says_so(rt: HostRuntime) -> Result<(), Fail> {
     says_so(&rt, alloc, &node)
 }
 
+/// The one leg of a get.
+fn one_leg<C: Carrier, R: Wait>(
+    rt: &R,
+    alloc: Global,
+    desk: &RecordedProxy<C>,
+) -> Result<Leg, Fail> {
+    let mut share = desk.share();
+    let mut issued = issue(rt, desk, &mut share, &get_of(alloc, b"k")?)?;
+    match issued.legs.pop() {
+        Some(leg) => Ok(leg),
+        None => Err(Fail::from("no leg")),
+    }
+}
+
 fn says_so<'x, R: Wait + Abort>(
     rt: &'x R,
     alloc: Global,
@@ -204,18 +227,9 @@ fn says_so<'x, R: Wait + Abort>(
 ) -> Result<(), Fail> {
     let mut carrier = LocalCarrier::new(rt, node, ListClock::new(Vec::new(alloc)));
     let desk: RecordedProxy<LocalCarrier<'_, ListClock, R>> = desk_of(alloc, 9)?;
-    let mut share = desk.share();
-    let mut issued = issue(rt, &desk, &mut share, &get_of(alloc, b"k")?)?;
-    let Some(leg) = issued.legs.pop() else {
-        return Err(Fail::from("no leg"));
-    };
+    let leg = one_leg(rt, alloc, &desk)?;
     OpenGate.before_carry(leg.sheet());
-    holds(
-        rt,
-        matches!(
-            carrier.carry(leg.sheet())?,
-            LegReply::Failed(Cause::ClockFault)
-        ),
-    );
+    let reply = carrier.carry(leg.sheet())?;
+    holds(rt, matches!(reply, LegReply::Failed(Cause::ClockFault)));
     Ok(())
 }
