@@ -2,3 +2,4 @@ pub mod Script
 pub mod Readings
 pub mod Clocks
 pub mod ClockError
+pub mod SystemClock

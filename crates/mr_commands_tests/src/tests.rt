@@ -1,4 +1,5 @@
-//! Whole runs, over files, inputs and outputs in memory.
+//! Whole runs, over files, inputs and outputs in memory. Those of services are over sockets of this machine, and each waits
+//! for threads.
 use mr_command_test_parts::{FilesAt, Place};
 use mr_commands::{Sources, run_words};
 use mr_servers::HostServers;
@@ -21,6 +22,7 @@ mod host_files;
 mod plans;
 mod plays;
 mod requests;
+mod services;
 mod timelines;
 mod words;
 

@@ -1,38 +1,82 @@
-//! Configurations, plans, timelines, scripts and transcripts.
-use mr_config::{Config, PhaseTimes, PlanError, Span, advise, plan, timeline};
-use mr_history::OpId;
-use mr_phases::{PhaseName, ScheduleError, Side};
-use mr_pools::{NamedHash, Pool, PoolError};
-use mr_shown::KeptVerdict;
-use mr_text::{Key, KeyList, Request};
-use std::alloc::Global;
+//! Configurations and plans; scripts, why some texts are none and what others say; transcripts that are written, and
+//! transcripts that are held against a play.
+mod configs;
+mod filling;
+mod play;
+mod refused_scripts;
+mod script;
+mod script_values;
+
+use mr_config::PlanError;
+use mr_plan::{Outcome, check_transcript};
+use mr_pools::{NodeName, Pool};
+use std::alloc::{AllocError, Global};
 use std::fmt::Debug;
 use std::process::Abort;
-use std::test::Fail;
-
-mod configurations;
-mod errors;
-mod plans;
-mod transcripts;
 
 /// Asserts which value there is.
 fn is<T: PartialEq + Debug + Drop>(rt: &impl Abort, value: T, wanted: T) {
     assert_eq!(rt; value, wanted);
 }
 
-/// The configuration of the worked examples: start 1000, interval 100, the hash by sums.
-const FLEET: &str =
-    "{\"hash\":\"sum\",\"pools\":{\"new\":{\"servers\":[\"7101\",\"7102\",\"7103\"]},\"old\":{\"servers\":[\"7001\",\"7002\"]}},\"route\":{\"type\":\"MigrateRoute\",\"from\":\"PoolRoute|old\",\"to\":\"PoolRoute|new\",\"start_time\":1000,\"interval\":100}}";
-
-/// A text read as a configuration.
-fn read(alloc: Global, text: &str) -> Result<Config, PlanError> {
-    Config::read(alloc, text.as_bytes())
+/// Asserts which value there is in one case of several.
+fn is_for<T: PartialEq + Debug + Drop>(rt: &impl Abort, value: T, wanted: T, case: &str) {
+    assert_eq!(rt; value, wanted, "in the case of {case}");
 }
 
-/// Why a text is no configuration.
-fn refusal(alloc: Global, text: &str) -> Option<PlanError> {
-    match read(alloc, text) {
-        Ok(_) => None,
-        Err(refusal) => Some(refusal),
+/// A part of a text, and what is put in its place.
+type Change = (&'static str, &'static str);
+
+/// The text with another part in the place of one that has to stand in it.
+fn changed(
+    rt: &impl Abort,
+    alloc: Global,
+    text: &str,
+    (part, new): (&str, &str),
+) -> Result<String, AllocError> {
+    assert!(rt; text.contains(part), "no {part}");
+    text.replacen(alloc, part, new, 1)
+}
+
+/// Whether these are the names, in this order.
+fn are_names(names: &[NodeName], wanted: &[&str]) -> bool {
+    if names.len() != wanted.len() {
+        return false;
     }
+    for (place, name) in names.iter().enumerate() {
+        if name.as_str() != wanted[place] {
+            return false;
+        }
+    }
+    true
+}
+
+/// Asserts that a pool has these names in this order.
+fn names_are(rt: &impl Abort, pool: &Pool, wanted: &[&str]) {
+    is(rt, are_names(pool.names(), wanted), true);
+}
+
+/// The text between as many spaces as make it so long.
+fn padded(alloc: Global, text: &str, length: usize) -> Result<String, AllocError> {
+    let spaces = length.saturating_sub(text.len());
+    let mut padded = " ".repeat(alloc, spaces / 2)?;
+    padded.push_str(text)?;
+    padded.push_str(" ".repeat(alloc, spaces - spaces / 2)?.as_str())?;
+    Ok(padded)
+}
+
+/// What a check of a transcript finds.
+fn outcome(alloc: Global, transcript: &[u8]) -> Result<Outcome, PlanError> {
+    Ok(check_transcript(alloc, transcript)?.outcome)
+}
+
+/// Asserts what a check of a transcript finds.
+fn is_found(
+    rt: &impl Abort,
+    alloc: Global,
+    transcript: &str,
+    wanted: Result<Outcome, PlanError>,
+    case: &str,
+) {
+    is_for(rt, outcome(alloc, transcript.as_bytes()), wanted, case);
 }

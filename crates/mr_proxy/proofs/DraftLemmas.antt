@@ -1,5 +1,5 @@
 -- The sheets of legs that are added one by one.
-use Rattle.std.proofs.Common.{◌≡◌, ℕ, suc, ◌+◌, ◌<◌, ◌≤◌, List, [], ◌∷◌, ◌++◌, length, map, take, get_or, sum_by, refl, sym, ap, ◌∙◌, arith, append_assoc, length-append, ◌^◌}
+use Rattle.std.proofs.Common.{◌≡◌, ℕ, suc, ◌+◌, ◌<◌, ◌≤◌, List, [], ◌∷◌, ◌++◌, length, map, take, get_or, sum_by, refl, sym, ap, ◌∙◌, arith, append_assoc, ◌^◌}
 use Rattle.std.proofs.lemmas.List.{map-append, take_more, length-take-le}
 use Rattle.std.proofs.lemmas.List.Sums.{sum_by-cons}
 use Rattle.mr_text.specs.Key.{FitLine}
@@ -24,17 +24,15 @@ sheets_push routing op place (first ∷ targets) target =
     (sheets_push routing op (place + 1) targets target ∙ ap (λ n. sheets_from routing op (place + 1) targets ++ sheet_at routing op n target ∷ []) next)
 
 -- one more leg
-pub added : (routing : RoutingView) (op : OpId) (before : List LegSheet) (targets : List Target) (target : Target) (now : List LegSheet)
-    → now ≡ before ++ sheets_from routing op (length before) targets
-    → now ++ sheet_at routing op (length now) target ∷ [] ≡ before ++ sheets_from routing op (length before) (targets ++ target ∷ [])
-added routing op before targets target now e =
-    let count : length now ≡ length before + length targets =
-    ap length e ∙ length-append before (sheets_from routing op (length before) targets)
-    ∙ ap (λ n. length before + n) (length-sheets_from routing op (length before) targets) in
+added : (routing : RoutingView) (op : OpId) (targets : List Target) (target : Target) (now : List LegSheet)
+    → now ≡ sheets_from routing op 0 targets
+    → now ++ sheet_at routing op (length now) target ∷ [] ≡ sheets_from routing op 0 (targets ++ target ∷ [])
+added routing op targets target now e =
+    let all : length now ≡ length targets = ap length e ∙ length-sheets_from routing op 0 targets in
+    let count : length now ≡ 0 + length targets = omega arith in
     ap (λ l. l ++ sheet_at routing op (length now) target ∷ []) e
-    ∙ ap (λ n. (before ++ sheets_from routing op (length before) targets) ++ sheet_at routing op n target ∷ []) count
-    ∙ append_assoc before (sheets_from routing op (length before) targets) (sheet_at routing op (length before + length targets) target ∷ [])
-    ∙ ap (λ l. before ++ l) (sym (sheets_push routing op (length before) targets target))
+    ∙ ap (λ n. sheets_from routing op 0 targets ++ sheet_at routing op n target ∷ []) count
+    ∙ sym (sheets_push routing op 0 targets target)
 
 targets_push : (sides : List Side) (commands : List NodeCommand) (command : NodeCommand)
     → targets_of sides (commands ++ command ∷ []) ≡ targets_of sides commands ++ targets_of sides (command ∷ [])
@@ -44,15 +42,15 @@ targets_push sides (first ∷ commands) command =
     ∙ sym (append_assoc (map (λ (side : Side). record { side = side; command = first }) sides) (targets_of sides commands) (targets_of sides (command ∷ [])))
 
 -- one more key of a get
-pub get_added : (routing : RoutingView) (op : OpId) (before : List LegSheet) (side : Side) (keys : List (List ℕ)) (i : ℕ) (key : List ℕ) (now : List LegSheet)
+pub get_added : (routing : RoutingView) (op : OpId) (side : Side) (keys : List (List ℕ)) (i : ℕ) (key : List ℕ) (now : List LegSheet)
     → i < length keys → key ≡ get_or keys i key
-    → now ≡ before ++ sheets_from routing op (length before) (targets_of (side ∷ []) (map Get (take i keys)))
+    → now ≡ sheets_from routing op 0 (targets_of (side ∷ []) (map Get (take i keys)))
     → now ++ sheet_at routing op (length now) (record { side = side; command = Get key }) ∷ []
-    ≡ before ++ sheets_from routing op (length before) (targets_of (side ∷ []) (map Get (take (i + 1) keys)))
-get_added routing op before side keys i key now within is e =
+    ≡ sheets_from routing op 0 (targets_of (side ∷ []) (map Get (take (i + 1) keys)))
+get_added routing op side keys i key now within is e =
     let more : take (i + 1) keys ≡ take i keys ++ key ∷ [] = take_more keys i key within ∙ ap (λ k. take i keys ++ k ∷ []) (sym is) in
-    added routing op before (targets_of (side ∷ []) (map Get (take i keys))) (record { side = side; command = Get key }) now e
-    ∙ ap (λ l. before ++ sheets_from routing op (length before) l)
+    added routing op (targets_of (side ∷ []) (map Get (take i keys))) (record { side = side; command = Get key }) now e
+    ∙ ap (sheets_from routing op 0)
     (sym (ap (λ l. targets_of (side ∷ []) (map Get l)) more
     ∙ ap (targets_of (side ∷ [])) (map-append Get (take i keys) (key ∷ []))
     ∙ targets_push (side ∷ []) (map Get (take i keys)) (Get key)))
@@ -63,14 +61,14 @@ targets_by_side [] more command = refl
 targets_by_side (side ∷ sides) more command = ap (λ l. record { side = side; command = command } ∷ l) (targets_by_side sides more command)
 
 -- one more side of a delete
-pub delete_added : (routing : RoutingView) (op : OpId) (before : List LegSheet) (sides : List Side) (command : NodeCommand) (i : ℕ) (d : Side) (now : List LegSheet)
+pub delete_added : (routing : RoutingView) (op : OpId) (sides : List Side) (command : NodeCommand) (i : ℕ) (d : Side) (now : List LegSheet)
     → i < length sides
-    → now ≡ before ++ sheets_from routing op (length before) (targets_of (take i sides) (command ∷ []))
+    → now ≡ sheets_from routing op 0 (targets_of (take i sides) (command ∷ []))
     → now ++ sheet_at routing op (length now) (record { side = get_or sides i d; command = command }) ∷ []
-    ≡ before ++ sheets_from routing op (length before) (targets_of (take (i + 1) sides) (command ∷ []))
-delete_added routing op before sides command i d now within e =
-    added routing op before (targets_of (take i sides) (command ∷ [])) (record { side = get_or sides i d; command = command }) now e
-    ∙ ap (λ l. before ++ sheets_from routing op (length before) l)
+    ≡ sheets_from routing op 0 (targets_of (take (i + 1) sides) (command ∷ []))
+delete_added routing op sides command i d now within e =
+    added routing op (targets_of (take i sides) (command ∷ [])) (record { side = get_or sides i d; command = command }) now e
+    ∙ ap (sheets_from routing op 0)
     (sym (ap (λ l. targets_of l (command ∷ [])) (take_more sides i d within) ∙ targets_by_side (take i sides) (get_or sides i d ∷ []) command))
 
 -- a key takes a byte of a line, at least
@@ -86,14 +84,12 @@ length-gets side [] = refl
 length-gets side (key ∷ keys) = ap suc (length-gets side keys)
 
 -- how many legs there are so far
-pub get_count : (routing : RoutingView) (op : OpId) (before : List LegSheet) (side : Side) (keys : List (List ℕ)) (i : ℕ) (now : List LegSheet)
-    → now ≡ before ++ sheets_from routing op (length before) (targets_of (side ∷ []) (map Get (take i keys)))
-    → i < length keys → length now ≡ length before + i
-get_count routing op before side keys i now e within =
+pub get_count : (routing : RoutingView) (op : OpId) (side : Side) (keys : List (List ℕ)) (i : ℕ) (now : List LegSheet)
+    → now ≡ sheets_from routing op 0 (targets_of (side ∷ []) (map Get (take i keys)))
+    → i < length keys → length now ≡ i
+get_count routing op side keys i now e within =
     let targets : List Target = targets_of (side ∷ []) (map Get (take i keys)) in
-    let count : length targets ≡ i = length-gets side (take i keys) ∙ length-take-le i keys (omega arith) in
-    ap length e ∙ length-append before (sheets_from routing op (length before) targets)
-    ∙ ap (λ n. length before + n) (length-sheets_from routing op (length before) targets ∙ count)
+    ap length e ∙ length-sheets_from routing op 0 targets ∙ length-gets side (take i keys) ∙ length-take-le i keys (omega arith)
 
 pub get_length : (routing : RoutingView) (op : OpId) (side : Side) (keys : List (List ℕ))
     → length (sheets_from routing op 0 (targets_of (side ∷ []) (map Get keys))) ≡ length keys
@@ -103,14 +99,12 @@ length-deletes : (sides : List Side) (command : NodeCommand) → length (targets
 length-deletes [] command = refl
 length-deletes (side ∷ sides) command = ap suc (length-deletes sides command)
 
-pub delete_count : (routing : RoutingView) (op : OpId) (before : List LegSheet) (sides : List Side) (command : NodeCommand) (i : ℕ) (now : List LegSheet)
-    → now ≡ before ++ sheets_from routing op (length before) (targets_of (take i sides) (command ∷ []))
-    → i < length sides → length now ≡ length before + i
-delete_count routing op before sides command i now e within =
+pub delete_count : (routing : RoutingView) (op : OpId) (sides : List Side) (command : NodeCommand) (i : ℕ) (now : List LegSheet)
+    → now ≡ sheets_from routing op 0 (targets_of (take i sides) (command ∷ []))
+    → i < length sides → length now ≡ i
+delete_count routing op sides command i now e within =
     let targets : List Target = targets_of (take i sides) (command ∷ []) in
-    let count : length targets ≡ i = length-deletes (take i sides) command ∙ length-take-le i sides (omega arith) in
-    ap length e ∙ length-append before (sheets_from routing op (length before) targets)
-    ∙ ap (λ n. length before + n) (length-sheets_from routing op (length before) targets ∙ count)
+    ap length e ∙ length-sheets_from routing op 0 targets ∙ length-deletes (take i sides) command ∙ length-take-le i sides (omega arith)
 
 pub delete_length : (routing : RoutingView) (op : OpId) (sides : List Side) (command : NodeCommand)
     → length (sheets_from routing op 0 (targets_of sides (command ∷ []))) ≡ length sides

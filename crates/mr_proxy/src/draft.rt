@@ -1,7 +1,7 @@
 //! The legs of a request, made before the proxy changes.
 ghost use Rattle.std.specs.Prelude.{◌≡◌, ◌≢◌, ◌+◌, ◌<◌, ◌^◌, [], ◌∷◌, ◌++◌, length, map, IfOk, OnOk};
 ghost use Rattle.mr_phases.specs.Sides.{sides_in};
-ghost use Rattle.mr_node.specs.declared.command.NodeCommand.TheVariants.{Get, Delete};
+ghost use Rattle.mr_node.specs.declared.command.NodeCommand.TheVariants.{Get, Set, Delete};
 ghost use Rattle.mr_proxy.specs.Slots.{open_slot};
 ghost use Rattle.mr_proxy.specs.Sound.{HasLegs};
 ghost use Rattle.mr_proxy.specs.Sheets.{sheet_at, sheets_from, sheets_by, targets_of};
@@ -13,9 +13,26 @@ use mr_history::OpId;
 use mr_node::NodeCommand;
 use mr_phases::{RequestKind, Schedule, Side, judge};
 use mr_pools::Routing;
-use mr_text::{Key, Request};
+use mr_text::{Block, Key, Request};
 use std::alloc::{AllocError, Global};
 use std::marker::Model;
+
+/// What the node is told for a set.
+fn set_command(
+    key: &Key,
+    flags: u32,
+    exptime: i64,
+    block: &Block,
+) -> Result<NodeCommand, AllocError>
+    ensures { IfOk result (λ command. command ≡ Set key.now flags exptime block.now) }
+{
+    Ok(NodeCommand::Set {
+        key: key.copy()?,
+        flags,
+        exptime,
+        block: block.copy()?,
+    })
+}
 
 /// The legs of a request, each beside the slot in which its reply will be noted.
 #[derive(Drop)]
@@ -70,42 +87,57 @@ impl Draft {
         Ok(())
     }
 
-    /// Adds a get's legs: one for each key.
-    #[tactic(auto, using(crate::proofs::DraftLemmas::get_added, crate::proofs::DraftLemmas::get_count))]
-    fn add_gets(
-        &mut self,
+    /// A get's legs: one for each key.
+    #[tactic(auto, using(crate::proofs::DraftLemmas::get_count))]
+    fn of_gets(
+        alloc: Global,
         routing: &Routing,
         op: OpId,
         side: Side,
         keys: &[Key],
-    ) -> Result<(), AllocError>
-        requires { length self.old + length keys.now < 2 ^ 32 }
-        ensures { OnOk result (self.new ≡ self.old
-            ++ sheets_from routing.now op (length self.old) (targets_of (side ∷ []) (map Get keys.now))) }
+    ) -> Result<Draft, AllocError>
+        requires { length keys.now < 2 ^ 32 }
+        ensures { IfOk result (λ draft. draft ≡ sheets_from routing.now op 0 (targets_of (side ∷ []) (map Get keys.now))) }
     {
+        let mut draft = Draft::new(alloc, keys.len())?;
         for key in keys {
-            self.add(routing, op, side, NodeCommand::Get(key.copy()?))?;
+            draft.add(routing, op, side, NodeCommand::Get(key.copy()?))?;
         }
-        Ok(())
+        Ok(draft)
     }
 
-    /// Adds a delete's legs: one for each side.
-    #[tactic(auto, using(crate::proofs::DraftLemmas::delete_added, crate::proofs::DraftLemmas::delete_count))]
-    fn add_deletes(
-        &mut self,
+    /// The one leg of a command that goes to one side.
+    fn of_one(
+        alloc: Global,
+        routing: &Routing,
+        op: OpId,
+        side: Side,
+        command: NodeCommand,
+    ) -> Result<Draft, AllocError>
+        ensures { IfOk result (λ draft. draft ≡ sheets_from routing.now op 0 (targets_of (side ∷ []) (command ∷ []))) }
+    {
+        let mut draft = Draft::new(alloc, 1)?;
+        draft.add(routing, op, side, command)?;
+        Ok(draft)
+    }
+
+    /// A delete's legs: one for each side.
+    #[tactic(auto, using(crate::proofs::DraftLemmas::delete_count))]
+    fn of_deletes(
+        alloc: Global,
         routing: &Routing,
         op: OpId,
         sides: &[Side],
         key: &Key,
-    ) -> Result<(), AllocError>
-        requires { length self.old + length sides.now < 2 ^ 32 }
-        ensures { OnOk result (self.new ≡ self.old
-            ++ sheets_from routing.now op (length self.old) (targets_of sides.now (Delete key.now ∷ []))) }
+    ) -> Result<Draft, AllocError>
+        requires { length sides.now < 2 ^ 32 }
+        ensures { IfOk result (λ draft. draft ≡ sheets_from routing.now op 0 (targets_of sides.now (Delete key.now ∷ []))) }
     {
+        let mut draft = Draft::new(alloc, sides.len())?;
         for side in sides {
-            self.add(routing, op, *side, NodeCommand::Delete(key.copy()?))?;
+            draft.add(routing, op, *side, NodeCommand::Delete(key.copy()?))?;
         }
-        Ok(())
+        Ok(draft)
     }
 
     /// The legs of a request that is judged by this reading.
@@ -124,10 +156,7 @@ impl Draft {
         let judged = judge(schedule, reading);
         match request {
             Request::Get { keys } => {
-                let keys = keys.as_slice();
-                let mut draft = Draft::new(alloc, keys.len())?;
-                draft.add_gets(routing, op, judged.read_side(), keys)?;
-                Ok(draft)
+                Draft::of_gets(alloc, routing, op, judged.read_side(), keys.as_slice())
             }
             Request::Set {
                 key,
@@ -136,21 +165,12 @@ impl Draft {
                 block,
                 noreply: _,
             } => {
-                let command = NodeCommand::Set {
-                    key: key.copy()?,
-                    flags: *flags,
-                    exptime: *exptime,
-                    block: block.copy()?,
-                };
-                let mut draft = Draft::new(alloc, 1)?;
-                draft.add(routing, op, judged.read_side(), command)?;
-                Ok(draft)
+                let command = set_command(key, *flags, *exptime, block)?;
+                Draft::of_one(alloc, routing, op, judged.read_side(), command)
             }
             Request::Delete { key, noreply: _ } => {
                 let sides = judged.sides(RequestKind::Delete);
-                let mut draft = Draft::new(alloc, sides.count())?;
-                draft.add_deletes(routing, op, sides.as_slice(), key)?;
-                Ok(draft)
+                Draft::of_deletes(alloc, routing, op, sides.as_slice(), key)
             }
             Request::Quit => Draft::new(alloc, 0),
         }

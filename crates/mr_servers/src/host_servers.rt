@@ -6,11 +6,11 @@ ghost use Rattle.mr_servers.specs.Servers.{IsOneService, NodeAt, ProxyAt, Serves
 use crate::asks::GhostAsks;
 use crate::fault::OpenFault;
 use crate::listening::listener_at;
+use mr_clock::SystemClock;
 use mr_node::CacheNode;
 use mr_pools::Routing;
 use mr_proxy::ProxyCore;
 use mr_sockets::{OverListener, SocketCarrier, serve_node, serve_proxy};
-use mr_system_clock::SystemClock;
 use mr_text::GhostCount;
 use mr_workers::{SharedNode, SharedProxy};
 use std::alloc::Global;

@@ -65,8 +65,6 @@ impl Block {
     pub fn copy(&self) -> Result<Block, AllocError>
         ensures { IfOk result (λ block. block ≡ self.now) }
     {
-        Ok(Block {
-            bytes: self.bytes.clone()?,
-        })
+        Block::of(*self.bytes.allocator(), self.as_bytes())
     }
 }

@@ -98,8 +98,6 @@ impl Key {
     pub fn copy(&self) -> Result<Key, AllocError>
         ensures { IfOk result (λ key. key ≡ self.now) }
     {
-        Ok(Key {
-            bytes: self.bytes.clone()?,
-        })
+        Key::of(*self.bytes.allocator(), self.as_bytes())
     }
 }

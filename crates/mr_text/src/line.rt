@@ -70,9 +70,7 @@ impl Line {
     pub fn copy(&self) -> Result<Line, AllocError>
         ensures { IfOk result (λ line. line ≡ self.now) }
     {
-        Ok(Line {
-            bytes: self.bytes.clone()?,
-        })
+        Line::of(*self.bytes.allocator(), self.as_bytes())
     }
 }
 

@@ -1,63 +1,46 @@
 //! What is left where a device fails.
 use super::plays::{ACCEPTED, SCRIPT, TRANSCRIPT};
-use super::{PLACES, byte_by_byte, expect_run, is, plan_words, run_over};
+use super::{ByteByByte, PLACES, Ran, byte_by_byte, expect_run, is, plan_words, run_over};
 use mr_command_test_parts::FilesAt;
 use mr_commands::run_words;
 use mr_servers::HostServers;
+use mr_test_parts::TakesHalf;
 use mr_text::{FailsAt, OverReader, OverWriter};
 use std::alloc::Global;
-use std::io;
-use std::io::Write;
 use std::net::{Net, TcpListener, TcpStream};
 use std::process::Abort;
 use std::sync::Wait;
 use std::thread::Threads;
 use std::time::Clock;
 
-/// A writer of std that takes half of one piece and fails then. It keeps what it took.
-#[derive(Drop)]
-struct TakesHalf {
-    kept: Vec<u8>,
-    calls: usize,
-    fails_at: usize,
-}
-
-impl TakesHalf {
-    fn new(alloc: Global, fails_at: usize) -> TakesHalf {
-        TakesHalf {
-            kept: Vec::new(alloc),
-            calls: 0,
-            fails_at,
-        }
-    }
-}
-
-impl Write for TakesHalf {
-    fn write(&mut self, bytes: &[u8]) -> io::Result<usize> {
-        self.calls = self.calls.saturating_add(1);
-        if self.calls > self.fails_at {
-            return Err(io::ErrorKind::BrokenPipe.into());
-        }
-        let taken = if self.calls == self.fails_at {
-            bytes.len() / 2
-        } else {
-            bytes.len()
-        };
-        match self.kept.extend_from_slice(&bytes[..taken]) {
-            Ok(()) => Ok(taken),
-            Err(_) => Err(io::ErrorKind::OutOfMemory.into()),
-        }
-    }
-
-    fn flush(&mut self) -> io::Result<()> {
-        Ok(())
-    }
-}
-
 /// Asserts what a device kept, and how often it was called.
 fn expect_device(rt: &impl Abort, device: &TakesHalf, kept: &[u8], calls: usize) {
     is(rt, device.kept.as_slice(), kept);
     is(rt, device.calls, calls);
+}
+
+/// Runs a command, and gives its status and both outputs. Of each output one call takes half of its piece, and those behind
+/// it fail.
+fn run_halves<R: Net<Listener = TcpListener, Stream = TcpStream> + Threads + Wait + Clock + Sync>(
+    rt: &R,
+    alloc: Global,
+    words: &[&str],
+    files: &mut FilesAt,
+    input: &[u8],
+    fails_at: (usize, usize),
+) -> (u8, TakesHalf, TakesHalf) {
+    let mut written = OverWriter::new(TakesHalf::new(alloc, fails_at.0));
+    let mut told = OverWriter::new(TakesHalf::new(alloc, fails_at.1));
+    let status = run_words(
+        alloc,
+        &mut HostServers::new(rt),
+        words,
+        files,
+        &mut OverReader::new(input),
+        &mut written,
+        &mut told,
+    );
+    (status, written.into_inner(), told.into_inner())
 }
 
 /// Asserts what each output is left with, where one of their calls fails.
@@ -77,22 +60,11 @@ fn runs_with(
     faults: (&[u8], usize),
 ) {
     let mut files = FilesAt::new(PLACES.as_slice());
-    let mut written = OverWriter::new(TakesHalf::new(alloc, fails_at.0));
-    let mut told = OverWriter::new(TakesHalf::new(alloc, fails_at.1));
-    let mut input = OverReader::new(input);
-    let ran = run_words(
-        alloc,
-        &mut HostServers::new(rt),
-        words,
-        &mut files,
-        &mut input,
-        &mut written,
-        &mut told,
-    );
+    let (ran, written, told) = run_halves(rt, alloc, words, &mut files, input, fails_at);
     is(rt, ran, status);
     is(rt, files.calls(), 1);
-    expect_device(rt, &written.into_inner(), output.0, output.1);
-    expect_device(rt, &told.into_inner(), faults.0, faults.1);
+    expect_device(rt, &written, output.0, output.1);
+    expect_device(rt, &told, faults.0, faults.1);
 }
 
 #[test]
@@ -209,55 +181,61 @@ fn expect_half(
         + Clock
         + Sync),
     alloc: Global,
-    command: &str,
+    words: &[&str],
     input: &[u8],
     text: &[u8],
 ) {
-    let mut written = OverWriter::new(TakesHalf::new(alloc, 1));
-    let mut told = OverWriter::new(TakesHalf::new(alloc, 2));
-    let mut input = OverReader::new(input);
-    let status = run_words(
-        alloc,
-        &mut HostServers::new(rt),
-        &[command],
-        &mut FilesAt::new(&[]),
-        &mut input,
-        &mut written,
-        &mut told,
-    );
+    let mut files = FilesAt::new(&[]);
+    let (status, written, told) = run_halves(rt, alloc, words, &mut files, input, (1, 2));
     is(rt, status, 1);
-    expect_device(rt, &written.into_inner(), &text[..text.len() / 2], 2);
-    expect_device(rt, &told.into_inner(), b"migctl: output\n", 1);
+    is(rt, files.calls(), 0);
+    expect_device(rt, &written, &text[..text.len() / 2], 2);
+    expect_device(rt, &told, b"migctl: output\n", 1);
 }
 
 #[test]
 fn each_write_of_a_play_fails(rt: HostRuntime) {
     // The line end of the transcript is in the other half.
     let transcript = TRANSCRIPT.as_bytes();
-    expect_half(&rt, rt.alloc(), "run", SCRIPT.as_bytes(), transcript);
-    expect_half(&rt, rt.alloc(), "check", transcript, ACCEPTED);
+    expect_half(&rt, rt.alloc(), &["run"], SCRIPT.as_bytes(), transcript);
+    expect_half(&rt, rt.alloc(), &["check"], transcript, ACCEPTED);
+}
+
+/// A request, and the beginning of another.
+const REQUESTS: &[u8] = b"get k\r\nget";
+
+/// Runs a plan over an input of which one call fails.
+fn plan_over<R: Net<Listener = TcpListener, Stream = TcpStream> + Threads + Wait + Clock + Sync>(
+    rt: &R,
+    alloc: Global,
+    input: &mut FailsAt<OverReader<ByteByByte>>,
+) -> Ran {
+    let mut files = FilesAt::new(PLACES.as_slice());
+    run_over(
+        rt,
+        alloc,
+        &plan_words("fleet.json", "999"),
+        &mut files,
+        input,
+    )
 }
 
 #[test]
 fn each_read_fails(rt: HostRuntime) {
-    let alloc = rt.alloc();
-    let words = plan_words("fleet.json", "999");
-    let input: &[u8] = b"get k\r\nget";
-    let mut files = FilesAt::new(PLACES.as_slice());
     for call in 1..8 {
-        let mut source = FailsAt::new(byte_by_byte(input), call);
-        let ran = run_over(&rt, alloc, &words, &mut files, &mut source);
+        let mut input = FailsAt::new(byte_by_byte(REQUESTS), call);
+        let ran = plan_over(&rt, rt.alloc(), &mut input);
         expect_run(&rt, &ran, 1, b"", b"migctl: input\n");
     }
-    let mut source = FailsAt::new(byte_by_byte(input), 8);
-    let ran = run_over(&rt, alloc, &words, &mut files, &mut source);
-    expect_run(
-        &rt,
-        &ran,
-        0,
-        b"phase old-only at 999\nleg 0 old 7002\n",
-        b"",
-    );
-    let ran = run_over(&rt, alloc, &words, &mut files, &mut source);
+}
+
+/// The request is whole behind the seventh read, and the eighth, which fails, is another run's first.
+#[test]
+fn nothing_is_read_behind_a_request(rt: HostRuntime) {
+    let mut input = FailsAt::new(byte_by_byte(REQUESTS), 8);
+    let ran = plan_over(&rt, rt.alloc(), &mut input);
+    let plan: &[u8] = b"phase old-only at 999\nleg 0 old 7002\n";
+    expect_run(&rt, &ran, 0, plan, b"");
+    let ran = plan_over(&rt, rt.alloc(), &mut input);
     expect_run(&rt, &ran, 1, b"", b"migctl: input\n");
 }

@@ -12,7 +12,7 @@ use mr_servers::HostServers;
 use mr_text::{FailsAt, OverReader, OverWriter, TextError};
 use mr_workers::WorkerError;
 use mr_world::WorldError;
-use std::alloc::Global;
+use std::alloc::{AllocError, Global};
 use std::fmt::Debug;
 use std::net::{Net, TcpListener, TcpStream};
 use std::process::Abort;
@@ -114,6 +114,29 @@ fn faults_are_explained(rt: HostRuntime) {
     }
 }
 
+/// The name of a refusal, without what it carries.
+fn name_of<E: Debug + Drop>(alloc: Global, refusal: E) -> Result<String, AllocError> {
+    let mut name = format!(in alloc; "{refusal:?}")?;
+    if let Some(end) = name.find(|letter: char| !letter.is_ascii_alphanumeric()) {
+        name.truncate(end);
+    }
+    Ok(name)
+}
+
+/// The first line of an explanation.
+fn heading_of(
+    alloc: Global,
+    layer: &str,
+    number: &str,
+    name: String,
+) -> Result<Vec<u8>, AllocError> {
+    let mut heading = Vec::from_slice(alloc, layer.as_bytes())?;
+    for part in [" ", number, " ", name.as_str(), "\n"] {
+        heading.extend_from_slice(part.as_bytes())?;
+    }
+    Ok(heading)
+}
+
 /// Asserts that a refusal of a layer is explained under its own number and name.
 fn expect_named<E: Debug + Drop>(
     rt: &(impl Abort
@@ -128,27 +151,10 @@ fn expect_named<E: Debug + Drop>(
     refusal: E,
 ) -> Result<(), Fail> {
     let word = format!(in alloc; "{number}")?;
-    let name = format!(in alloc; "{refusal:?}")?;
-    let Some(name) = name
-        .as_bytes()
-        .split(|byte| !byte.is_ascii_alphanumeric())
-        .next()
-    else {
-        return Err(Fail::from("a refusal has a name"));
-    };
-    let mut heading = Vec::from_slice(alloc, layer.as_bytes())?;
-    heading.push(b' ')?;
-    heading.extend_from_slice(word.as_bytes())?;
-    heading.push(b' ')?;
-    heading.extend_from_slice(name)?;
-    heading.push(b'\n')?;
+    let heading = heading_of(alloc, layer, word.as_str(), name_of(alloc, refusal)?)?;
     let ran = run(rt, alloc, &["explain", layer, word.as_str()], b"");
     is(rt, ran.status, 0);
-    is(
-        rt,
-        ran.output.as_slice().starts_with(heading.as_slice()),
-        true,
-    );
+    is(rt, ran.output.starts_with(heading.as_slice()), true);
     Ok(())
 }
 

@@ -1,35 +1,52 @@
 //! What goes through to a device, and a device that fails.
-use mr_test_parts::add_repeated;
-use mr_text::{FailsAt, OverReader, OverWriter, ReadFault, Sink, Source, WriteFault};
+use super::{are, count_is, holds, repeated};
+use mr_text::{FailsAt, OverReader, OverWriter, ReadFault, Sink, Source};
 use std::alloc::Global;
-use std::cell::Cell;
 use std::io;
 use std::io::{Read, Write};
 use std::process::Abort;
 use std::test::Fail;
 
-fn read_at_bound<S: Source>(source: &mut S, buffer: &mut [u8]) -> Result<usize, ReadFault> {
-    source.read(buffer)
+/// Asserts what a read comes to.
+fn reads<S: Source>(
+    rt: &impl Abort,
+    source: &mut S,
+    buffer: &mut [u8],
+    wanted: Result<usize, ReadFault>,
+) {
+    holds(rt, source.read(buffer) == wanted);
 }
 
-fn write_at_bound<S: Sink>(sink: &mut S, bytes: &[u8]) -> Result<(), WriteFault> {
-    sink.write_all(bytes)
+/// Asserts whether a write fails.
+fn fails<S: Sink>(rt: &impl Abort, sink: &mut S, bytes: &[u8], wanted: bool) {
+    holds(rt, sink.write_all(bytes).is_err() == wanted);
 }
 
 /// Asserts that of four reads of two bytes, out of five, this one fails alone.
-fn fails_reading(rt: &impl Abort, call: u64) {
-    let mut source = FailsAt::new(OverReader::new(b"abcde".as_slice()), call);
-    let mut buffer = [0; 2];
+fn one_of_four_fails<S: Source>(rt: &impl Abort, source: &mut S, call: u64) {
     let mut left: usize = 5;
     for number in 1..5 {
-        let read = read_at_bound(&mut source, &mut buffer);
         if number == call {
-            assert_eq!(rt; read, Err(ReadFault), "{call}");
+            reads(rt, source, &mut [0; 2], Err(ReadFault));
         } else {
-            assert_eq!(rt; read, Ok(left.min(2)), "{call}");
+            reads(rt, source, &mut [0; 2], Ok(left.min(2)));
             left = left.saturating_sub(2);
         }
     }
+}
+
+/// Asserts that of the reads of a source that is made to fail in one call this one fails alone.
+fn fails_reading(rt: &impl Abort, call: u64) {
+    let mut source = FailsAt::new(OverReader::new(b"abcde".as_slice()), call);
+    one_of_four_fails(rt, &mut source, call);
+}
+
+/// Asserts that a read leaves what stands behind it in the buffer.
+fn fills_the_front(rt: &impl Abort) {
+    let mut source = OverReader::new(b"abc".as_slice());
+    let mut buffer = [b'x'; 4];
+    reads(rt, &mut source, &mut buffer, Ok(3));
+    are(rt, &buffer, b"abcx");
 }
 
 #[test]
@@ -37,22 +54,23 @@ fn one_read_fails(rt: HostRuntime) {
     for call in 0..6 {
         fails_reading(&rt, call);
     }
-    let mut source = OverReader::new(b"abc".as_slice());
-    let mut buffer = [b'x'; 4];
-    assert_eq!(rt; read_at_bound(&mut source, &mut buffer), Ok(3));
-    assert_eq!(rt; buffer.as_slice(), b"abcx".as_slice());
+    fills_the_front(&rt);
 }
 
 /// Asserts that of four writes of a byte this one fails alone.
-fn fails_writing(rt: &impl Abort, alloc: Global, call: u64, held: &[u8]) {
-    let mut sink = FailsAt::new(OverWriter::new(Vec::new(alloc)), call);
+fn one_byte_fails<S: Sink>(rt: &impl Abort, sink: &mut S, call: u64) {
     let mut number: u64 = 0;
     for byte in b"abcd" {
         number = number.saturating_add(1);
-        let fails = write_at_bound(&mut sink, &[*byte]).is_err();
-        assert_eq!(rt; fails, number == call, "{call}");
+        fails(rt, sink, &[*byte], number == call);
     }
-    assert_eq!(rt; sink.into_inner().into_inner().as_slice(), held, "{call}");
+}
+
+/// Asserts that of the writes of a sink that is made to fail in one call this one fails alone, and what was written.
+fn fails_writing(rt: &impl Abort, alloc: Global, call: u64, held: &[u8]) {
+    let mut sink = FailsAt::new(OverWriter::new(Vec::new(alloc)), call);
+    one_byte_fails(rt, &mut sink, call);
+    are(rt, &sink.into_inner().into_inner(), held);
 }
 
 #[test]
@@ -65,41 +83,44 @@ fn one_write_fails(rt: HostRuntime) {
     fails_writing(&rt, alloc, 5, b"abcd");
 }
 
-/// How often a device of std was called, and with how long a buffer at last.
-#[derive(Drop)]
-struct Calls {
-    made: Cell<usize>,
-    length: Cell<usize>,
-}
-
-/// A device of std that tells its calls. One of them fails.
-#[derive(Drop)]
-struct Told<'a> {
-    calls: &'a Calls,
+/// A device of std that counts its calls, and keeps with how long a buffer it was called at last. One of its calls fails.
+#[derive(Clone, Copy)]
+struct Told {
     fails_at: usize,
     gives: usize,
+    calls: usize,
+    length: usize,
 }
 
-impl Told<'_> {
-    fn call(&self, length: usize) -> io::Result<()> {
-        let call = self.calls.made.get().saturating_add(1);
-        self.calls.made.set(call);
-        self.calls.length.set(length);
-        if call == self.fails_at {
+impl Told {
+    /// A device that wasn't called. Each read gives so many bytes, or fewer in a shorter buffer.
+    fn new(fails_at: usize, gives: usize) -> Told {
+        Told {
+            fails_at,
+            gives,
+            calls: 0,
+            length: 0,
+        }
+    }
+
+    fn call(&mut self, length: usize) -> io::Result<()> {
+        self.calls = self.calls.saturating_add(1);
+        self.length = length;
+        if self.calls == self.fails_at {
             return Err(io::ErrorKind::BrokenPipe.into());
         }
         Ok(())
     }
 }
 
-impl Read for Told<'_> {
+impl Read for Told {
     fn read(&mut self, buffer: &mut [u8]) -> io::Result<usize> {
         self.call(buffer.len())?;
         Ok(self.gives.min(buffer.len()))
     }
 }
 
-impl Write for Told<'_> {
+impl Write for Told {
     fn write(&mut self, bytes: &[u8]) -> io::Result<usize> {
         self.call(bytes.len())?;
         Ok(bytes.len())
@@ -111,71 +132,48 @@ impl Write for Told<'_> {
 }
 
 /// Asserts how often the device was called, and with how long a buffer at last.
-fn was_called(rt: &impl Abort, calls: &Calls, made: usize, length: usize) {
-    assert_eq!(rt; calls.made.get(), made, "{length}");
-    assert_eq!(rt; calls.length.get(), length, "{made}");
+fn was_called(rt: &impl Abort, device: Told, calls: usize, length: usize) {
+    count_is(rt, device.calls, calls);
+    count_is(rt, device.length, length);
 }
 
-/// Asserts that each read of a buffer of this length is one call of the device with the whole buffer: one that gives
-/// all, one that fails, one that gives a byte, and one at the end.
-fn reads_go_through(rt: &impl Abort, alloc: Global, length: usize) -> Result<(), Fail> {
-    let mut buffer = Vec::new(alloc);
-    add_repeated(&mut buffer, b'x', length)?;
-    for (gives, fails_at, read) in [
-        (length, 0, Ok(length)),
-        (1, 0, Ok(1)),
-        (0, 0, Ok(0)),
-        (length, 1, Err(ReadFault)),
-    ] {
-        let calls = Calls {
-            made: Cell::new(0),
-            length: Cell::new(0),
-        };
-        let mut source = OverReader::new(Told {
-            calls: &calls,
-            fails_at,
-            gives,
-        });
-        assert_eq!(rt;
-            read_at_bound(&mut source, buffer.as_mut_slice()),
-            read,
-            "{length}"
-        );
-        drop(source);
-        was_called(rt, &calls, 1, length);
-    }
-    Ok(())
+/// Asserts what a read of a new device comes to, and that it is one call of the device with the whole buffer.
+fn is_one_read(
+    rt: &impl Abort,
+    mut device: Told,
+    buffer: &mut [u8],
+    wanted: Result<usize, ReadFault>,
+) {
+    reads(rt, &mut OverReader::new(&mut device), buffer, wanted);
+    was_called(rt, device, 1, buffer.len());
 }
 
-/// Asserts that a write of so many bytes is one call of the device with all of them, also where it fails.
-fn writes_go_through(rt: &impl Abort, alloc: Global, length: usize) -> Result<(), Fail> {
-    let mut bytes = Vec::new(alloc);
-    add_repeated(&mut bytes, b'x', length)?;
-    for (fails_at, written) in [(0, Ok(())), (1, Err(WriteFault))] {
-        let calls = Calls {
-            made: Cell::new(0),
-            length: Cell::new(0),
-        };
-        let mut sink = OverWriter::new(Told {
-            calls: &calls,
-            fails_at,
-            gives: 0,
-        });
-        assert_eq!(rt;
-            write_at_bound(&mut sink, bytes.as_slice()),
-            written,
-            "{length}"
-        );
-        drop(sink);
-        was_called(rt, &calls, 1, length);
-    }
-    Ok(())
+/// Asserts that each read of this buffer is one call of the device with the whole buffer: one that gives all, one that
+/// fails, one that gives a byte, and one at the end.
+fn reads_go_through(rt: &impl Abort, buffer: &mut [u8]) {
+    let length = buffer.len();
+    is_one_read(rt, Told::new(0, length), buffer, Ok(length));
+    is_one_read(rt, Told::new(0, 1), buffer, Ok(1));
+    is_one_read(rt, Told::new(0, 0), buffer, Ok(0));
+    is_one_read(rt, Told::new(1, length), buffer, Err(ReadFault));
+}
+
+/// Asserts whether a write to a new device fails, and that it is one call of the device with all the bytes.
+fn is_one_write(rt: &impl Abort, mut device: Told, bytes: &[u8], wanted: bool) {
+    fails(rt, &mut OverWriter::new(&mut device), bytes, wanted);
+    was_called(rt, device, 1, bytes.len());
+}
+
+/// Asserts that a write of these bytes is one call of the device with all of them, also where it fails.
+fn writes_go_through(rt: &impl Abort, bytes: &[u8]) {
+    is_one_write(rt, Told::new(0, 0), bytes, false);
+    is_one_write(rt, Told::new(1, 0), bytes, true);
 }
 
 #[test]
 fn one_read_is_one_call_of_the_device(rt: HostRuntime) -> Result<(), Fail> {
     for length in [1, 4, 4096, 65_536] {
-        reads_go_through(&rt, rt.alloc(), length)?;
+        reads_go_through(&rt, &mut repeated(rt.alloc(), b'x', length)?);
     }
     Ok(())
 }
@@ -183,24 +181,20 @@ fn one_read_is_one_call_of_the_device(rt: HostRuntime) -> Result<(), Fail> {
 #[test]
 fn one_write_is_one_call_of_the_device(rt: HostRuntime) -> Result<(), Fail> {
     for length in [1, 4, 4096, 65_536] {
-        writes_go_through(&rt, rt.alloc(), length)?;
+        writes_go_through(&rt, &repeated(rt.alloc(), b'x', length)?);
     }
     Ok(())
 }
 
+/// Asserts that a read fails, and that the next one gives a byte.
+fn fails_once<S: Source>(rt: &impl Abort, source: &mut S) {
+    reads(rt, source, &mut [0; 4], Err(ReadFault));
+    reads(rt, source, &mut [0; 4], Ok(1));
+}
+
 #[test]
 fn device_that_failed_is_called_again_only_when_asked(rt: HostRuntime) {
-    let calls = Calls {
-        made: Cell::new(0),
-        length: Cell::new(0),
-    };
-    let mut source = OverReader::new(Told {
-        calls: &calls,
-        fails_at: 1,
-        gives: 1,
-    });
-    let mut buffer = [0; 4];
-    assert_eq!(rt; read_at_bound(&mut source, &mut buffer), Err(ReadFault));
-    assert_eq!(rt; read_at_bound(&mut source, &mut buffer), Ok(1));
-    was_called(&rt, &calls, 2, 4);
+    let mut device = Told::new(1, 1);
+    fails_once(&rt, &mut OverReader::new(&mut device));
+    was_called(&rt, device, 2, 4);
 }

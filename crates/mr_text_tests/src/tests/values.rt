@@ -1,6 +1,6 @@
 //! Which bytes make a value, and copies of each.
-use super::{are, count_is, is_refused};
-use mr_test_parts::{add_repeated, repeated_keys, reply_text, request_text};
+use super::{are, count_is, is_refused, is_reply, is_request, item, repeated};
+use mr_test_parts::repeated_keys;
 use mr_text::{
     Block, Cause, FIXED_BUFFER, Item, ItemList, Key, KeyList, Line, MAX_BLOCK, MAX_ERROR_TEXT,
     MAX_ITEMS, MAX_KEY, MAX_LINE, Reply, Request, TextError,
@@ -17,13 +17,6 @@ fn limits_are_those_of_the_text(rt: HostRuntime) {
     count_is(&rt, MAX_ERROR_TEXT, 8179);
     count_is(&rt, MAX_ITEMS, 4094);
     count_is(&rt, FIXED_BUFFER, 4096);
-}
-
-/// So many equal bytes.
-fn repeated(alloc: Global, byte: u8, count: usize) -> Result<Vec<u8>, Fail> {
-    let mut bytes = Vec::new(alloc);
-    add_repeated(&mut bytes, byte, count)?;
-    Ok(bytes)
 }
 
 /// Asserts which bytes a key has.
@@ -174,14 +167,6 @@ fn key_lists_need_a_key(rt: HostRuntime) {
     is_refused(&rt, refused, TextError::WrongWords);
 }
 
-/// Asserts a get's text.
-fn asks(rt: &impl Abort, alloc: Global, keys: KeyList, text: &[u8]) -> Result<(), Fail> {
-    let request = Request::Get { keys };
-    let written = request_text(alloc, &request)?;
-    are(rt, &written, text);
-    Ok(())
-}
-
 /// A key for each byte.
 fn keys_of(alloc: Global, names: &[u8]) -> Result<Vec<Key>, Fail> {
     let mut keys = Vec::new(alloc);
@@ -194,8 +179,8 @@ fn keys_of(alloc: Global, names: &[u8]) -> Result<Vec<Key>, Fail> {
 #[test]
 fn key_lists_keep_order(rt: HostRuntime) -> Result<(), Fail> {
     let list = KeyList::new(keys_of(rt.alloc(), b"kak")?)?;
-    let copy = list.copy()?;
-    asks(&rt, rt.alloc(), copy, b"get k a k\r\n")?;
+    let request = Request::Get { keys: list.copy()? };
+    is_request(&rt, rt.alloc(), request, b"get k a k\r\n")?;
     count_is(&rt, list.as_slice().len(), 3);
     count_is(&rt, list.into_vec().len(), 3);
     Ok(())
@@ -219,41 +204,38 @@ fn longest_get_line_fits(rt: HostRuntime) -> Result<(), Fail> {
     Ok(())
 }
 
-fn item(alloc: Global, key: &[u8], flags: u32, block: &[u8]) -> Result<Item, Fail> {
-    let key = Key::new(alloc, key)?;
-    let block = Block::new(alloc, block)?;
-    Ok(Item { key, flags, block })
-}
-
 /// The copy of an item.
 fn copied_item(alloc: Global, key: &[u8], flags: u32, block: &[u8]) -> Result<Item, Fail> {
     let item = item(alloc, key, flags, block)?;
     Ok(item.copy()?)
 }
 
+/// Adds the copy of an item.
+fn add_copied(
+    items: &mut Vec<Item>,
+    alloc: Global,
+    key: &[u8],
+    flags: u32,
+    block: &[u8],
+) -> Result<(), Fail> {
+    items.push(copied_item(alloc, key, flags, block)?)?;
+    Ok(())
+}
+
 /// A list of two items, copies.
 fn two_items(rt: &impl Abort, alloc: Global) -> Result<ItemList, Fail> {
     let mut items = Vec::new(alloc);
-    items.push(copied_item(alloc, b"k", 1, b"v")?)?;
-    items.push(copied_item(alloc, b"a", 2, b"")?)?;
+    add_copied(&mut items, alloc, b"k", 1, b"v")?;
+    add_copied(&mut items, alloc, b"a", 2, b"")?;
     assert!(rt; items.len() == 2);
     Ok(ItemList::new(items))
-}
-
-/// Asserts the text of a reply with items.
-fn gives(rt: &impl Abort, alloc: Global, items: ItemList, text: &[u8]) -> Result<(), Fail> {
-    let reply = Reply::Items(items);
-    let written = reply_text(alloc, &reply)?;
-    are(rt, &written, text);
-    Ok(())
 }
 
 #[test]
 fn item_lists_keep_order(rt: HostRuntime) -> Result<(), Fail> {
     let list = two_items(&rt, rt.alloc())?;
-    let copy = list.copy()?;
     let wanted = b"VALUE k 1 1\r\nv\r\nVALUE a 2 0\r\n\r\nEND\r\n";
-    gives(&rt, rt.alloc(), copy, wanted)?;
+    is_reply(&rt, rt.alloc(), Reply::Items(list.copy()?), wanted)?;
     count_is(&rt, list.as_slice().len(), 2);
     count_is(&rt, list.into_vec().len(), 2);
     Ok(())

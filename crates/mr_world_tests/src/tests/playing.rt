@@ -1,7 +1,11 @@
 //! Runs as plain values, and what is asserted of each.
+use super::fleets::Fleet;
+use super::holds;
+use super::moves::{Row, first_other};
+use super::showing::{premises, verdict};
+use super::telling::{Told, says};
 use mr_history::OpId;
 use mr_world::World;
-use mr_world_test_parts::{Fleet, Row, Told, first_other, premises, says, verdict};
 use std::alloc::Global;
 use std::process::Abort;
 use std::test::Fail;
@@ -27,17 +31,31 @@ pub struct Run {
 
 /// Asserts what a world shows.
 pub fn shows(rt: &impl Abort, world: &World, shown: &Shown) {
-    assert!(rt; says(world.history(), shown.told));
-    assert_eq!(rt; premises(world), shown.premises);
-    assert_eq!(rt; verdict(world), shown.verdict);
-    assert_eq!(rt; (world.sent().len(), world.replies().len()), shown.sent);
+    holds(rt, says(world.history(), shown.told), "the history");
+    holds(rt, premises(world) == shown.premises, "the premises");
+    holds(rt, verdict(world) == shown.verdict, "the verdict");
+    holds(rt, sent(world) == shown.sent, "how many were sent");
+}
+
+/// How many messages and how many replies were sent.
+fn sent(world: &World) -> (usize, usize) {
+    (world.sent().len(), world.replies().len())
 }
 
 /// Asserts what the moves of a run come to, and what the world shows then.
 pub fn goes(rt: &impl Abort, alloc: Global, run: &Run) -> Result<(), Fail> {
-    let mut world = run.fleet.world(alloc)?;
-    let other = first_other(alloc, &mut world, run.rows)?;
-    assert_eq!(rt; other, None);
-    shows(rt, &world, &run.shown);
+    goes_in(rt, alloc, &mut run.fleet.world(alloc)?, run)
+}
+
+/// The same, in the world of the run's fleet.
+fn goes_in(rt: &impl Abort, alloc: Global, world: &mut World, run: &Run) -> Result<(), Fail> {
+    let other = first_other(alloc, world, run.rows)?;
+    none_comes_to_another(rt, other);
+    shows(rt, world, &run.shown);
     Ok(())
+}
+
+/// Asserts that there is no place of a move that comes to something else.
+fn none_comes_to_another(rt: &impl Abort, place: Option<usize>) {
+    assert_eq!(rt; place, None);
 }

@@ -1,12 +1,12 @@
 //! No premise can be spared: in each of these runs one alone is false, and a get hits what an acknowledged delete was
 //! to remove. Each request has one leg, which is delivered and returned at once.
+use super::fleets::Fleet;
+use super::moves::{DELETE, GET, Move, SET, events_of};
 use super::playing::{Shown, shows};
+use super::telling::{AGAIN, FIRST, OTHER_FIRST, OTHER_SECOND, SECOND, Told};
 use mr_history::Author;
 use mr_phases::Side;
 use mr_world::World;
-use mr_world_test_parts::{
-    AGAIN, DELETE, FIRST, Fleet, GET, Move, OTHER_FIRST, OTHER_SECOND, SECOND, SET, Told, events_of,
-};
 use std::alloc::Global;
 use std::process::Abort;
 use std::test::Fail;
@@ -18,19 +18,21 @@ struct Betrayal {
     shown: Shown,
 }
 
-/// The world of a fleet behind the moves.
-fn played(alloc: Global, betrayal: &Betrayal) -> Result<World, Fail> {
-    let events = events_of(alloc, betrayal.moves)?;
-    let mut world = betrayal.fleet.world(alloc)?;
-    world.run(events)?;
-    Ok(world)
-}
-
 /// Runs the moves, and asserts what the world shows then: its verdict is a get, and the delete that was to remove what
 /// the get hit.
 fn betrays(rt: &impl Abort, alloc: Global, betrayal: &Betrayal) -> Result<(), Fail> {
-    let world = played(alloc, betrayal)?;
-    shows(rt, &world, &betrayal.shown);
+    betrays_in(rt, alloc, &mut betrayal.fleet.world(alloc)?, betrayal)
+}
+
+/// The same, in the world of its fleet.
+fn betrays_in(
+    rt: &impl Abort,
+    alloc: Global,
+    world: &mut World,
+    betrayal: &Betrayal,
+) -> Result<(), Fail> {
+    world.run(events_of(alloc, betrayal.moves)?)?;
+    shows(rt, world, &betrayal.shown);
     Ok(())
 }
 

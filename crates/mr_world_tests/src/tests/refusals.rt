@@ -1,12 +1,14 @@
 //! What is refused, what is copied, and runs that stop.
+use super::fleets::Fleet;
+use super::holds;
+use super::moves::{Asked, DELETE, GET, Move, Row, events_of, first_other, note_of};
 use super::playing::{Run, Shown, goes};
+use super::telling::{FIRST, Told, says};
 use mr_history::Author;
 use mr_proxy::ProxyError;
-use mr_world::{Event, Note, World, WorldError};
-use mr_world_test_parts::{
-    Asked, DELETE, FIRST, Fleet, GET, Move, Row, Told, event_of, events_of, first_other, says,
-};
+use mr_world::{Delivery, Event, Message, Note, Setup, World, WorldError};
 use std::alloc::{AllocError, Global};
+use std::process::Abort;
 use std::test::Fail;
 
 /// Moves that name what there is none of, and a quit.
@@ -52,7 +54,7 @@ static NUMBERS: [(WorldError, u8); 6] = [
 #[test]
 fn refusals_have_numbers(rt: HostRuntime) {
     for (refusal, number) in &NUMBERS {
-        assert_eq!(rt; refusal.number(), *number);
+        holds(&rt, refusal.number() == *number, "its number");
     }
 }
 
@@ -92,14 +94,19 @@ const STRAY: Fleet = Fleet {
 #[test]
 fn a_setup_needs_its_nodes(rt: HostRuntime) -> Result<(), Fail> {
     let refusal = STRAY.world_or_refusal(rt.alloc())?.err();
-    assert_eq!(rt; refusal, Some(WorldError::NoSuchNode));
+    holds(&rt, refusal == Some(WorldError::NoSuchNode), "no such node");
     Ok(())
+}
+
+/// How many items the copy of a setup holds.
+fn held_by_copy(setup: &Setup) -> Result<usize, AllocError> {
+    Ok(setup.copy()?.held().len())
 }
 
 #[test]
 fn a_setup_is_copied(rt: HostRuntime) -> Result<(), Fail> {
-    let copied = STRAY.setup(rt.alloc())?.copy()?;
-    assert_eq!(rt; copied.held().len(), 1);
+    let held = held_by_copy(&STRAY.setup(rt.alloc())?)?;
+    holds(&rt, held == 1, "one item");
     Ok(())
 }
 
@@ -133,19 +140,23 @@ fn stopping_events(alloc: Global) -> Result<Vec<Event>, Fail> {
     copies(alloc, &events)
 }
 
-/// Where a run of these events stops and why, and whether the history says then what it has to.
-fn stops(alloc: Global, told: &[Told]) -> Result<(Result<(), (usize, WorldError)>, bool), Fail> {
-    let events = stopping_events(alloc)?;
-    let mut world = FLEET.world(alloc)?;
-    let stop = world.run(events);
-    Ok((stop, says(world.history(), told)))
+/// Whether a run stops there and for that reason.
+fn stops_so(stop: Result<(), (usize, WorldError)>) -> bool {
+    stop == Err((1, WorldError::NoSuchMessage))
+}
+
+/// Asserts where a run of these events stops, and what the history says then.
+fn stops(rt: &impl Abort, alloc: Global, world: &mut World) -> Result<(), Fail> {
+    let stop = world.run(stopping_events(alloc)?);
+    holds(rt, stops_so(stop), "at the second event");
+    let told = says(world.history(), &[Told::Deleted(FIRST, b'k')]);
+    holds(rt, told, "the history");
+    Ok(())
 }
 
 #[test]
 fn a_run_stops_at_the_first_refused_event(rt: HostRuntime) -> Result<(), Fail> {
-    let stop = stops(rt.alloc(), &[Told::Deleted(FIRST, b'k')])?;
-    assert_eq!(rt; stop, (Err((1, WorldError::NoSuchMessage)), true));
-    Ok(())
+    stops(&rt, rt.alloc(), &mut FLEET.world(rt.alloc())?)
 }
 
 /// A delete whose answer is not wanted is given up.
@@ -232,39 +243,46 @@ static ANSWERED: [Row; 3] = [
     (Move::Return(0), Ok(Note::Answered { op: FIRST })),
 ];
 
-/// The node of a copy of the only message, and the message of a copy of the only delivery.
-fn copied(world: &World) -> Result<Option<(usize, usize)>, AllocError> {
-    match (world.sent(), world.replies()) {
-        ([message], [delivery]) => Ok(Some((message.copy()?.node, delivery.copy()?.message))),
-        _ => Ok(None),
-    }
+/// The node of a copy of the message.
+fn copied_node(message: &Message) -> Result<usize, AllocError> {
+    Ok(message.copy()?.node)
+}
+
+/// The message of a copy of the delivery.
+fn copied_message(delivery: &Delivery) -> Result<usize, AllocError> {
+    Ok(delivery.copy()?.message)
+}
+
+/// Asserts the node of a copy of the only message, and the message of a copy of the only delivery.
+fn are_copied(rt: &impl Abort, world: &World) -> Result<(), Fail> {
+    let ([message], [delivery]) = (world.sent(), world.replies()) else {
+        return Err(Fail::from("one message and one delivery"));
+    };
+    holds(rt, copied_node(message)? == 1, "its node");
+    holds(rt, copied_message(delivery)? == 0, "its message");
+    Ok(())
 }
 
 /// The same, behind the get.
-fn copied_behind_get(alloc: Global) -> Result<Option<(usize, usize)>, Fail> {
-    let mut world = FLEET.world(alloc)?;
-    match first_other(alloc, &mut world, &ANSWERED)? {
-        None => Ok(copied(&world)?),
-        Some(_) => Ok(None),
-    }
+fn are_copied_behind_get(rt: &impl Abort, alloc: Global, world: &mut World) -> Result<(), Fail> {
+    let other = first_other(alloc, world, &ANSWERED)?;
+    holds(rt, other.is_none(), "a get that is answered");
+    are_copied(rt, world)
 }
 
 #[test]
 fn messages_and_deliveries_are_copied(rt: HostRuntime) -> Result<(), Fail> {
-    assert_eq!(rt; copied_behind_get(rt.alloc())?, Some((1, 0)));
-    Ok(())
+    are_copied_behind_get(&rt, rt.alloc(), &mut FLEET.world(rt.alloc())?)
 }
 
 /// What becomes of a get that is issued first.
 fn first_note(alloc: Global) -> Result<Result<Note, WorldError>, Fail> {
-    let mut world = FLEET.world(alloc)?;
-    let event = event_of(alloc, Move::Client(0, GET))?;
-    Ok(world.step(event))
+    note_of(alloc, &mut FLEET.world(alloc)?, Move::Client(0, GET))
 }
 
 #[test]
 fn a_note_is_copied(rt: HostRuntime) -> Result<(), Fail> {
     let note = first_note(rt.alloc())??;
-    assert_eq!(rt; note.copy(), note);
+    holds(&rt, note.copy() == note, "the same note");
     Ok(())
 }

@@ -1,11 +1,11 @@
 //! The worked rows, their histories compared whole.
+use super::fleets::Fleet;
+use super::moves::{DELETE, GET, Move, SET};
 use super::playing::{Run, Shown, goes};
+use super::telling::{AGAIN, FIRST, OTHER_FIRST, OTHER_SECOND, SECOND, THIRD, Told};
 use mr_history::Author;
 use mr_phases::Side;
 use mr_world::Note;
-use mr_world_test_parts::{
-    AGAIN, DELETE, FIRST, Fleet, GET, Move, OTHER_FIRST, OTHER_SECOND, SECOND, SET, THIRD, Told,
-};
 use std::test::Fail;
 
 /// The second proxy sets the key, the first deletes it from both pools, the second gets it.

@@ -1,0 +1,172 @@
+//! What a cache answers and keeps.
+use super::{Came, Told, count_is, expiry, holds, key};
+use mr_node::{CacheNode, NodeCommand, NodeError, Perform};
+use std::alloc::Global;
+use std::process::Abort;
+use std::test::Fail;
+
+/// What a copy of a command comes to, through the bound.
+fn perform<P: Perform>(node: &mut P, now: u64, command: &NodeCommand) -> Result<Came, Fail> {
+    Ok(Came::of(&node.perform(now, command.copy()?)?))
+}
+
+/// A command at a moment, what it has to come to, and how many items have to be kept then.
+type Step<'a> = (u64, Told, &'a [u8], Came, usize);
+
+/// Asserts what a command comes to and how many items it leaves.
+fn is_step(rt: &impl Abort, alloc: Global, node: &mut CacheNode, step: &Step) -> Result<(), Fail> {
+    let (now, told, name, came, kept) = *step;
+    let answered = perform(node, now, &told.of(alloc, name)?)?;
+    holds(rt, answered == came);
+    count_is(rt, node.len(), kept);
+    Ok(())
+}
+
+/// The capacity of a cache, commands, and when the item of a name has to expire after them, if it is kept.
+type Row<'a> = (usize, &'a [Step<'a>], &'a [u8], Option<Option<u64>>);
+
+/// When the item of a row's name expires after its commands. The name is looked at before each of them too, which is no
+/// use of the item.
+fn kept_after(rt: &impl Abort, alloc: Global, row: &Row) -> Result<Option<Option<u64>>, Fail> {
+    let (capacity, steps, name, _) = *row;
+    let mut node = CacheNode::new(alloc, capacity)?;
+    let name = key(alloc, name)?;
+    for step in steps {
+        let _ = node.peek(&name);
+        is_step(rt, alloc, &mut node, step)?;
+    }
+    Ok(expiry(&node, &name))
+}
+
+/// Asserts what the rows say.
+fn are_rows(rt: &impl Abort, alloc: Global, rows: &[Row]) -> Result<(), Fail> {
+    for row in rows {
+        holds(rt, kept_after(rt, alloc, row)? == row.3);
+    }
+    Ok(())
+}
+
+const FIRST: Step<'static> = (100, Told::Set(0), b"a", Came::Stored, 1);
+
+const SECOND: Step<'static> = (100, Told::Set(0), b"b", Came::Stored, 2);
+
+const SECOND_OF_ONE: Step<'static> = (100, Told::Set(0), b"b", Came::Stored, 1);
+
+const BRIEF_FIRST: Step<'static> = (100, Told::Set(10), b"a", Came::Stored, 1);
+
+const BRIEF_SECOND: Step<'static> = (100, Told::Set(10), b"b", Came::Stored, 2);
+
+const FIRST_AGAIN: Step<'static> = (200, Told::Set(0), b"a", Came::Stored, 2);
+
+const THIRD: Step<'static> = (200, Told::Set(0), b"c", Came::Stored, 2);
+
+const NOTHING: Step<'static> = (100, Told::Set(-1), b"c", Came::Stored, 2);
+
+const USE: Step<'static> = (100, Told::Get, b"a", Came::Hit, 2);
+
+static ROWS: [Row<'static>; 20] = [
+    // A new item drops the one that wasn't used for the longest.
+    (1, &[FIRST, SECOND_OF_ONE], b"a", None),
+    (
+        1,
+        &[FIRST, SECOND_OF_ONE, (100, Told::Get, b"a", Came::Miss, 1)],
+        b"b",
+        Some(None),
+    ),
+    (
+        1,
+        &[FIRST, SECOND_OF_ONE, (100, Told::Get, b"b", Came::Hit, 1)],
+        b"b",
+        Some(None),
+    ),
+    (2, &[FIRST, SECOND, THIRD], b"a", None),
+    (2, &[FIRST, SECOND, THIRD], b"b", Some(None)),
+    // A hit is a use.
+    (2, &[FIRST, SECOND, USE, THIRD], b"a", Some(None)),
+    (2, &[FIRST, SECOND, USE, THIRD], b"b", None),
+    // A set that keeps nothing drops nothing.
+    (2, &[FIRST, SECOND, NOTHING], b"a", Some(None)),
+    (2, &[FIRST, SECOND, NOTHING], b"b", Some(None)),
+    (2, &[FIRST, SECOND, NOTHING], b"c", None),
+    // A set of a key that is there drops nothing, though its item is expired.
+    (2, &[BRIEF_FIRST, SECOND, FIRST_AGAIN], b"a", Some(None)),
+    (2, &[BRIEF_FIRST, SECOND, FIRST_AGAIN], b"b", Some(None)),
+    // The last item in order of use is dropped, though another is expired.
+    (2, &[FIRST, BRIEF_SECOND, THIRD], b"a", None),
+    (2, &[FIRST, BRIEF_SECOND, THIRD], b"b", Some(Some(110))),
+    // Up to thirty days count from the set; what is above is a moment.
+    (
+        2,
+        &[(100, Told::Set(10), b"k", Came::Stored, 1)],
+        b"k",
+        Some(Some(110)),
+    ),
+    (
+        2,
+        &[(100, Told::Set(2_592_000), b"k", Came::Stored, 1)],
+        b"k",
+        Some(Some(2_592_100)),
+    ),
+    (
+        2,
+        &[(100, Told::Set(2_592_001), b"k", Came::Stored, 1)],
+        b"k",
+        Some(Some(2_592_001)),
+    ),
+    (
+        2,
+        &[(u64::MAX - 1, Told::Set(10), b"k", Came::Stored, 1)],
+        b"k",
+        Some(Some(u64::MAX)),
+    ),
+    (
+        2,
+        &[(u64::MAX, Told::Set(10), b"k", Came::Stored, 0)],
+        b"k",
+        None,
+    ),
+    // An item expires at its moment.
+    (
+        4,
+        &[
+            (100, Told::Set(10), b"k", Came::Stored, 1),
+            (109, Told::Get, b"k", Came::Hit, 1),
+            (110, Told::Delete, b"k", Came::NotFound, 0),
+            (105, Told::Get, b"k", Came::Miss, 0),
+            (100, Told::Set(-1), b"k", Came::Stored, 0),
+            (100, Told::Get, b"k", Came::Miss, 0),
+            (100, Told::Set(2_592_001), b"k", Came::Stored, 1),
+            (2_592_000, Told::Get, b"k", Came::Hit, 1),
+            (2_592_001, Told::Get, b"k", Came::Miss, 0),
+        ],
+        b"k",
+        None,
+    ),
+];
+
+#[test]
+fn commands_come_to_what_their_rows_say(rt: HostRuntime) -> Result<(), Fail> {
+    are_rows(&rt, rt.alloc(), &ROWS)
+}
+
+#[test]
+fn a_restart_drops_all(rt: HostRuntime) -> Result<(), Fail> {
+    let mut node = CacheNode::new(rt.alloc(), usize::MAX)?;
+    is_step(&rt, rt.alloc(), &mut node, &FIRST)?;
+    node.restart();
+    holds(&rt, node.is_empty());
+    is_step(
+        &rt,
+        rt.alloc(),
+        &mut node,
+        &(100, Told::Get, b"a", Came::Miss, 0),
+    )
+}
+
+#[test]
+fn a_cache_holds_something(rt: HostRuntime) {
+    holds(
+        &rt,
+        CacheNode::new(rt.alloc(), 0).err() == Some(NodeError::ZeroCapacity),
+    );
+}

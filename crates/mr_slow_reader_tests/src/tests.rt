@@ -1,3 +1,0 @@
-//! Each reader beside a slow one.
-mod agreement;
-mod slow;

@@ -1,0 +1,58 @@
+//! Carriers that never reach their nodes.
+use mr_join::LegReply;
+use mr_proxy::LegSheet;
+use mr_text::GhostCount;
+use mr_workers::{Carrier, DirectCarriers, WorkerError};
+use std::alloc::{AllocError, Global};
+
+/// A carrier that never reaches its node.
+#[derive(Drop)]
+pub(super) struct Broken {
+    faults: GhostCount,
+}
+
+impl Broken {
+    pub(super) fn new() -> Broken {
+        Broken {
+            faults: GhostCount::new(),
+        }
+    }
+}
+
+impl Carrier for Broken {
+    ghost use Rattle.std.specs.Prelude.{◌≡◌, ◌+◌};
+
+    ghost gave = { λ _ _. Unit {0} };
+
+    ghost faults = { λ c. c.faults };
+
+    ghost carries = { λ _ _ _ _. Unit {0} };
+
+    ghost loses = { λ _. tt };
+
+    fn carry(&mut self, _sheet: &LegSheet) -> Result<LegReply, WorkerError> {
+        self.faults.add_one();
+        Err(WorkerError::LinkBroken)
+    }
+}
+
+/// So many such carriers for each pool.
+pub(super) fn broken_carriers(
+    alloc: Global,
+    counts: &[usize],
+) -> Result<DirectCarriers<Broken>, AllocError> {
+    let mut pools = Vec::new(alloc);
+    for count in counts {
+        pools.push(broken_links(alloc, *count)?)?;
+    }
+    Ok(DirectCarriers::new(alloc, pools))
+}
+
+/// So many such carriers for one pool.
+fn broken_links(alloc: Global, count: usize) -> Result<Vec<Broken>, AllocError> {
+    let mut links = Vec::new(alloc);
+    for _ in 0..count {
+        links.push(Broken::new())?;
+    }
+    Ok(links)
+}
