@@ -1,11 +1,11 @@
 //! The options of the commands, and the numbers that they give.
-ghost use Rattle.std.specs.Prelude.{◌≡◌, ℕ, None, Some, false, true, IfSome, IfNone, codes};
-ghost use Rattle.clap.specs.Words.{found_of, one_of, rows_of, rule_of};
+ghost use Rattle.std.specs.Prelude.{◌≡◌, ℕ, None, Some, false, true, IfOk, IsOkAnd, IfSome, IfNone, codes};
+ghost use Rattle.clap.specs.Words.{AddsArg, found_of, one_of, rows_of, rule_of};
 ghost use Rattle.mr_words.specs.Command.{config_rule, listen_rule, number_rule, option_rule};
 ghost use Rattle.mr_words.specs.Words.{IsNumberOr};
 
-use clap::{Arg, ArgAction, ArgMatches, value_parser};
-use std::alloc::Global;
+use clap::{Arg, ArgAction, ArgMatches, Command, value_parser};
+use std::alloc::{AllocError, Global};
 
 /// An option with a value, by its name, and what help calls its value.
 pub fn option<'a>(alloc: Global, name: &'a str, value: &'a str, help: &'a str) -> Arg<'a>
@@ -44,6 +44,16 @@ pub fn number_option<'a>(alloc: Global, name: &'a str, help: &'a str) -> Arg<'a>
 {
     let number = option(alloc, name, "number", help);
     number.value_parser(value_parser!(u64))
+}
+
+/// A command with one more option, where there was memory for both.
+pub fn with_option<'a>(
+    command: Result<Command<'a>, AllocError>,
+    option: Arg<'a>,
+) -> Result<Command<'a>, AllocError>
+    ensures { IfOk result (λ whole. IsOkAnd command.entry (λ old. AddsArg old option.entry whole)) }
+{
+    command?.arg(option)
 }
 
 /// The number that an option gives, or the usual one where the option was left out. It is none where the option's word is

@@ -5,7 +5,7 @@ ghost use Rattle.mr_words.specs.Command.{node_app, proxy_app, number_rule};
 ghost use Rattle.mr_words.specs.Words.{HasNode, HasProxy};
 
 use crate::help::{NODE_NOTES, PROXY_NOTES};
-use crate::options::{config_option, listen_option, number_option, number_or};
+use crate::options::{config_option, listen_option, number_option, number_or, with_option};
 use clap::{Arg, ArgMatches, Command};
 use std::alloc::{AllocError, Global};
 
@@ -82,13 +82,13 @@ pub fn node_command<'a>(alloc: Global) -> Result<Command<'a>, AllocError>
         "capacity",
         "How many items the node holds at most; 1024 where it is left out",
     );
-    Command::new(alloc, "node")
+    let node = Command::new(alloc, "node")
         .about("Serves a memcached node that is empty at first")
-        .after_help(NODE_NOTES)
-        .arg(listen_option(alloc))?
-        .arg(capacity)?
-        .arg(clients_option(alloc))?
-        .arg(turns_option(alloc))
+        .after_help(NODE_NOTES);
+    let node = with_option(Ok(node), listen_option(alloc));
+    let node = with_option(node, capacity);
+    let node = with_option(node, clients_option(alloc));
+    with_option(node, turns_option(alloc))
 }
 
 /// The command `proxy`.
@@ -100,14 +100,14 @@ pub fn proxy_command<'a>(alloc: Global) -> Result<Command<'a>, AllocError>
         "room",
         "How many requests may be under way at once; 64 where it is left out",
     );
-    Command::new(alloc, "proxy")
+    let proxy = Command::new(alloc, "proxy")
         .about("Serves a proxy that migrates the pool of a configuration")
-        .after_help(PROXY_NOTES)
-        .arg(config_option(alloc))?
-        .arg(listen_option(alloc))?
-        .arg(room)?
-        .arg(clients_option(alloc))?
-        .arg(turns_option(alloc))
+        .after_help(PROXY_NOTES);
+    let proxy = with_option(Ok(proxy), config_option(alloc));
+    let proxy = with_option(proxy, listen_option(alloc));
+    let proxy = with_option(proxy, room);
+    let proxy = with_option(proxy, clients_option(alloc));
+    with_option(proxy, turns_option(alloc))
 }
 
 /// The values of the command `node`, where each of them was found or is the usual one.

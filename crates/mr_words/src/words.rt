@@ -1,7 +1,7 @@
 //! The words of the command line.
-ghost use Rattle.std.specs.Prelude.{◌≡◌, None, false, map, IfOk, IfSome, IfNone, option_map};
-ghost use Rattle.clap.specs.Words.{app_of, found_of, rows_of, rule_of, subcommand_rows_of};
-ghost use Rattle.mr_words.specs.Command.{file_app, word_rule, plan_app, timeline_app, run_app, check_app, explain_app, program_app};
+ghost use Rattle.std.specs.Prelude.{◌≡◌, None, false, map, IfOk, IsOkAnd, IfSome, IfNone, option_map};
+ghost use Rattle.clap.specs.Words.{AddsSubcommand, app_of, found_of, rows_of, rule_of, subcommand_rows_of};
+ghost use Rattle.mr_words.specs.Command.{at_rule, file_app, word_rule, plan_app, timeline_app, run_app, check_app, explain_app, program_app};
 ghost use Rattle.mr_faults.specs.Explain.{told_by};
 ghost use Rattle.mr_words.specs.Words.{HasPlan, HasExplanation, ReadsWords, SaysPlainly, ReadsAs};
 ghost use Rattle.mr_words.specs.WordSteps.{IsFaultOf, GivesReadings, GivesTimeline, GivesCommand};
@@ -101,9 +101,10 @@ impl From<Error> for WordsFault {
     }
 }
 
-/// The command `plan`.
-fn plan_command<'a>(alloc: Global) -> Result<Command<'a>, AllocError>
-    ensures { IfOk result (λ command. app_of command ≡ plan_app) }
+/// The option that says when the request of a plan arrives.
+fn at_option<'a>(alloc: Global) -> Arg<'a>
+    ensures rule { rule_of result ≡ at_rule }
+    ensures local { result.global ≡ false }
 {
     let at = option(
         alloc,
@@ -111,11 +112,18 @@ fn plan_command<'a>(alloc: Global) -> Result<Command<'a>, AllocError>
         "seconds",
         "When the request arrives, in seconds since the epoch",
     );
+    at.required(true).value_parser(value_parser!(u64))
+}
+
+/// The command `plan`.
+fn plan_command<'a>(alloc: Global) -> Result<Command<'a>, AllocError>
+    ensures { IfOk result (λ command. app_of command ≡ plan_app) }
+{
     Command::new(alloc, "plan")
         .about("Prints where the request on the standard input goes")
         .after_help(PLAN_NOTES)
         .arg(config_option(alloc))?
-        .arg(at.required(true).value_parser(value_parser!(u64)))
+        .arg(at_option(alloc))
 }
 
 /// The command `timeline`.
@@ -195,20 +203,30 @@ fn explain_command<'a>(alloc: Global) -> Result<Command<'a>, AllocError>
         .arg(number.value_parser(value_parser!(u64)))
 }
 
+/// A program with one more command, where there was memory for both.
+fn with_command<'a>(
+    program: Result<Command<'a>, AllocError>,
+    command: Result<Command<'a>, AllocError>,
+) -> Result<Command<'a>, AllocError>
+    ensures { IfOk result (λ whole. IsOkAnd program.entry (λ old. IsOkAnd command.entry (λ made. AddsSubcommand old made whole))) }
+{
+    let command = command?;
+    program?.subcommand(command)
+}
+
 /// The program with its commands. Its words begin with the command.
 fn program<'a>(alloc: Global) -> Result<Command<'a>, AllocError>
     ensures { IfOk result (λ command. app_of command ≡ program_app) }
 {
-    let program = Command::new(alloc, "migctl")
-        .bin_name("migctl")?
-        .about("Plans the migration of a memcached pool")
-        .subcommand(plan_command(alloc)?)?
-        .subcommand(timeline_command(alloc)?)?
-        .subcommand(run_command(alloc)?)?
-        .subcommand(check_command(alloc)?)?
-        .subcommand(node_command(alloc)?)?
-        .subcommand(proxy_command(alloc)?)?
-        .subcommand(explain_command(alloc)?)?;
+    let named = Command::new(alloc, "migctl").bin_name("migctl")?;
+    let program = Ok(named.about("Plans the migration of a memcached pool"));
+    let program = with_command(program, plan_command(alloc));
+    let program = with_command(program, timeline_command(alloc));
+    let program = with_command(program, run_command(alloc));
+    let program = with_command(program, check_command(alloc));
+    let program = with_command(program, node_command(alloc));
+    let program = with_command(program, proxy_command(alloc));
+    let program = with_command(program, explain_command(alloc))?;
     Ok(
         program
             .no_binary_name(true)
