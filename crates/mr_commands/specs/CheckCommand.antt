@@ -1,7 +1,7 @@
 -- What the command `check` does.
 use Rattle.std.specs.Prelude.{◌≡◌, ℕ, List, Option, Result}
-use Rattle.mr_plan.specs.Transcripts.{IsCheckOf, RefusesCheck}
-use Rattle.mr_plan.specs.declared.check.Checked.{Checked}
+use Rattle.mr_transcripts.specs.Transcripts.{IsCheckOf, RefusesCheck}
+use Rattle.mr_transcripts.specs.declared.check.Checked.{Checked}
 use Rattle.mr_commands.specs.CheckText.{check_text, end_of}
 use Rattle.mr_commands.specs.Devices.{Devices}
 use Rattle.mr_commands.specs.GivenText.{PrintsOf}

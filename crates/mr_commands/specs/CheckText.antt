@@ -2,9 +2,9 @@
 use Rattle.std.specs.Prelude.{ℕ, List, ◌++◌, Bool, true, false, codes, decimal}
 use Rattle.mr_history.specs.declared.op_id.OpId.{OpId}
 use Rattle.mr_world.specs.declared.premises.Premises.{Premises}
-use Rattle.mr_plan.specs.declared.check.Checked.{Checked}
-use Rattle.mr_plan.specs.declared.check.Outcome.{Outcome}
-use Rattle.mr_plan.specs.declared.check.Outcome.TheVariants.{EventRefused, NotesDiffer, HistoryDiffers, PremisesDiffer, VerdictDiffers, PremiseFalse, NotSafe, Accepted}
+use Rattle.mr_transcripts.specs.declared.check.Checked.{Checked}
+use Rattle.mr_transcripts.specs.declared.check.Outcome.{Outcome}
+use Rattle.mr_transcripts.specs.declared.check.Outcome.TheVariants.{EventRefused, NotesDiffer, HistoryDiffers, PremisesDiffer, VerdictDiffers, PremiseFalse, NotSafe, Accepted}
 use Rattle.mr_shown.specs.declared.verdict.KeptVerdict.{KeptVerdict}
 use Rattle.mr_shown.specs.declared.verdict.KeptVerdict.TheVariants.{Safe, Stale, Invented}
 use Rattle.mr_commands.specs.declared.ended.Ended.{Ended}

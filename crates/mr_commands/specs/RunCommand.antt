@@ -2,7 +2,7 @@
 use Rattle.std.specs.Prelude.{◌≡◌, ◌⊎◌, ℕ, List, ◌++◌, Option, Result, Ok, Err, codes}
 use Rattle.serde_json.specs.View.{view}
 use Rattle.mr_plan.specs.Script.{ScriptView, ReadsScript}
-use Rattle.mr_plan.specs.Transcript.{IsTranscript, RefusesTranscript}
+use Rattle.mr_transcripts.specs.Transcript.{IsTranscript, RefusesTranscript}
 use Rattle.mr_config.specs.declared.error.PlanError.{PlanError}
 use Rattle.mr_commands.specs.Devices.{Devices}
 use Rattle.mr_commands.specs.GivenText.{PrintsOf}

@@ -7,9 +7,9 @@ use crate::ended::Ended;
 use crate::line::push_number;
 use crate::printing::{PrintFault, write_at_once};
 use mr_history::OpId;
-use mr_plan::{Checked, Outcome};
 use mr_shown::KeptVerdict;
 use mr_text::Sink;
+use mr_transcripts::{Checked, Outcome};
 use mr_world::Premises;
 use std::alloc::{AllocError, Global};
 

@@ -24,8 +24,8 @@ use crate::script_text::text_of_play;
 use crate::sources::Sources;
 use crate::timeline::write_timeline;
 use mr_faults::Explanation;
-use mr_plan::check_transcript;
 use mr_text::{Sink, Source};
+use mr_transcripts::check_transcript;
 use mr_words::{PlanValues, TimelineValues};
 use std::alloc::Global;
 

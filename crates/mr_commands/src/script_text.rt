@@ -3,7 +3,8 @@ ghost use Rattle.std.specs.Prelude.{IfOk, IfErr};
 ghost use Rattle.mr_commands.specs.RunCommand.{IsPlayed, IsPlayFault};
 
 use crate::fault::Fault;
-use mr_plan::{read_events, write_transcript};
+use mr_plan::read_events;
+use mr_transcripts::write_transcript;
 use std::alloc::Global;
 
 /// The transcript of the script that the bytes are, with a line end. Refusals are those of the script, then those of its

@@ -1,13 +1,10 @@
-pub mod CheckLemmas
 pub mod EventLemmas
 pub mod HomeLemmas
 pub mod ListLemmas
-pub mod PlayLemmas
 pub mod ReadingLemmas
 pub mod RefusalLemmas
 pub mod ScriptLemmas
 pub mod SetupLemmas
-pub mod ShownLemmas
 pub mod TextLemmas
 pub mod ValueLemmas
 pub mod WholeLemmas

@@ -1,11 +1,9 @@
-pub mod Check
 pub mod EventDraft
 pub mod Events
 pub mod Homes
 pub mod Limits
 pub mod Lists
 pub mod Numbers
-pub mod Play
 pub mod RequestDraft
 pub mod Requests
 pub mod Script
@@ -13,6 +11,4 @@ pub mod ScriptDraft
 pub mod SetupDraft
 pub mod Setups
 pub mod Texts
-pub mod Transcript
-pub mod Transcripts
 pub mod Values

@@ -133,7 +133,7 @@ impl ScriptDraft<'_> {
 
 /// The fleet and the events that a value's keys of a script say. Whether it has other keys is looked at before.
 #[tactic(auto, using(crate::proofs::HomeLemmas::read_as))]
-pub(crate) fn read_parts(alloc: Global, value: &Value) -> Result<(Setup, Vec<Event>), PlanError>
+pub fn read_parts(alloc: Global, value: &Value) -> Result<(Setup, Vec<Event>), PlanError>
     ensures parts { IfOk result (λ parts. script_in (view value.now) ≡ Ok (record { setup = parts.0; events = parts.1.items })) }
     ensures playable { IfOk result (λ parts. IsPlayable parts.0) }
     ensures refused { IfErr result (λ e. RefusesParts (view value.now) e) }
@@ -181,17 +181,9 @@ impl Script {
         self.events.as_slice()
     }
 
-    /// What the script was read from.
-    pub(crate) fn json(&self) -> &Value
-        ensures json { result.now ≡ self.now.json }
-        ensures script { IsScript self.now }
-    {
-        &self.json
-    }
-
     /// The fleet, what happens to it, and the JSON that both were read from, which has no number that isn't whole.
     #[tactic(auto, using(crate::proofs::WholeLemmas::script_whole))]
-    pub(crate) fn into_parts(self) -> (Setup, Vec<Event>, Value)
+    pub fn into_parts(self) -> (Setup, Vec<Event>, Value)
         ensures setup { result.0 ≡ self.setup }
         ensures events { result.1.items ≡ self.events }
         ensures json { result.2 ≡ self.json }

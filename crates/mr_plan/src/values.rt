@@ -67,7 +67,7 @@ fn are_as_many(members: &Map<String, Value>, others: &Map<String, Value>) -> boo
 
 /// Whether both values have the same kind and say the same; the order of an object's members is no matter.
 #[cycle(same)]
-pub(crate) fn is_same(value: &Value, other: &Value) -> bool
+pub fn is_same(value: &Value, other: &Value) -> bool
     ensures { result ≡ is_same (view value.now) (view other.now) }
 {
     match (value, other) {

@@ -8,8 +8,8 @@ mod script;
 mod script_values;
 
 use mr_config::PlanError;
-use mr_plan::{Outcome, check_transcript};
 use mr_pools::{NodeName, Pool};
+use mr_transcripts::{Outcome, check_transcript};
 use std::alloc::{AllocError, Global};
 use std::fmt::Debug;
 use std::process::Abort;

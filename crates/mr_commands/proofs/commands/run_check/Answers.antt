@@ -1,5 +1,5 @@
 use Rattle.std.proofs.Common.{inr, refl}
-use Rattle.mr_plan.specs.Transcripts.{RefusesCheck}
+use Rattle.mr_transcripts.specs.Transcripts.{RefusesCheck}
 use Rattle.mr_commands.proofs.GivenLemmas.{ends_not_given}
 use Rattle.mr_commands.specs.CheckCommand.{MakesCheck}
 use Rattle.mr_commands.specs.CheckText.{check_text, end_of}

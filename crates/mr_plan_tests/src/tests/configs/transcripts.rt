@@ -1,6 +1,7 @@
 //! Transcripts: written by a play, and held against a play of their own events.
 use super::*;
-use mr_plan::{Checked, Outcome, check_transcript, read_events, write_transcript};
+use mr_plan::read_events;
+use mr_transcripts::{Checked, Outcome, check_transcript, write_transcript};
 
 /// One proxy at 999 gets a key that no node has.
 const SCRIPT: &str =

@@ -1,7 +1,7 @@
 //! Bytes that are no JSON, and what of JSON is no matter: the same for configurations, scripts and transcripts.
 use super::*;
 use mr_config::Config;
-use mr_plan::check_transcript;
+use mr_transcripts::check_transcript;
 use std::test::Fail;
 
 /// Asserts what a configuration of these bytes is refused for, and what a script and a transcript are refused for.

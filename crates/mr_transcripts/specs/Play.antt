@@ -6,7 +6,7 @@ use Rattle.mr_world.specs.Steps.{WorldStep}
 use Rattle.mr_world.specs.WorldView.{WorldView}
 use Rattle.mr_world.specs.declared.event.Event.{Event}
 use Rattle.mr_world.specs.declared.note.Note.{Note}
-use Rattle.mr_plan.specs.declared.play.Stop.{Stop}
+use Rattle.mr_transcripts.specs.declared.play.Stop.{Stop}
 
 -- each event is accepted, one after the other, and these are the notes of them
 abbrev pub PlaysTo : WorldView → List Event → List Note → WorldView → Type 0

@@ -1,6 +1,6 @@
 use Rattle.std.proofs.Common.{rules, ◌≡◌, length, ◌∷◌, subst}
-use Rattle.mr_plan.proofs.PlayLemmas.{IsUnderWay, play_ends, play_stops}
-use Rattle.mr_plan.proofs.play.play_events.Goals as goal
+use Rattle.mr_transcripts.proofs.PlayLemmas.{IsUnderWay, play_ends, play_stops}
+use Rattle.mr_transcripts.proofs.play.play_events.Goals as goal
 
 pub returns-in-Err-step : goal.returns-in-Err-step
 returns-in-Err-step c =

@@ -11,15 +11,15 @@ use Rattle.mr_world.specs.WorldView.{WorldView}
 use Rattle.mr_world.specs.declared.event.Event.{Event}
 use Rattle.mr_world.specs.declared.note.Note.{Note}
 use Rattle.mr_world.specs.declared.premises.Premises.{Premises}
-use Rattle.mr_plan.proofs.PlayLemmas.{plays_run}
-use Rattle.mr_plan.specs.Check.{tells, all_hold, is_safe, outcome_of_play, outcome_of, IsChecked, IsVouchedFor}
-use Rattle.mr_plan.specs.Play.{PlaysTo, IsPlay}
+use Rattle.mr_transcripts.proofs.PlayLemmas.{plays_run}
+use Rattle.mr_transcripts.specs.Check.{tells, all_hold, is_safe, outcome_of_play, outcome_of, IsChecked, IsVouchedFor}
+use Rattle.mr_transcripts.specs.Play.{PlaysTo, IsPlay}
 use Rattle.mr_shown.specs.Shown.{entries_json, notes_json, premises_json, verdict_json}
 use Rattle.mr_shown.specs.Verdict.{JudgesSo}
-use Rattle.mr_plan.specs.declared.check.Checked.{Checked}
-use Rattle.mr_plan.specs.declared.check.Outcome.{Outcome}
-use Rattle.mr_plan.specs.declared.check.Outcome.TheVariants.{EventRefused, NotesDiffer, HistoryDiffers, PremisesDiffer, VerdictDiffers, PremiseFalse, NotSafe, Accepted}
-use Rattle.mr_plan.specs.declared.play.Stop.{Stop}
+use Rattle.mr_transcripts.specs.declared.check.Checked.{Checked}
+use Rattle.mr_transcripts.specs.declared.check.Outcome.{Outcome}
+use Rattle.mr_transcripts.specs.declared.check.Outcome.TheVariants.{EventRefused, NotesDiffer, HistoryDiffers, PremisesDiffer, VerdictDiffers, PremiseFalse, NotSafe, Accepted}
+use Rattle.mr_transcripts.specs.declared.play.Stop.{Stop}
 use Rattle.mr_shown.specs.declared.verdict.KeptVerdict.{KeptVerdict}
 use Rattle.mr_shown.specs.declared.verdict.KeptVerdict.TheVariants.{Safe, Stale, Invented}
 

@@ -7,7 +7,7 @@ use Rattle.mr_world.specs.WorldView.{WorldView}
 use Rattle.mr_world.specs.declared.error.WorldError.{WorldError}
 use Rattle.mr_world.specs.declared.event.Event.{Event}
 use Rattle.mr_world.specs.declared.note.Note.{Note}
-use Rattle.mr_plan.specs.Play.{PlaysTo, IsPlay}
+use Rattle.mr_transcripts.specs.Play.{PlaysTo, IsPlay}
 
 pub record IsUnderWay (setup : SetupView) (events : List Event) (notes : List Note) (left : List Event) (world : WorldView) : Type 0 where
   pub start : WorldView

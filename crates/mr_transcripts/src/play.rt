@@ -1,7 +1,7 @@
 //! Playing the events of a script.
 ghost use Rattle.std.specs.Prelude.{◌≡◌, ◌^◌, ◌<◌, length, IfOk, IfErr};
 ghost use Rattle.mr_world.specs.Setup.{CanBeMade};
-ghost use Rattle.mr_plan.specs.Play.{IsPlay};
+ghost use Rattle.mr_transcripts.specs.Play.{IsPlay};
 ghost use Rattle.mr_config.specs.declared.error.PlanError.TheVariants.{OutOfMemory};
 
 use mr_config::PlanError;

@@ -13,14 +13,14 @@ use Rattle.mr_world.specs.declared.event.Event.{Event}
 use Rattle.mr_world.specs.declared.note.Note.{Note}
 use Rattle.mr_world.specs.declared.premises.Premises.{Premises}
 use Rattle.mr_config.specs.Fields.{Text}
-use Rattle.mr_plan.specs.Play.{PlaysTo, IsPlay}
+use Rattle.mr_transcripts.specs.Play.{PlaysTo, IsPlay}
 use Rattle.mr_shown.specs.Shown.{entries_json, notes_json, premises_json, verdict_json}
 use Rattle.mr_plan.specs.Values.{is_same}
 use Rattle.mr_shown.specs.Verdict.{JudgesSo}
-use Rattle.mr_plan.specs.declared.check.Checked.{Checked}
-use Rattle.mr_plan.specs.declared.check.Outcome.{Outcome}
-use Rattle.mr_plan.specs.declared.check.Outcome.TheVariants.{EventRefused, NotesDiffer, HistoryDiffers, PremisesDiffer, VerdictDiffers, PremiseFalse, NotSafe, Accepted}
-use Rattle.mr_plan.specs.declared.play.Stop.{Stop}
+use Rattle.mr_transcripts.specs.declared.check.Checked.{Checked}
+use Rattle.mr_transcripts.specs.declared.check.Outcome.{Outcome}
+use Rattle.mr_transcripts.specs.declared.check.Outcome.TheVariants.{EventRefused, NotesDiffer, HistoryDiffers, PremisesDiffer, VerdictDiffers, PremiseFalse, NotSafe, Accepted}
+use Rattle.mr_transcripts.specs.declared.play.Stop.{Stop}
 use Rattle.mr_shown.specs.declared.verdict.KeptVerdict.{KeptVerdict}
 use Rattle.mr_shown.specs.declared.verdict.KeptVerdict.TheVariants.{Safe, Stale, Invented}
 

@@ -10,7 +10,7 @@ use Rattle.mr_world.specs.declared.event.Event.{Event}
 use Rattle.mr_world.specs.declared.note.Note.{Note}
 use Rattle.mr_world.specs.declared.premises.Premises.{Premises}
 use Rattle.mr_plan.specs.Limits.{most_bytes}
-use Rattle.mr_plan.specs.Play.{IsPlay}
+use Rattle.mr_transcripts.specs.Play.{IsPlay}
 use Rattle.mr_shown.specs.Shown.{entries_json, notes_json, premises_json, verdict_json}
 use Rattle.mr_shown.specs.Verdict.{JudgesSo}
 use Rattle.mr_config.specs.declared.error.PlanError.{PlanError}

@@ -21,7 +21,7 @@ use Rattle.mr_world.specs.declared.note.Note.{Note}
 use Rattle.mr_world.specs.declared.note.Note.TheVariants.{Nothing, Issued, Performed, Waiting, Answered, Stranger}
 use Rattle.mr_world.specs.declared.premises.Premises.{Premises}
 use Rattle.mr_shown.specs.Shown.{bytes_json, request_json, item_json, reply_json, author_json, entry_json, entries_json, note_json, notes_json, premises_json, verdict_json}
-use Rattle.mr_plan.specs.Transcript.{with_outcome}
+use Rattle.mr_transcripts.specs.Transcript.{with_outcome}
 use Rattle.mr_shown.specs.declared.verdict.KeptVerdict.{KeptVerdict}
 use Rattle.mr_shown.specs.declared.verdict.KeptVerdict.TheVariants.{Safe, Stale, Invented}
 

@@ -4,12 +4,11 @@ ghost use Rattle.serde_json.specs.View.{view};
 ghost use Rattle.serde_json.specs.Written.{has_float};
 ghost use Rattle.mr_world.specs.Premises.{premises_of};
 ghost use Rattle.mr_world.specs.Setup.{CanBeMade};
-ghost use Rattle.mr_plan.specs.Transcript.{with_outcome, transcript_text, IsTranscript, RefusesTranscript};
+ghost use Rattle.mr_transcripts.specs.Transcript.{with_outcome, transcript_text, IsTranscript, RefusesTranscript};
 
-use crate::limits::MAX_SCRIPT;
 use crate::play::play_events;
-use crate::script::Script;
 use mr_config::PlanError;
+use mr_plan::{MAX_SCRIPT, Script};
 use mr_shown::{KeptVerdict, history_value, notes_value, premises_value, verdict_value};
 use mr_world::{Event, Note, Setup, World};
 use serde_json::{Value, put};

@@ -1,0 +1,4 @@
+pub mod Check
+pub mod Play
+pub mod Transcript
+pub mod Transcripts

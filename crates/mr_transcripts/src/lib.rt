@@ -1,0 +1,9 @@
+//! The transcripts of plays of scripts, which anyone can check.
+#![tactic(auto)]
+
+mod check;
+mod play;
+mod transcript;
+
+pub use check::{Checked, Outcome, check_transcript};
+pub use transcript::write_transcript;
