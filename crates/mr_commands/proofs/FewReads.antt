@@ -4,7 +4,7 @@ use Rattle.mr_text.specs.Source.{SourceView}
 use Rattle.mr_commands.proofs.RequestLemmas.{few_reads}
 use Rattle.mr_words.proofs.WordLemmas.{one_said}
 use Rattle.mr_commands.specs.Devices.{Devices}
-use Rattle.mr_faults.specs.Explain.{Told, told_by}
+use Rattle.mr_words.specs.Explain.{Told, told_by}
 use Rattle.mr_commands.specs.ExplainCommand.{ExplainGives}
 use Rattle.mr_commands.specs.FirstRequest.{most_reads}
 use Rattle.mr_commands.specs.Given.{IsGiven, IsNotGiven}
@@ -19,7 +19,7 @@ use Rattle.mr_commands.specs.declared.ended.Ended.TheVariants.{Done, NotAccepted
 use Rattle.mr_commands.specs.declared.fault.Fault.{Fault}
 use Rattle.mr_commands.specs.declared.fault.Fault.TheVariants.{Memory, Input, Output, File, Net, Plan, Node, Text}
 use Rattle.mr_commands.specs.Services.{NodeGives, ProxyGives}
-use Rattle.mr_servers.specs.Servers.{ServersView}
+use Rattle.mr_sockets.specs.Servers.{ServersView}
 use Rattle.mr_words.specs.declared.service_words.NodeValues.{NodeValues}
 use Rattle.mr_words.specs.declared.service_words.ProxyValues.{ProxyValues}
 use Rattle.mr_words.specs.declared.words.PlanValues.{PlanValues}

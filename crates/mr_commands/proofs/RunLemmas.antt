@@ -18,14 +18,14 @@ use Rattle.mr_words.specs.declared.words.Wanted.{Wanted}
 use Rattle.mr_words.specs.declared.words.Wanted.TheVariants as wanted
 use Rattle.mr_commands.specs.ConfigFile.{LoadsConfig}
 use Rattle.mr_commands.specs.Devices.{Devices, devices, IsTold, Tells, NoneFailed}
-use Rattle.mr_faults.specs.Explain.{Told, told_by}
+use Rattle.mr_words.specs.Explain.{Told, told_by}
 use Rattle.mr_commands.specs.ExplainCommand.{WritesExplanation}
 use Rattle.mr_commands.specs.PlanCommand.{WritesPlan}
 use Rattle.mr_commands.specs.TimelineCommand.{WritesTimeline}
 use Rattle.mr_commands.specs.Run.{Gives, EndsWith, RunsCommand, Runs}
 use Rattle.mr_commands.specs.Services.{EndsService, NodeGives, ProxyGives, RunsService}
-use Rattle.mr_servers.specs.Servers.{Asked, IsOneService, ServersView, clients_of, listen_of}
-use Rattle.mr_servers.specs.declared.fault.OpenFault.{OpenFault}
+use Rattle.mr_sockets.specs.Servers.{Asked, IsOneService, ServersView, clients_of, listen_of}
+use Rattle.mr_sockets.specs.declared.fault.OpenFault.{OpenFault}
 use Rattle.mr_commands.specs.Fault.{fault_line, readings_line}
 use Rattle.mr_commands.specs.Sources.{SourcesView}
 use Rattle.mr_words.specs.Words.{Say, SayBadReadings, SayNothing, path_in}

@@ -3,7 +3,7 @@ use Rattle.std.specs.Prelude.{◌≡◌, ℕ, List, ◌++◌, Result, Ok, Err, c
 use Rattle.mr_text.specs.Sink.{IsOneWrite}
 use Rattle.mr_text.specs.declared.error.WriteFault.{WriteFault}
 use Rattle.mr_commands.specs.Devices.{Devices}
-use Rattle.mr_faults.specs.Explain.{Told, heading_line}
+use Rattle.mr_words.specs.Explain.{Told, heading_line}
 use Rattle.mr_commands.specs.declared.ended.Ended.{Ended}
 use Rattle.mr_commands.specs.declared.ended.Ended.TheVariants.{Done, NotAccepted, Faulted}
 use Rattle.mr_commands.specs.declared.fault.Fault.{Fault}

@@ -2,7 +2,7 @@
 use Rattle.std.specs.Prelude.{◌≡◌, ℕ, ◌+◌, ◌≤◌, ◌⊎◌, List, Option, Some, None, Result, Ok, Err}
 use Rattle.mr_commands.specs.CheckCommand.{CheckGives}
 use Rattle.mr_commands.specs.Devices.{Devices, Tells}
-use Rattle.mr_faults.specs.Explain.{told_by}
+use Rattle.mr_words.specs.Explain.{told_by}
 use Rattle.mr_commands.specs.ExplainCommand.{ExplainGives}
 use Rattle.mr_commands.specs.Fault.{fault_line, readings_line}
 use Rattle.mr_commands.specs.FirstRequest.{most_reads}
@@ -16,7 +16,7 @@ use Rattle.mr_commands.specs.declared.ended.Ended.{Ended}
 use Rattle.mr_commands.specs.declared.ended.Ended.TheVariants.{Done, NotAccepted, Faulted}
 use Rattle.mr_commands.specs.declared.fault.Fault.{Fault}
 use Rattle.mr_commands.specs.declared.fault.Fault.TheVariants.{Memory}
-use Rattle.mr_servers.specs.Servers.{ServersView}
+use Rattle.mr_sockets.specs.Servers.{ServersView}
 use Rattle.mr_words.specs.declared.words.Wanted.{Wanted}
 use Rattle.mr_words.specs.declared.words.Wanted.TheVariants.{Plan, Timeline, Run, Check, Node, Proxy, Explain}
 

@@ -3,8 +3,8 @@ use Rattle.std.specs.Prelude.{◌≡◌, ◌==◌, ◌⊎◌, ℕ, List, ◌++�
 use Rattle.mr_config.specs.Config.{ConfigView}
 use Rattle.mr_node.specs.Recency.{CacheView, IsNewCache}
 use Rattle.mr_proxy.specs.ProxyView.{fresh_proxy}
-use Rattle.mr_servers.specs.Servers.{Asked, NodeAt, ProxyAt, ServersView, IsOneService, listen_of, clients_of}
-use Rattle.mr_servers.specs.declared.fault.OpenFault.{OpenFault}
+use Rattle.mr_sockets.specs.Servers.{Asked, NodeAt, ProxyAt, ServersView, IsOneService, listen_of, clients_of}
+use Rattle.mr_sockets.specs.declared.fault.OpenFault.{OpenFault}
 use Rattle.mr_text.specs.Sink.{SinkView, IsOneWrite}
 use Rattle.mr_text.specs.declared.error.WriteFault.{WriteFault}
 use Rattle.mr_commands.specs.ConfigFile.{LoadsConfig}

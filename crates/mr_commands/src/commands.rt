@@ -3,7 +3,7 @@ ghost use Rattle.mr_text.specs.Source.{SourceView};
 ghost use Rattle.mr_text.specs.Sink.{SinkView};
 ghost use Rattle.mr_commands.specs.CheckCommand.{CheckGives};
 ghost use Rattle.mr_commands.specs.Devices.{devices};
-ghost use Rattle.mr_faults.specs.Explain.{told_by};
+ghost use Rattle.mr_words.specs.Explain.{told_by};
 ghost use Rattle.mr_commands.specs.ExplainCommand.{ExplainGives};
 ghost use Rattle.mr_words.specs.Words.{path_in};
 ghost use Rattle.mr_commands.specs.PlanCommand.{PlanGives};
@@ -23,10 +23,9 @@ use crate::printing::{PrintFault, write_at_once};
 use crate::script_text::text_of_play;
 use crate::sources::Sources;
 use crate::timeline::write_timeline;
-use mr_faults::Explanation;
 use mr_text::{Sink, Source};
 use mr_transcripts::check_transcript;
-use mr_words::{PlanValues, TimelineValues};
+use mr_words::{Explanation, PlanValues, TimelineValues};
 use std::alloc::Global;
 
 /// Writes the plan of the first request of the input.

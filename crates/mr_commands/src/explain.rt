@@ -1,13 +1,13 @@
 //! What a fault's line means.
 ghost use Rattle.std.specs.Prelude.{◌≡◌, ◌++◌, IfOk, OnOk, IsErrOf};
-ghost use Rattle.mr_faults.specs.Explain.{told_by, heading_line};
+ghost use Rattle.mr_words.specs.Explain.{told_by, heading_line};
 ghost use Rattle.mr_commands.specs.ExplainCommand.{explanation_text};
 ghost use Rattle.mr_commands.specs.Printing.{WritesAtOnce};
 
 use crate::line::push_number;
 use crate::printing::{PrintFault, write_at_once};
-use mr_faults::Explanation;
 use mr_text::Sink;
+use mr_words::Explanation;
 use std::alloc::{AllocError, Global};
 
 /// Adds the line that names a refusal, as the fault's line does.

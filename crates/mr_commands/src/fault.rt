@@ -2,9 +2,9 @@
 ghost use Rattle.std.specs.Prelude.{◌≡◌};
 
 use mr_config::PlanError;
-use mr_faults::{node_line, plan_line, text_line};
 use mr_node::NodeError;
 use mr_text::{Sink, TextError};
+use mr_words::{node_line, plan_line, text_line};
 use thiserror::Error;
 
 /// Why a command stopped. Its text says it without what is printed around it.

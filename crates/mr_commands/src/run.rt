@@ -12,7 +12,7 @@ use crate::ended::Ended;
 use crate::fault::Fault;
 use crate::services::{run_node, run_proxy};
 use crate::sources::Sources;
-use mr_servers::HostServers;
+use mr_sockets::HostServers;
 use mr_text::{Sink, Source};
 use mr_words::{Wanted, WordsFault, read_words};
 use std::alloc::Global;

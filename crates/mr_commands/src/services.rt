@@ -1,6 +1,6 @@
 //! The commands that serve clients: what is asked of the machine, and what is printed once all clients have ended.
 ghost use Rattle.std.specs.Prelude.{◌≡◌, IfOk};
-ghost use Rattle.mr_servers.specs.Servers.{ServersView};
+ghost use Rattle.mr_sockets.specs.Servers.{ServersView};
 ghost use Rattle.mr_text.specs.Sink.{SinkView};
 ghost use Rattle.mr_text.specs.Source.{SourceView};
 ghost use Rattle.mr_commands.specs.Devices.{devices};
@@ -16,7 +16,7 @@ use crate::printing::{PrintFault, write_at_once};
 use crate::sources::Sources;
 use mr_node::CacheNode;
 use mr_proxy::ProxyCore;
-use mr_servers::{HostServers, OpenFault};
+use mr_sockets::{HostServers, OpenFault};
 use mr_text::Sink;
 use mr_words::{NodeValues, ProxyValues};
 use std::alloc::{AllocError, Global};

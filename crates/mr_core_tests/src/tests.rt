@@ -6,6 +6,7 @@ mod node;
 mod phases;
 mod pools;
 mod proxy;
+mod text;
 
 use mr_pools::{NamedHash, NodeName, Pool, PoolError, Routing};
 use mr_test_parts::add_repeated;

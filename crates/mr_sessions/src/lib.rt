@@ -1,11 +1,17 @@
-//! One client's session at a proxy that many threads share.
+//! The two sides of a proxy that many threads share: one client's session, and the links that carry its legs to nodes over
+//! streams.
 #![tactic(auto)]
 
+mod asking;
 mod carrying;
+mod exchange;
 mod faults;
+mod node_link;
+mod reading;
 mod served;
 mod serving;
 mod till;
 
+pub use node_link::NodeLink;
 pub use served::Served;
 pub use serving::serve_client;

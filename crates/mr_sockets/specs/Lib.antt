@@ -1,4 +1,6 @@
 pub mod Address
-pub mod Listener
+pub mod Asks
 pub mod Carriers
+pub mod Listener
+pub mod Servers
 pub mod SocketCarrier

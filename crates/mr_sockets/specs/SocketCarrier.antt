@@ -7,8 +7,8 @@ use Rattle.mr_text.specs.Sink.{SinkView}
 use Rattle.mr_text.specs.Source.{SourceView}
 use Rattle.mr_workers.specs.declared.error.WorkerError.{WorkerError}
 use Rattle.mr_workers.specs.declared.error.WorkerError.TheVariants.{LinkBroken}
-use Rattle.mr_links.specs.Exchange.{wire}
-use Rattle.mr_links.specs.Link.{LinkView, HasCarried, Breaks}
+use Rattle.mr_sessions.specs.Exchange.{wire}
+use Rattle.mr_sessions.specs.Link.{LinkView, HasCarried, Breaks}
 use Rattle.mr_sockets.specs.Address.{HasAddress}
 
 -- a carrier as contracts see it

@@ -6,9 +6,9 @@ ghost use Rattle.mr_sockets.specs.SocketCarrier.{fresh_carrier, IsNewLink, Carri
 
 use crate::address::{address_of, host_to_reach};
 use mr_join::LegReply;
-use mr_links::NodeLink;
 use mr_pools::NodeName;
 use mr_proxy::LegSheet;
+use mr_sessions::NodeLink;
 use mr_text::{GhostCount, OverReader, OverWriter, Sink, Source};
 use mr_workers::{Carrier, WorkerError};
 use std::alloc::{AllocError, Global};

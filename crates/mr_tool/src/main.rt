@@ -2,7 +2,7 @@
 #![tactic(auto)]
 
 use mr_commands::{HostFiles, run_arguments};
-use mr_servers::HostServers;
+use mr_sockets::HostServers;
 use mr_text::{OverReader, OverWriter};
 use std::env;
 use std::process::ExitCode;

@@ -1,3 +1,4 @@
+pub mod TableLemmas
 pub mod CommandLemmas
 pub mod ListLemmas
 pub mod PlainWalk

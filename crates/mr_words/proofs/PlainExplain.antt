@@ -10,11 +10,11 @@ use Rattle.clap.specs.Walk.{Held, Walk, walk, walked, walk_from, nothing_held, s
 use Rattle.clap.specs.Words.{Row, Text, fault_of, subcommand_of}
 use Rattle.mr_words.proofs.PlainPlan.{number_word, number_taken, value_taken}
 use Rattle.mr_words.proofs.PlainWalk.{IsPlainWord, plain_word, word_step, no_word_left}
-use Rattle.mr_faults.proofs.TableLemmas.{table_complete}
+use Rattle.mr_words.proofs.TableLemmas.{table_complete}
 use Rattle.mr_words.specs.Command.{numbers, program_app, explain_app}
-use Rattle.mr_faults.specs.Explain.{HasRefusal, Told, explanation_of, told_by}
+use Rattle.mr_words.specs.Explain.{HasRefusal, Told, explanation_of, told_by}
 use Rattle.mr_words.specs.Words.{IsNoOption, Say, SaysExplain}
-use Rattle.mr_faults.specs.declared.explain.Explanation.{Explanation}
+use Rattle.mr_words.specs.declared.explain.Explanation.{Explanation}
 use Rattle.mr_words.specs.declared.words.Wanted.TheVariants.{Explain}
 
 -- the command `explain` as it is built

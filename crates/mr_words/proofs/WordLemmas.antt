@@ -10,9 +10,9 @@ use Rattle.clap.specs.Words.{Row, Text, first_of, one_of, subcommand_rows_of}
 use Rattle.clap.specs.declared.parser.matches.ArgMatches.{ArgMatches}
 use Rattle.clap.specs.declared.parser.matches.ArgMatches.TheViews.{out-ArgMatches, out-SubCommand}
 use Rattle.clap.specs.declared.parser.matches.SubCommand.{SubCommand}
-use Rattle.mr_faults.proofs.TableLemmas.{table_complete}
-use Rattle.mr_faults.specs.Explain.{Told, explanation_of, told_by}
-use Rattle.mr_faults.specs.declared.explain.Explanation.{Explanation}
+use Rattle.mr_words.proofs.TableLemmas.{table_complete}
+use Rattle.mr_words.specs.Explain.{Told, explanation_of, told_by}
+use Rattle.mr_words.specs.declared.explain.Explanation.{Explanation}
 use Rattle.mr_words.specs.Words.{AgreesWith, AreNumberWords, AreReadings, FindsBadReadings, FindsCommand, Found, HasBadReadings, HasExplanation, HasNode, HasPlan, HasProxy, HasTimeline, IsNumberList, IsNumberOr, IsNumberWord, Say, SayBadReadings, readings_in}
 use Rattle.mr_words.specs.declared.service_words.NodeValues.{NodeValues}
 use Rattle.mr_words.specs.declared.service_words.ProxyValues.{ProxyValues}

@@ -1,3 +1,5 @@
+pub mod Lines
+pub mod Explain
 pub mod Command
 pub mod WordSteps
 pub mod Words

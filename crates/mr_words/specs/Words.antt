@@ -5,7 +5,7 @@ use Rattle.std.specs.List.{slice_split}
 use Rattle.std.specs.Str.Parse.{IsNumeral, digits_value, without_leading_plus}
 use Rattle.clap.specs.Words.{Row, Text, fault_of, first_of, one_of, subcommand_of}
 use Rattle.mr_words.specs.Command.{program_app}
-use Rattle.mr_faults.specs.Explain.{Told, told_by, explanation_of}
+use Rattle.mr_words.specs.Explain.{Told, told_by, explanation_of}
 use Rattle.mr_words.specs.declared.service_words.NodeValues.{NodeValues}
 use Rattle.mr_words.specs.declared.service_words.ProxyValues.{ProxyValues}
 use Rattle.mr_words.specs.declared.words.PlanValues.{PlanValues}

@@ -2,10 +2,11 @@
 ghost use Rattle.std.specs.Prelude.{◌≡◌, None, false, map, IfOk, IsOkAnd, IfSome, IfNone, option_map};
 ghost use Rattle.clap.specs.Words.{AddsSubcommand, app_of, found_of, rows_of, rule_of, subcommand_rows_of};
 ghost use Rattle.mr_words.specs.Command.{at_rule, file_app, word_rule, plan_app, timeline_app, run_app, check_app, explain_app, program_app};
-ghost use Rattle.mr_faults.specs.Explain.{told_by};
+ghost use Rattle.mr_words.specs.Explain.{told_by};
 ghost use Rattle.mr_words.specs.Words.{HasPlan, HasExplanation, ReadsWords, SaysPlainly, ReadsAs};
 ghost use Rattle.mr_words.specs.WordSteps.{IsFaultOf, GivesReadings, GivesTimeline, GivesCommand};
 
+use crate::explain::{Explanation, find_explanation};
 use crate::help::{CHECK_NOTES, EXPLAIN_NOTES, PLAN_NOTES, RUN_NOTES, TIMELINE_NOTES};
 use crate::options::{config_option, option};
 use crate::readings::numbers_in;
@@ -14,7 +15,6 @@ use crate::service_words::{
 };
 use clap::error::ErrorKind;
 use clap::{Arg, ArgAction, ArgMatches, Command, Error, value_parser};
-use mr_faults::{Explanation, find_explanation};
 use std::alloc::{AllocError, Global};
 
 /// The values of the command `plan`.

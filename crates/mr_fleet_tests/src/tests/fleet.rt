@@ -7,11 +7,12 @@ mod phases;
 ghost use Rattle.std.specs.Prelude.{IfOk};
 ghost use Rattle.mr_proxy.specs.ProxyView.{IsFresh};
 
+use super::{holds, pool};
 use mr_clock::{Clock, FixedClock};
 use mr_fleet::{FleetClient, FleetEnd, FleetProxy, run_fleet};
 use mr_node::{CacheNode, Ended};
 use mr_phases::Schedule;
-use mr_pools::{NamedHash, NodeName, Pool, Routing};
+use mr_pools::{NamedHash, Routing};
 use mr_proxy::ProxyCore;
 use mr_text::{Sink, Source};
 use mr_workers::{Carrier, Closed, Gate, LocalCarrier, RecordedProxy, SharedNode};
@@ -20,19 +21,6 @@ use std::process::Abort;
 use std::sync::Wait;
 use std::test::Fail;
 use std::thread::Threads;
-
-/// Asserts that something holds.
-fn holds(rt: &impl Abort, fact: bool) {
-    assert!(rt; fact);
-}
-
-fn pool(alloc: Global, names: &[&[u8]]) -> Result<Pool, AllocError> {
-    let mut list = Vec::new(alloc);
-    for name in names {
-        list.push(NodeName::new(alloc, name).map_err(|_| AllocError)?)?;
-    }
-    Pool::new(list).map_err(|_| AllocError)
-}
 
 /// The proxy of this number. All that it is made of is allowed, so it fails for want of memory alone; likewise below.
 fn core_of(alloc: Global, number: u32) -> Result<ProxyCore, AllocError>

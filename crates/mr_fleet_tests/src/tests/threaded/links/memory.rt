@@ -1,0 +1,38 @@
+//! Refused memory. In the gate no allocation is refused; `refused-memory` refuses each in turn.
+use super::{BY_BYTES, Came, Told, link};
+use crate::tests::threaded::devices::Reads;
+use mr_workers::{Carrier, WorkerError};
+use std::alloc::Global;
+use std::test::Fail;
+
+/// What a get and a delete come to, whose answers come a byte at a time; nothing where memory was refused before them.
+fn came(alloc: Global) -> Option<[Came; 2]> {
+    let get = Told::Get.sheet(alloc).ok()?;
+    let delete = Told::Delete.sheet(alloc).ok()?;
+    let kept = Vec::with_capacity(alloc, 64).ok()?;
+    let input = b"VALUE k 5 1\r\nv\r\nEND\r\nDELETED\r\n";
+    let reads = Reads::of(input.len());
+    let mut link = link(alloc, input, &reads, kept, BY_BYTES);
+    let first = Came::of(&link.carry(&get));
+    let second = Came::of(&link.carry(&delete));
+    Some([first, second])
+}
+
+/// Whether both legs are answered, or the one whose memory was refused says so and breaks the link.
+fn is_told(came: [Came; 2]) -> bool {
+    came == [Came::Hit, Came::Deleted]
+        || came
+            == [
+                Came::Fault(WorkerError::OutOfMemory),
+                Came::Fault(WorkerError::LinkBroken),
+            ]
+        || came == [Came::Hit, Came::Fault(WorkerError::OutOfMemory)]
+}
+
+#[test]
+fn refused_memory_breaks_a_link(rt: HostRuntime) -> Result<(), Fail> {
+    match came(rt.alloc()) {
+        Some(came) if !is_told(came) => Err(Fail::from("another fault")),
+        _ => Ok(()),
+    }
+}

@@ -1,0 +1,145 @@
+//! How much a book has room for.
+ghost use Rattle.std.specs.Prelude.{◌≢◌};
+ghost use Rattle.mr_text.specs.declared.request.Request.{Request};
+
+use super::{NEW, desk_of, issue, issue_op};
+use crate::tests::threaded::broken::Broken;
+use crate::tests::threaded::{core_of, delete_of, get_of, holds};
+use mr_clock::FixedClock;
+use mr_history::OpId;
+use mr_proxy::{Issued, Leg, Taken};
+use mr_text::Request;
+use mr_workers::{Carried, Desk, DeskError, RecordedProxy, RecordedState, Share};
+use std::alloc::{AllocError, Global};
+use std::process::Abort;
+use std::sync::Wait;
+use std::test::Fail;
+
+/// Asserts that a request is refused, since the book is full.
+fn is_refused(
+    rt: &(impl Abort + Wait),
+    desk: &RecordedProxy<Broken>,
+    share: &mut Share,
+    request: Request,
+)
+    requires { request ≢ Request.Quit }
+{
+    let refused = issue(rt, desk, share, &request).err();
+    holds(rt, refused == Some(DeskError::BookFull));
+}
+
+/// Asserts that a get is refused, since the book is full, and that the share stays.
+fn is_full(
+    rt: &(impl Abort + Wait),
+    alloc: Global,
+    desk: &RecordedProxy<Broken>,
+) -> Result<(), Fail> {
+    let mut share = desk.share();
+    is_refused(rt, desk, &mut share, get_of(alloc, &[b"k"])?);
+    holds(rt, share.count() == 0);
+    Ok(())
+}
+
+/// Asserts that a request is given up.
+fn is_given_up(rt: &(impl Abort + Wait), desk: &RecordedProxy<Broken>, op: OpId) {
+    let given_up = desk.give_up(rt, op);
+    holds(rt, given_up.is_some_and(|answer| answer.given_up()));
+}
+
+#[test]
+fn room_that_a_request_did_not_use_is_free_again(rt: HostRuntime) -> Result<(), Fail> {
+    let alloc = rt.alloc();
+    let desk = desk_of(alloc, 4)?;
+    let mut share = desk.share();
+    let op = issue_op(&rt, &desk, &mut share, delete_of(alloc, b"k")?)?;
+    is_full(&rt, alloc, &desk)?;
+    is_given_up(&rt, &desk, op);
+    issue_op(&rt, &desk, &mut share, get_of(alloc, &[b"k"])?)?;
+    is_full(&rt, alloc, &desk)?;
+    holds(&rt, share.count() == 2);
+    Ok(())
+}
+
+#[test]
+fn a_request_may_fill_the_book(rt: HostRuntime) -> Result<(), Fail> {
+    let alloc = rt.alloc();
+    let desk = desk_of(alloc, 3)?;
+    let mut share = desk.share();
+    issue_op(&rt, &desk, &mut share, delete_of(alloc, b"k")?)?;
+    is_full(&rt, alloc, &desk)
+}
+
+#[test]
+fn one_get_fills_a_book_of_two_steps(rt: HostRuntime) -> Result<(), Fail> {
+    let alloc = rt.alloc();
+    let desk = desk_of(alloc, 2)?;
+    let mut share = desk.share();
+    is_refused(&rt, &desk, &mut share, delete_of(alloc, b"k")?);
+    issue_op(&rt, &desk, &mut share, get_of(alloc, &[b"k"])?)?;
+    is_full(&rt, alloc, &desk)
+}
+
+/// Whether what came back is the answer to its request.
+fn is_answer(
+    state: &mut RecordedState<Broken>,
+    carried: &Carried<Broken>,
+) -> Result<bool, AllocError> {
+    let taken = state.take(carried)?;
+    Ok(matches!(taken, Taken::Answered(_)))
+}
+
+/// Whether what came back is a stranger.
+fn is_stranger(
+    state: &mut RecordedState<Broken>,
+    carried: &Carried<Broken>,
+) -> Result<bool, AllocError> {
+    let taken = state.take(carried)?;
+    Ok(matches!(taken, Taken::Stranger(_)))
+}
+
+/// Takes what came of the legs of a get, each twice: the second is a stranger.
+fn take_twice(
+    rt: &impl Abort,
+    state: &mut RecordedState<Broken>,
+    legs: Vec<Leg>,
+) -> Result<(), AllocError> {
+    for leg in legs {
+        let carried = Carried::of(&mut Broken::new(), leg);
+        holds(rt, is_answer(state, &carried)?);
+        holds(rt, is_stranger(state, &carried)?);
+    }
+    Ok(())
+}
+
+/// Asserts that a book has the one answer of its one request, in two steps.
+fn has_one_answer(
+    rt: &impl Abort,
+    alloc: Global,
+    state: RecordedState<Broken>,
+    op: OpId,
+) -> Result<(), AllocError> {
+    let answers = state.answers(alloc)?;
+    holds(rt, answers.len() == 1);
+    holds(rt, answers.iter().all(|answer| answer.op() == op));
+    let book = state.into_book();
+    holds(rt, book.steps.len() == 2);
+    holds(rt, book.core.next() == 1);
+    Ok(())
+}
+
+/// Issues the get of `k`.
+fn issue_get(alloc: Global, state: &mut RecordedState<Broken>) -> Result<Issued, Fail> {
+    let mut share = desk_of(alloc, 4)?.share();
+    let get = get_of(alloc, &[b"k"])?;
+    Ok(state.issue(&mut share, &mut FixedClock(1000), &get)?)
+}
+
+#[test]
+fn a_book_gives_its_answers_again(rt: HostRuntime) -> Result<(), Fail> {
+    let alloc = rt.alloc();
+    let mut state = RecordedState::new(alloc, core_of(alloc, &NEW)?, 4);
+    let Issued { op, legs } = issue_get(alloc, &mut state)?;
+    take_twice(&rt, &mut state, legs)?;
+    has_one_answer(&rt, alloc, state, op)?;
+    Ok(())
+}

@@ -1,2 +1,0 @@
-pub mod ExchangeLemmas
-pub mod ReadLemmas

@@ -1,6 +1,0 @@
-pub mod Answering
-pub mod Asking
-pub mod Exchange
-pub mod Link
-pub mod Reading
-pub mod steps

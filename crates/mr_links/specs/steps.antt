@@ -1,3 +1,0 @@
--- What single steps do: definitions that no public clause cites.
-pub mod Exchange
-pub mod Reading

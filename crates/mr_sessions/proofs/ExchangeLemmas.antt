@@ -1,0 +1,58 @@
+-- One request and its reply.
+use Rattle.std.proofs.Common.{◌≡◌, ℕ, List, true, Result, Ok, Err, MatchResult, sym, subst, inl, inr}
+use Rattle.std.specs.Result.{is_ok}
+use Rattle.mr_text.specs.Gathering.{TakesFewCalls}
+use Rattle.mr_text.specs.Sink.{Writes}
+use Rattle.mr_text.specs.declared.error.WriteFault.{WriteFault as Fault}
+use Rattle.mr_text.specs.Sink.{SinkView}
+use Rattle.mr_text.specs.Source.{SourceView}
+use Rattle.mr_text.specs.Stream.{ReaderView}
+use Rattle.mr_text.specs.declared.reply.Reply.{Reply}
+use Rattle.mr_join.specs.declared.leg_reply.LegReply.{LegReply}
+use Rattle.mr_node.specs.declared.command.NodeCommand.{NodeCommand}
+use Rattle.mr_workers.specs.declared.error.WorkerError.{WorkerError}
+use Rattle.mr_workers.specs.declared.error.WorkerError.TheVariants.{LinkBroken, Mismatch, BookFull, BookDiffers, ReadFault, WriteFault, TurnsSpent, OutOfMemory, NoThread}
+use Rattle.mr_sessions.specs.Answering.{IsAnswer}
+use Rattle.mr_sessions.specs.Requesting.{HasAsked, text_for}
+use Rattle.mr_sessions.specs.Exchange.{wire, HasFailed}
+use Rattle.mr_sessions.specs.Reading.{HasNoReply}
+use Rattle.mr_sessions.specs.steps.Exchange.{ExchangeIs}
+use Rattle.mr_sessions.specs.steps.Reading.{ReplyIs}
+
+-- the request was written
+pub was_asked : (command : NodeCommand) (old new : SinkView) (result : Result (Unit {0}) Fault) → Writes (text_for command) old result new
+    → TakesFewCalls (text_for command) 1 old new → is_ok result ≡ true → HasAsked command old new
+was_asked command old new (Ok _) wrote calls is = record { wrote = wrote; calls = calls }
+was_asked command old new (Err _) wrote calls is = cc
+
+module _ (turns : ℕ) (command : NodeCommand) (reader reader' : SourceView) (writer writer' : SinkView) (kept : List ℕ) (replies : ReaderView)
+    (asked : HasAsked command writer writer') where
+  -- a reply came, and it is an answer or none
+  pub answered : (reply : Reply) (result : Result LegReply WorkerError) → ReplyIs turns kept reader (Ok reply) replies reader'
+      → MatchResult result (λ leg. IsAnswer command reply leg) (λ fault. (fault ≡ Mismatch) × ((leg : LegReply) → ¬ IsAnswer command reply leg))
+      → ExchangeIs turns command (wire reader writer kept) result (wire reader' writer' replies.kept)
+  answered reply (Ok leg) came is = record {
+    reply = reply;
+    replied = record { asked = asked; came = came.0; brought = came.1; next = came.2 };
+    answers = is;
+  }
+  answered reply (Err fault) came is =
+      subst (λ (f : WorkerError). HasFailed turns command (wire reader writer kept) (wire reader' writer' replies.kept) f) (sym is.0) (inr (record {
+        reply = reply;
+        after = replies.kept;
+        replied = record { asked = asked; came = came.0; brought = came.1; next = came.2 };
+        other = is.1;
+      }))
+
+  -- no reply came
+  pub unanswered : (fault : WorkerError) → HasNoReply turns kept reader fault reader'
+      → HasFailed turns command (wire reader writer kept) (wire reader' writer' replies.kept) fault
+  unanswered LinkBroken is = (asked, is)
+  unanswered Mismatch is = inl (asked, is)
+  unanswered BookFull is = absurd is
+  unanswered BookDiffers is = absurd is
+  unanswered ReadFault is = (asked, is)
+  unanswered WriteFault is = absurd is
+  unanswered TurnsSpent is = (asked, is)
+  unanswered OutOfMemory is = (asked, is)
+  unanswered NoThread is = absurd is

@@ -1,0 +1,49 @@
+-- A link to a node, and what it does with a leg.
+use Rattle.std.specs.Prelude.{◌≡◌, ℕ, ◌+◌, ◌⊎◌, Bool, true, false, Option, Some, None, Result, Ok, Err}
+use Rattle.mr_join.specs.declared.leg_reply.LegReply.{LegReply}
+use Rattle.mr_node.specs.declared.command.NodeCommand.{NodeCommand}
+use Rattle.mr_proxy.specs.declared.sheet.LegSheet.{LegSheet}
+use Rattle.mr_workers.specs.declared.error.WorkerError.{WorkerError}
+use Rattle.mr_workers.specs.declared.error.WorkerError.TheVariants.{LinkBroken}
+use Rattle.mr_sessions.specs.Exchange.{Wire, HasAnswer, HasFailed}
+
+-- a link as contracts see it
+pub record LinkView : Type 0 where
+  pub wire : Wire
+  -- how many reads it makes at most for one leg
+  pub turns : ℕ
+  -- a fault broke it
+  pub broken : Bool
+  -- how often a leg wasn't carried
+  pub faults : ℕ
+
+-- a link that wasn't broken carried the leg, and isn't broken
+pub record HasCarried (command : NodeCommand) (old : LinkView) (leg : LegReply) (new : LinkView) : Type 0 where
+  pub was_whole : old.broken ≡ false
+  pub answered : HasAnswer old.turns command old.wire new.wire leg
+  pub same_turns : new.turns ≡ old.turns
+  pub is_whole : new.broken ≡ false
+  pub steady : new.faults ≡ old.faults
+
+-- a link that wasn't broken didn't carry the leg, and is broken now
+pub record Breaks (command : NodeCommand) (old : LinkView) (fault : WorkerError) (new : LinkView) : Type 0 where
+  pub was_whole : old.broken ≡ false
+  pub failed : HasFailed old.turns command old.wire new.wire fault
+  pub same_turns : new.turns ≡ old.turns
+  pub is_broken : new.broken ≡ true
+  pub counted : new.faults ≡ old.faults + 1
+
+-- a broken link does nothing but to count
+pub record IsBroken (old : LinkView) (fault : WorkerError) (new : LinkView) : Type 0 where
+  pub was_broken : old.broken ≡ true
+  pub is_link_broken : fault ≡ LinkBroken
+  pub nothing_done : new ≡ record old { faults = old.faults + 1 }
+
+abbrev pub CarryIs : NodeCommand → LinkView → Result LegReply WorkerError → LinkView → Type 0
+CarryIs command old (Ok leg) new = HasCarried command old leg new
+CarryIs command old (Err fault) new = Breaks command old fault new ⊎ IsBroken old fault new
+
+-- the same, where it isn't told which fault there was
+abbrev pub Carries : LinkView → LegSheet → Option LegReply → LinkView → Type 0
+Carries old sheet (Some leg) new = CarryIs sheet.command old (Ok leg) new
+Carries old sheet None new = (fault : WorkerError) × CarryIs sheet.command old (Err fault) new

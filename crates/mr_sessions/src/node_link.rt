@@ -1,0 +1,141 @@
+//! A carrier that reaches its node by a stream.
+ghost use Rattle.std.specs.Prelude.{◌≡◌, ◌+◌, [], false, Some, None, IfOk, MatchResult};
+ghost use Rattle.mr_sessions.specs.Exchange.{wire};
+ghost use Rattle.mr_sessions.specs.Link.{CarryIs, Carries};
+ghost use Rattle.mr_workers.specs.Local.{IsOfItsKind};
+
+use crate::exchange::exchange;
+use mr_join::LegReply;
+use mr_proxy::LegSheet;
+use mr_text::{GhostCount, ReplyReader, Sink, Source};
+use mr_workers::{Carrier, WorkerError};
+use std::alloc::Global;
+use std::marker::Model;
+
+/// A link to one node, which carries one leg at a time: it writes the leg's request, and reads the reply that stands next.
+/// After its first fault it is broken for good, and no more is written or read.
+pub struct NodeLink<S: Source, W: Sink> {
+    reader: S,
+    writer: W,
+    replies: ReplyReader,
+    turns: u64,
+    broken: bool,
+    faults: GhostCount,
+}
+
+impl<S: Source + Drop, W: Sink + Drop> Drop for NodeLink<S, W> {
+    fn drop(self) {
+        let Self {
+            reader: _,
+            writer: _,
+            replies: _,
+            turns: _,
+            broken: _,
+            faults: _,
+        } = self;
+    }
+}
+
+impl<S: Source, W: Sink> Model for NodeLink<S, W> {
+    ghost use Rattle.std.specs.Prelude.{◌≡◌, false};
+    ghost use Rattle.mr_sessions.specs.Exchange.{wire};
+    ghost use Rattle.mr_sessions.specs.Link.{LinkView};
+    ghost use Rattle.mr_sessions.specs.steps.Reading.{IsOpen};
+
+    ghost Value = { LinkView };
+
+    ghost view = { λ l. record {
+      wire = wire (S.told l.reader) (W.told l.writer) l.replies.kept;
+      turns = l.turns;
+      broken = l.broken;
+      faults = l.faults;
+    } };
+
+    ghost invariant = { λ l. l.broken ≡ false → IsOpen l.replies };
+}
+
+impl<S: Source, W: Sink> NodeLink<S, W> {
+    /// A link by this reader and this writer, which carried nothing yet and makes at most `turns` reads for a leg. It takes
+    /// no memory.
+    pub fn new(alloc: Global, reader: S, writer: W, turns: u64) -> NodeLink<S, W>
+        ensures { result ≡ record { wire = wire (S.told reader) (W.told writer) []; turns = turns; broken = false; faults = 0 } }
+    {
+        NodeLink {
+            reader,
+            writer,
+            replies: ReplyReader::new(alloc),
+            turns,
+            broken: false,
+            faults: GhostCount::new(),
+        }
+    }
+
+    /// Whether a fault broke the link.
+    pub fn is_broken(&self) -> bool
+        ensures { result ≡ self.now.broken }
+    {
+        self.broken
+    }
+
+    /// The reader and the writer, given back. What was read and belongs to no reply is lost.
+    pub fn into_parts(self) -> (S, W)
+        ensures reader { S.told result.0 ≡ self.wire.reader }
+        ensures writer { W.told result.1 ≡ self.wire.writer }
+    {
+        let NodeLink {
+            reader,
+            writer,
+            replies: _,
+            turns: _,
+            broken: _,
+            faults: _,
+        } = self;
+        (reader, writer)
+    }
+}
+
+impl<S: Source, W: Sink> Carrier for NodeLink<S, W> {
+    ghost gave = { IsOfItsKind };
+
+    ghost faults = { λ l. l.faults };
+
+    ghost carries = { Carries };
+
+    ghost loses = { λ _. tt };
+
+    /// Carries a leg, and gives the node's reply.
+    ///
+    /// WriteFault and ReadFault where that device failed. LinkBroken where the input ended before the reply or in it, and at
+    /// each call after a fault, which touches neither device. Mismatch where what came is no reply, or no answer to the leg's
+    /// command. TurnsSpent where one more read than `turns` would be needed. OutOfMemory where memory for the reply was
+    /// refused.
+    fn carry(&mut self, sheet: &LegSheet) -> Result<LegReply, WorkerError>
+        ensures gave { IfOk result (λ reply. IsOfItsKind sheet.now reply) }
+        ensures carries { MatchResult result
+            (λ reply. Carries self.old sheet.now (Some reply) self.new)
+            (λ _. Carries self.old sheet.now None self.new) }
+        ensures faults { MatchResult result
+            (λ _. self.new.faults ≡ self.old.faults)
+            (λ _. self.new.faults ≡ self.old.faults + 1) }
+        ensures carried { CarryIs sheet.now.command self.old result self.new }
+    {
+        if self.broken {
+            self.faults.add_one();
+            return Err(WorkerError::LinkBroken);
+        }
+        match exchange(
+            &mut self.reader,
+            &mut self.writer,
+            &mut self.replies,
+            self.turns,
+            &sheet.command,
+        ) {
+            Ok(reply) => Ok(reply),
+            Err(fault) => {
+                self.broken = true;
+                self.faults.add_one();
+                Err(fault)
+            }
+        }
+    }
+}

@@ -1,6 +1,0 @@
-//! The tests of `mr_text`: a crate of their own, so that they are proved over the library and it isn't proved with them
-//! again.
-#![tactic(auto)]
-
-#[cfg(test)]
-mod tests;
