@@ -1,13 +1,14 @@
 -- What the calls of a network come to.
-use Rattle.std.proofs.Common.{◌≡◌, ◌≢◌, ℕ, zero, suc, not, cond, position, bytes_eq, ◌+◌, ◌-◌, ◌^◌, ◌<◌, ◌≤◌, nat_lt, inl, inr, Bool, true, false, List, [], ◌∷◌, ◌++◌, length, map, All, get_or, slice_get, slice_set, slice_index_or, Option, Some, None, if◌then◌else◌, refl, sym, ap, subst, ◌∙◌, arith}
+use Rattle.std.proofs.Common.{◌≡◌, ◌≢◌, ℕ, zero, suc, not, cond, position, bytes_eq, ◌+◌, ◌-◌, ◌^◌, ◌<◌, ◌≤◌, pos, take, nat_lt, inl, inr, Bool, true, false, List, [], ◌∷◌, ◌++◌, length, map, All, get_or, slice_get, slice_set, slice_index_or, Option, Some, None, if◌then◌else◌, MatchOption, refl, sym, ap, subst, ◌∙◌, arith}
 use Rattle.std.proofs.lemmas.Bool.{le-leb, cases_order}
 use Rattle.std.proofs.lemmas.Bool.Decides.{eqb_tells}
-use Rattle.std.proofs.lemmas.List.{length-map, get_or-map}
+use Rattle.std.proofs.Math.Seq.{take-suc}
+use Rattle.std.proofs.lemmas.List.{length-map, get_or-map, map-append}
 use Rattle.std.proofs.lemmas.List.Elements.{All-cons}
-use Rattle.std.proofs.lemmas.Option.{slice_get-get_or, slice_get_read, get_or_from_slice_get}
+use Rattle.std.proofs.lemmas.Option.{slice_get-get_or, slice_get_read, get_or_from_slice_get, none-some}
 use Rattle.std.specs.List.{position_or_len}
 use Rattle.std.specs.Option.{option_map}
-use borrow.Author.Tests.{ltb-false}
+use borrow.Author.Tests.{ltb-false, ltb-true}
 use Rattle.mr_text.specs.declared.request.Request.{Request}
 use Rattle.mr_text.specs.declared.request.Request.TheVariants as kind
 use Rattle.mr_text.specs.Valid.{IsValidRequest}
@@ -18,6 +19,8 @@ use Rattle.mr_history.specs.History.{WasIssued, Fits}
 use Rattle.mr_history.specs.Places.{At}
 use Rattle.mr_node.specs.declared.command.NodeCommand.{NodeCommand}
 use Rattle.mr_node.specs.declared.command.NodeCommand.TheVariants.{Get, Set, Delete}
+use Rattle.mr_node.specs.Recency.{CacheView, RecencyStep}
+use Rattle.mr_join.specs.declared.leg_reply.LegReply.{LegReply}
 use Rattle.mr_pools.specs.Names.{HasNode}
 use Rattle.mr_pools.specs.Routing.{RoutingView, IsRouting, pool_of}
 use Rattle.mr_proxy.specs.declared.sheet.LegSheet.{LegSheet}
@@ -32,6 +35,7 @@ use Rattle.mr_world.specs.declared.error.WorldError.{WorldError}
 use Rattle.mr_world.specs.declared.error.WorldError.TheVariants.{IssueRefused, OutOfMemory}
 use Rattle.mr_world.specs.declared.event.Event.TheVariants.{Client}
 use Rattle.mr_world.specs.declared.note.Note.{Note}
+use Rattle.mr_world.specs.declared.setup.HeldItem.{HeldItem}
 use Rattle.mr_world.specs.declared.setup.ProxySetup.{ProxySetup}
 use Rattle.mr_world.specs.declared.message.Message.{Message}
 use Rattle.mr_world.specs.declared.message.Delivery.{Delivery}
@@ -39,7 +43,7 @@ use Rattle.mr_world.specs.declared.node.Node.{Node}
 use Rattle.mr_world.specs.Lists.{Has}
 use Rattle.mr_world.specs.Network.{NetworkView, numbers_at, HasNumber, message_by}
 use Rattle.mr_world.specs.Refusals.{refused_past, refused_restart, refused_request, TakesMemory, IsRefusal}
-use Rattle.mr_world.specs.Setup.{proxies_from, AllAlike}
+use Rattle.mr_world.specs.Setup.{proxies_from, AllAlike, hold_at, hold}
 use Rattle.mr_world.specs.Steps.{message_of, performed, Issues, Asks}
 use Rattle.mr_world.specs.Positions.{number_of}
 use Rattle.mr_world.specs.Tracked.{numbers_in}
@@ -211,11 +215,23 @@ takes_memory number (kind.Set key flags exptime block noreply) no_quit = tt
 takes_memory number (kind.Delete key noreply) no_quit = tt
 takes_memory number kind.Quit no_quit = absurd (no_quit refl)
 
+is_refused : (number : ℕ) (request : Request) (refusal : Option ProxyError) (e : WorldError) → request ≢ kind.Quit
+    → MatchOption refusal (e ≡ OutOfMemory) (λ r. e ≡ IssueRefused r) → IsRefusal (option_map IssueRefused refusal) (Client number request) e
+is_refused number request None e no_quit memory = (takes_memory number request no_quit, memory)
+is_refused number request (Some r) e no_quit same = same
+
+pub asked_refused : (number : ℕ) (o : Option ProxyView) (p : ProxyView) (request : Request) (e : WorldError) → request ≢ kind.Quit → o ≡ Some p
+    → MatchOption (refusal_of p) (e ≡ OutOfMemory) (λ r. e ≡ IssueRefused r) → IsRefusal (refused_request o request) (Client number request) e
+asked_refused number o p request e no_quit home refused =
+    let is : refused_request o request ≡ option_map IssueRefused (refusal_of p) =
+    ap (λ x. refused_request x request) home ∙ asked_refusal p request (refusal_of p) no_quit refl in
+    subst (λ r. IsRefusal r (Client number request) e) (sym is) (is_refused number request (refusal_of p) e no_quit refused)
+
 pub asked_for_memory : (number : ℕ) (o : Option ProxyView) (p : ProxyView) (request : Request) → request ≢ kind.Quit → o ≡ Some p → refusal_of p ≡ None
     → IsRefusal (refused_request o request) (Client number request) OutOfMemory
 asked_for_memory number o p request no_quit home accepted =
-    let e : refused_request o request ≡ None = ap (λ x. refused_request x request) home ∙ asked_refusal p request None no_quit accepted in
-    subst (λ r. IsRefusal r (Client number request) OutOfMemory) (sym e) (takes_memory number request no_quit, refl)
+    let refused : MatchOption (refusal_of p) (OutOfMemory ≡ OutOfMemory) (λ r. OutOfMemory ≡ IssueRefused r) = rw accepted refl in
+    asked_refused number o p request OutOfMemory no_quit home refused
 
 pub asks_of : (old : WorldView) (number : ℕ) (request : Request) (note : Note) (new : WorldView) → request ≢ kind.Quit → Issues old number request note new
     → Asks old number request note new
@@ -250,3 +266,47 @@ unchanged v place proxy old sent history at same sent_is history_is =
     ap (λ (l : List ProxyView). record v { world = record v.world { proxies = l; sent = sent; history = history } }) proxies
     ∙ ap (λ (l : List Message). record v { world = record v.world { sent = l; history = history } }) sent_is
     ∙ ap (λ (l : List Entry). record v { world = record v.world { history = l } }) history_is
+
+-- the loops that make a network
+
+pub map_more : {X Y : Type 0} (f : X → Y) (xs : List X) (i : ℕ) (d : X) → i < length xs → map f (take (i + 1) xs) ≡ map f (take i xs) ++ f (get_or xs i d) ∷ []
+map_more f xs i d below =
+    let next : i + 1 ≡ suc i = omega arith in
+    ap (λ n. map f (take n xs)) next ∙ ap (map f) (take-suc xs i d below) ∙ map-append f (take i xs) (get_or xs i d ∷ [])
+
+both : {X : Type 0} (xs : List X) (d : X) → length xs ≡ 2 → xs ≡ get_or xs 0 d ∷ get_or xs 1 d ∷ []
+both [] d e = absurd (omega arith)
+both (x ∷ []) d e = absurd (omega arith)
+both (x ∷ y ∷ []) d e = refl
+both (x ∷ y ∷ z ∷ xs) d e = absurd (omega arith)
+
+-- the numbers of both pools are those of a routing
+pub both_pools : (nodes : List Node) (p : ProxyView) (old new : List ℕ) → IsRouting p.routing → old ≡ map (number_of nodes) (pool_of p.routing 0)
+    → new ≡ map (number_of nodes) (pool_of p.routing 1) → old ∷ new ∷ [] ≡ numbers_in nodes p
+both_pools nodes p old new routing old_is new_is =
+    ap (λ l. l ∷ new ∷ []) old_is ∙ ap (λ l. map (number_of nodes) (pool_of p.routing 0) ∷ l ∷ []) new_is
+    ∙ ap (map (λ pool. map (number_of nodes) pool)) (sym (both p.routing.pools [] routing.migrates))
+
+within_some : {X : Type 0} (test : X → Bool) (xs : List X) (k : ℕ) (b : Bool) → nat_lt (position_or_len test xs) (length xs) ≡ b
+    → (if b then Some (position_or_len test xs) else None) ≡ Some k → k < length xs
+within_some test xs k true t e =
+    let is : position_or_len test xs ≡ k = cc in
+    let below = ltb-true (position_or_len test xs) (length xs) t in
+    omega arith
+within_some test xs k false t e = absurd (none-some k e)
+
+-- a node that was found and set what is held holds it
+pub held_by : (nodes : List Node) (item : HeldItem) (number : ℕ) (d : Node) (command : NodeCommand) (reply : LegReply) (left : CacheView)
+    → Some number ≡ position (λ node. bytes_eq node.name item.node) nodes → command ≡ Set item.key item.flags (pos 0) item.block
+    → RecencyStep (get_or nodes number d).cache 0 command reply left
+    → slice_set nodes number (record { name = (get_or nodes number d).name; cache = left }) ≡ hold nodes item
+held_by nodes item number d command reply left found made step =
+    let node = get_or nodes number d in
+    let named = number_of nodes item.node in
+    let within = within_some (λ x. bytes_eq x.name item.node) nodes number (nat_lt named (length nodes)) refl (sym found) in
+    let same : number ≡ named = found_node nodes item.node number (sym found) in
+    let there : slice_get nodes named ≡ Some node = subst (λ k. slice_get nodes k ≡ Some node) same (slice_get-get_or nodes number d within) in
+    let leaves = (subst (λ (c : NodeCommand). RecencyStep node.cache 0 c reply left) made step).leaves in
+    ap (λ k. slice_set nodes k (record { name = node.name; cache = left })) same
+    ∙ ap (λ (cache : CacheView). slice_set nodes named (record { name = node.name; cache = cache })) leaves
+    ∙ ap (hold_at nodes named item) (sym there)

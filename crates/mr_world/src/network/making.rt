@@ -1,5 +1,6 @@
 //! A fleet as it is made of its setup.
-ghost use Rattle.std.specs.Prelude.{◌≡◌, ◌↔◌, ◌⊎◌, ◌^◌, ◌<◌, length, map, fold, All, IsTrue, IfOk, IfErr};
+ghost use Rattle.std.specs.Prelude.{◌≡◌, ◌↔◌, ◌⊎◌, ◌^◌, ◌<◌, pos, [], ◌∷◌, ◌++◌, length, map, fold, All, IsTrue, IfOk, IfErr};
+ghost use Rattle.mr_node.specs.declared.command.NodeCommand.TheVariants.{Set};
 ghost use Rattle.mr_proxy.specs.ProxyView.{fresh_proxy};
 ghost use Rattle.mr_proxy.specs.Sound.{IsSound};
 ghost use Rattle.mr_world.specs.declared.error.WorldError.TheVariants.{NoSuchNode, OutOfMemory};
@@ -124,27 +125,46 @@ fn entry_of(item: &HeldItem) -> Result<Entry, AllocError>
     })
 }
 
-/// The item's node holds it.
-fn hold_item(nodes: &mut [Node], item: HeldItem) -> Result<(), AllocError>
-    ensures { IfOk result (λ _. nodes.new ≡ hold nodes.old item) }
+/// The command that sets an item that is held.
+fn command_of(item: HeldItem) -> NodeCommand
+    ensures { result ≡ Set item.key item.flags (pos 0) item.block }
 {
     let HeldItem {
-        node,
+        node: _node,
         key,
         flags,
         block,
     } = item;
-    let Some(number) = find_node(nodes, &node) else {
-        return Ok(());
-    };
-    let command = NodeCommand::Set {
+    NodeCommand::Set {
         key,
         flags,
         exptime: 0,
         block,
+    }
+}
+
+/// The item's node holds it.
+fn hold_item(nodes: &mut [Node], item: HeldItem) -> Result<(), AllocError>
+    ensures { IfOk result (λ _. nodes.new ≡ hold nodes.old item) }
+{
+    let Some(number) = find_node(nodes, &item.node) else {
+        return Ok(());
     };
+    let command = command_of(item);
     let node = &mut nodes[number];
     let _stored = node.cache.perform(0, command)?;
+    Ok(())
+}
+
+/// The item's node holds it, and the history says so.
+fn begin_with(nodes: &mut [Node], history: &mut History, item: HeldItem) -> Result<(), WorldError>
+    ensures nodes { IfOk result (λ _. nodes.new ≡ hold nodes.old item) }
+    ensures history { IfOk result (λ _. history.new.entries ≡ history.old.entries ++ held_entry item ∷ []) }
+    ensures memory { IfErr result (λ e. e ≡ OutOfMemory) }
+{
+    history.reserve(1)?;
+    history.push(entry_of(&item)?);
+    hold_item(nodes, item)?;
     Ok(())
 }
 
@@ -160,9 +180,7 @@ fn hold_items(
 {
     let mut history = History::new(alloc)?;
     for item in items {
-        history.reserve(1)?;
-        history.push(entry_of(&item)?);
-        hold_item(nodes, item)?;
+        begin_with(nodes, &mut history, item)?;
     }
     Ok(history)
 }
