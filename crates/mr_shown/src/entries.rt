@@ -1,58 +1,59 @@
 //! The entries of a history as JSON.
 ghost use Rattle.std.specs.Prelude.{◌≡◌, IfOk};
 ghost use Rattle.serde_json.specs.Data.{array};
-ghost use Rattle.serde_json.specs.View.{view, items_view};
-ghost use Rattle.mr_shown.specs.Shown.{author_json, entry_json, entries_json};
+ghost use Rattle.serde_json.specs.View.{view};
+ghost use Rattle.mr_shown.specs.Shown.{entry_json, entries_json};
 
-use crate::parts::{bytes_value, op_value};
+use crate::arrays::{Shown, array_of};
+use crate::objects::{Part, object_of, object_with};
 use crate::replies::reply_value;
 use crate::requests::request_value;
-use mr_history::{Author, Entry};
-use serde_json::{Value, json};
+use mr_history::Entry;
+use serde_json::Value;
 use std::alloc::{AllocError, Global};
 
-fn author_value(alloc: Global, by: Author) -> Result<Value, AllocError>
-    ensures { IfOk result (λ value. view value ≡ author_json by) }
-{
-    match by {
-        Author::Beginning => json!(in alloc; "beginning"),
-        Author::By(op) => op_value(alloc, op),
-    }
-}
+impl Shown for Entry {
+    ghost json = { entry_json };
 
-fn entry_value(alloc: Global, entry: &Entry) -> Result<Value, AllocError>
-    ensures { IfOk result (λ value. view value ≡ entry_json entry.now) }
-{
-    match entry {
-        Entry::Issued { op, proxy, request } => json!(in alloc; {
-            "entry": "issued",
-            "op": op_value(alloc, *op)?,
-            "proxy": *proxy,
-            "request": request_value(alloc, request)?
-        }),
-        Entry::Stored {
-            by,
-            key,
-            flags,
-            block,
-        } => json!(in alloc; {
-            "by": author_value(alloc, *by)?,
-            "data": bytes_value(alloc, block.as_bytes())?,
-            "entry": "stored",
-            "flags": *flags,
-            "key": bytes_value(alloc, key.as_bytes())?
-        }),
-        Entry::Removed { op, side, key } => json!(in alloc; {
-            "entry": "removed",
-            "key": bytes_value(alloc, key.as_bytes())?,
-            "op": op_value(alloc, *op)?,
-            "side": side.as_str()
-        }),
-        Entry::Answered { op, reply } => json!(in alloc; {
-            "entry": "answered",
-            "op": op_value(alloc, *op)?,
-            "reply": reply_value(alloc, reply)?
-        }),
+    fn value(&self, alloc: Global) -> Result<Value, AllocError> {
+        match self {
+            Entry::Issued { op, proxy, request } => {
+                let members = [
+                    ("entry", Part::Text("issued")),
+                    ("op", Part::Op(*op)),
+                    ("proxy", Part::Number(*proxy as u64)),
+                ];
+                object_with(alloc, &members, "request", request_value(alloc, request))
+            }
+            Entry::Stored {
+                by,
+                key,
+                flags,
+                block,
+            } => object_of(
+                alloc,
+                &[
+                    ("by", Part::Author(*by)),
+                    ("data", Part::Bytes(block.as_bytes())),
+                    ("entry", Part::Text("stored")),
+                    ("flags", Part::Number(*flags as u64)),
+                    ("key", Part::Bytes(key.as_bytes())),
+                ],
+            ),
+            Entry::Removed { op, side, key } => object_of(
+                alloc,
+                &[
+                    ("entry", Part::Text("removed")),
+                    ("key", Part::Bytes(key.as_bytes())),
+                    ("op", Part::Op(*op)),
+                    ("side", Part::Text(side.as_str())),
+                ],
+            ),
+            Entry::Answered { op, reply } => {
+                let members = [("entry", Part::Text("answered")), ("op", Part::Op(*op))];
+                object_with(alloc, &members, "reply", reply_value(alloc, reply))
+            }
+        }
     }
 }
 
@@ -60,9 +61,5 @@ fn entry_value(alloc: Global, entry: &Entry) -> Result<Value, AllocError>
 pub fn history_value(alloc: Global, entries: &[Entry]) -> Result<Value, AllocError>
     ensures { IfOk result (λ value. view value ≡ array (entries_json entries.now)) }
 {
-    let mut values = Vec::with_capacity(alloc, entries.len())?;
-    for entry in entries {
-        values.push(entry_value(alloc, entry)?)?;
-    }
-    Ok(Value::Array(values))
+    array_of(alloc, entries)
 }

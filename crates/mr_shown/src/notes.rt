@@ -1,27 +1,36 @@
 //! What became of events, the premises and the verdict as JSON.
 ghost use Rattle.std.specs.Prelude.{◌≡◌, IfOk};
 ghost use Rattle.serde_json.specs.Data.{array};
-ghost use Rattle.serde_json.specs.View.{view, items_view};
+ghost use Rattle.serde_json.specs.View.{view};
 ghost use Rattle.mr_shown.specs.Shown.{note_json, notes_json, premises_json, verdict_json};
 
-use crate::parts::{bytes_value, op_value};
+use crate::arrays::{Shown, array_of};
+use crate::objects::{Part, object_of, object_with};
 use crate::verdict::KeptVerdict;
 use mr_world::{Note, Premises};
-use serde_json::{Value, json};
+use serde_json::Value;
 use std::alloc::{AllocError, Global};
 
-fn note_value(alloc: Global, note: Note) -> Result<Value, AllocError>
-    ensures { IfOk result (λ value. view value ≡ note_json note) }
-{
-    match note {
-        Note::Nothing => json!(in alloc; "nothing"),
-        Note::Issued { op, first, count } => {
-            json!(in alloc; {"issued": op_value(alloc, op)?, "messages": [first, count]})
+impl Shown for Note {
+    ghost json = { note_json };
+
+    fn value(&self, alloc: Global) -> Result<Value, AllocError> {
+        match self {
+            Note::Nothing => Value::try_from_str(alloc, "nothing"),
+            Note::Issued { op, first, count } => object_of(
+                alloc,
+                &[
+                    ("issued", Part::Op(*op)),
+                    ("messages", Part::Numbers(&[*first as u64, *count as u64])),
+                ],
+            ),
+            Note::Performed { reply } => {
+                object_of(alloc, &[("performed", Part::Number(*reply as u64))])
+            }
+            Note::Waiting => Value::try_from_str(alloc, "waiting"),
+            Note::Answered { op } => object_of(alloc, &[("answered", Part::Op(*op))]),
+            Note::Stranger => Value::try_from_str(alloc, "stranger"),
         }
-        Note::Performed { reply } => json!(in alloc; {"performed": reply}),
-        Note::Waiting => json!(in alloc; "waiting"),
-        Note::Answered { op } => json!(in alloc; {"answered": op_value(alloc, op)?}),
-        Note::Stranger => json!(in alloc; "stranger"),
     }
 }
 
@@ -29,23 +38,22 @@ fn note_value(alloc: Global, note: Note) -> Result<Value, AllocError>
 pub fn notes_value(alloc: Global, notes: &[Note]) -> Result<Value, AllocError>
     ensures { IfOk result (λ value. view value ≡ array (notes_json notes.now)) }
 {
-    let mut values = Vec::with_capacity(alloc, notes.len())?;
-    for note in notes {
-        values.push(note_value(alloc, *note)?)?;
-    }
-    Ok(Value::Array(values))
+    array_of(alloc, notes)
 }
 
 /// Which premises hold.
 pub fn premises_value(alloc: Global, premises: Premises) -> Result<Value, AllocError>
     ensures { IfOk result (λ value. view value ≡ premises_json premises) }
 {
-    json!(in alloc; {
-        "forward": premises.forward,
-        "near": premises.near,
-        "new_empty": premises.new_empty,
-        "same": premises.same
-    })
+    object_of(
+        alloc,
+        &[
+            ("forward", Part::Flag(premises.forward)),
+            ("near", Part::Flag(premises.near)),
+            ("new_empty", Part::Flag(premises.new_empty)),
+            ("same", Part::Flag(premises.same)),
+        ],
+    )
 }
 
 /// What the history says of its acknowledged deletes.
@@ -53,15 +61,27 @@ pub fn verdict_value(alloc: Global, verdict: &KeptVerdict) -> Result<Value, Allo
     ensures { IfOk result (λ value. view value ≡ verdict_json verdict.now) }
 {
     match verdict {
-        KeptVerdict::Safe => json!(in alloc; "safe"),
-        KeptVerdict::Stale { get, key, delete } => json!(in alloc; {"stale": {
-            "delete": op_value(alloc, *delete)?,
-            "get": op_value(alloc, *get)?,
-            "key": bytes_value(alloc, key.as_bytes())?
-        }}),
-        KeptVerdict::Invented { get, key } => json!(in alloc; {"invented": {
-            "get": op_value(alloc, *get)?,
-            "key": bytes_value(alloc, key.as_bytes())?
-        }}),
+        KeptVerdict::Safe => Value::try_from_str(alloc, "safe"),
+        KeptVerdict::Stale { get, key, delete } => {
+            let stale = object_of(
+                alloc,
+                &[
+                    ("delete", Part::Op(*delete)),
+                    ("get", Part::Op(*get)),
+                    ("key", Part::Bytes(key.as_bytes())),
+                ],
+            );
+            object_with(alloc, &[], "stale", stale)
+        }
+        KeptVerdict::Invented { get, key } => {
+            let invented = object_of(
+                alloc,
+                &[
+                    ("get", Part::Op(*get)),
+                    ("key", Part::Bytes(key.as_bytes())),
+                ],
+            );
+            object_with(alloc, &[], "invented", invented)
+        }
     }
 }

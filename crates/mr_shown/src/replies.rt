@@ -1,31 +1,27 @@
 //! Replies as JSON.
 ghost use Rattle.std.specs.Prelude.{◌≡◌, IfOk};
-ghost use Rattle.serde_json.specs.View.{view, items_view};
-ghost use Rattle.mr_shown.specs.Shown.{item_json, items_json, reply_json};
+ghost use Rattle.serde_json.specs.View.{view};
+ghost use Rattle.mr_shown.specs.Shown.{item_json, reply_json};
 
-use crate::parts::bytes_value;
+use crate::arrays::{Shown, array_of};
+use crate::objects::{Part, object_of, object_with};
 use mr_text::{Item, Reply};
-use serde_json::{Value, json};
+use serde_json::Value;
 use std::alloc::{AllocError, Global};
 
-fn item_value(alloc: Global, item: &Item) -> Result<Value, AllocError>
-    ensures { IfOk result (λ value. view value ≡ item_json item.now) }
-{
-    json!(in alloc; {
-        "data": bytes_value(alloc, item.block.as_bytes())?,
-        "flags": item.flags,
-        "key": bytes_value(alloc, item.key.as_bytes())?
-    })
-}
+impl Shown for Item {
+    ghost json = { item_json };
 
-fn items_value(alloc: Global, items: &[Item]) -> Result<Vec<Value>, AllocError>
-    ensures { IfOk result (λ values. items_view values.items ≡ items_json items.now) }
-{
-    let mut values = Vec::with_capacity(alloc, items.len())?;
-    for item in items {
-        values.push(item_value(alloc, item)?)?;
+    fn value(&self, alloc: Global) -> Result<Value, AllocError> {
+        object_of(
+            alloc,
+            &[
+                ("data", Part::Bytes(self.block.as_bytes())),
+                ("flags", Part::Number(self.flags as u64)),
+                ("key", Part::Bytes(self.key.as_bytes())),
+            ],
+        )
     }
-    Ok(values)
 }
 
 /// An answer.
@@ -34,18 +30,17 @@ pub fn reply_value(alloc: Global, reply: &Reply) -> Result<Value, AllocError>
 {
     match reply {
         Reply::Items(items) => {
-            let items = items.as_slice();
-            json!(in alloc; {"items": items_value(alloc, items)?})
+            object_with(alloc, &[], "items", array_of(alloc, items.as_slice()))
         }
-        Reply::Stored => json!(in alloc; "stored"),
-        Reply::Deleted => json!(in alloc; "deleted"),
-        Reply::NotFound => json!(in alloc; "not_found"),
+        Reply::Stored => Value::try_from_str(alloc, "stored"),
+        Reply::Deleted => Value::try_from_str(alloc, "deleted"),
+        Reply::NotFound => Value::try_from_str(alloc, "not_found"),
         Reply::ServerError(cause) => {
-            json!(in alloc; {"server_error": bytes_value(alloc, cause.text())?})
+            object_of(alloc, &[("server_error", Part::Bytes(cause.text()))])
         }
         Reply::ClientError(cause) => {
-            json!(in alloc; {"client_error": bytes_value(alloc, cause.text())?})
+            object_of(alloc, &[("client_error", Part::Bytes(cause.text()))])
         }
-        Reply::Error => json!(in alloc; "error"),
+        Reply::Error => Value::try_from_str(alloc, "error"),
     }
 }
