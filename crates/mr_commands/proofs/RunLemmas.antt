@@ -3,7 +3,7 @@ use Rattle.std.proofs.Common.{◌≡◌, ℕ, List, Option, Some, None, Result, 
 use Rattle.mr_text.specs.Sink.{SinkView, IsOneWrite}
 use Rattle.mr_text.specs.Source.{SourceView}
 use Rattle.mr_text.specs.declared.error.WriteFault.{WriteFault}
-use Rattle.mr_config.specs.Config.{ConfigView}
+use Rattle.mr_plan.specs.Config.{ConfigView}
 use Rattle.mr_commands.specs.declared.ended.Ended.{Ended}
 use Rattle.mr_commands.specs.declared.ended.Ended.TheVariants.{Done, NotAccepted, Faulted}
 use Rattle.mr_commands.specs.declared.fault.Fault.{Fault}

@@ -1,8 +1,8 @@
 -- The configuration in a file.
 use Rattle.std.specs.Prelude.{◌≡◌, ℕ, ◌<◌, ◌≤◌, ◌⊎◌, List, length, Result, Ok, Err, string_bytes}
-use Rattle.mr_config.specs.Config.{ConfigView, ReadsConfig}
-use Rattle.mr_config.specs.declared.error.PlanError.{PlanError}
-use Rattle.mr_config.specs.declared.error.PlanError.TheVariants.{TooLarge}
+use Rattle.mr_plan.specs.Config.{ConfigView, ReadsConfig}
+use Rattle.mr_plan.specs.declared.error.PlanError.{PlanError}
+use Rattle.mr_plan.specs.declared.error.PlanError.TheVariants.{TooLarge}
 use Rattle.mr_commands.specs.Fault.{file_line}
 use Rattle.mr_commands.specs.Sources.{SourcesView, IsOneLoad}
 use Rattle.mr_commands.specs.declared.fault.Fault.{Fault}

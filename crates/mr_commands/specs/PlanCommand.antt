@@ -3,8 +3,8 @@ use Rattle.std.specs.Prelude.{◌≡◌, ◌⊎◌, List, ℕ, Result, Ok, Err}
 use Rattle.mr_text.specs.Sink.{IsOneWrite}
 use Rattle.mr_text.specs.declared.error.WriteFault.{WriteFault}
 use Rattle.mr_text.specs.declared.request.Request.{Request}
-use Rattle.mr_config.specs.Config.{ConfigView}
-use Rattle.mr_config.specs.Plan.{plan_of}
+use Rattle.mr_plan.specs.Config.{ConfigView}
+use Rattle.mr_plan.specs.Plan.{plan_of}
 use Rattle.mr_commands.specs.ConfigFile.{LoadsConfig}
 use Rattle.mr_commands.specs.Devices.{Devices}
 use Rattle.mr_commands.specs.FirstRequest.{ReadsRequest}

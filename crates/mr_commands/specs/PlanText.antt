@@ -6,7 +6,7 @@ use Rattle.mr_phases.specs.PhaseText.{phase_text}
 use Rattle.mr_phases.specs.SideText.{side_text}
 use Rattle.mr_proxy.specs.declared.sheet.LegSheet.{LegSheet}
 use Rattle.mr_proxy.specs.Sheets.{node_name}
-use Rattle.mr_config.specs.Plan.{PlanView}
+use Rattle.mr_plan.specs.Plan.{PlanView}
 
 -- the line of the phase, at a reading
 abbrev pub phase_line : PhaseName → ℕ → List ℕ

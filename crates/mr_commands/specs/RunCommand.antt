@@ -3,7 +3,7 @@ use Rattle.std.specs.Prelude.{◌≡◌, ◌⊎◌, ℕ, List, ◌++◌, Option,
 use Rattle.serde_json.specs.View.{view}
 use Rattle.mr_plan.specs.Script.{ScriptView, ReadsScript}
 use Rattle.mr_transcripts.specs.Transcript.{IsTranscript, RefusesTranscript}
-use Rattle.mr_config.specs.declared.error.PlanError.{PlanError}
+use Rattle.mr_plan.specs.declared.error.PlanError.{PlanError}
 use Rattle.mr_commands.specs.Devices.{Devices}
 use Rattle.mr_commands.specs.GivenText.{PrintsOf}
 use Rattle.mr_commands.specs.declared.ended.Ended.{Ended}

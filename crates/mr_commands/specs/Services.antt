@@ -1,6 +1,6 @@
 -- What the commands `node` and `proxy` do.
 use Rattle.std.specs.Prelude.{◌≡◌, ◌==◌, ◌⊎◌, ℕ, List, ◌++◌, Result, Ok, Err, codes, decimal, string_bytes, if◌then◌else◌}
-use Rattle.mr_config.specs.Config.{ConfigView}
+use Rattle.mr_plan.specs.Config.{ConfigView}
 use Rattle.mr_node.specs.Recency.{CacheView, IsNewCache}
 use Rattle.mr_proxy.specs.ProxyView.{fresh_proxy}
 use Rattle.mr_sockets.specs.Servers.{Asked, NodeAt, ProxyAt, ServersView, IsOneService, listen_of, clients_of}

@@ -2,7 +2,7 @@
 use Rattle.std.specs.Prelude.{◌≡◌, ◌⊎◌, Result, Ok, Err}
 use Rattle.mr_text.specs.Sink.{IsOneWrite}
 use Rattle.mr_text.specs.declared.error.WriteFault.{WriteFault}
-use Rattle.mr_config.specs.Config.{ConfigView}
+use Rattle.mr_plan.specs.Config.{ConfigView}
 use Rattle.mr_commands.specs.ConfigFile.{LoadsConfig}
 use Rattle.mr_commands.specs.Devices.{Devices}
 use Rattle.mr_commands.specs.PlanCommand.{LacksConfig}

@@ -4,9 +4,9 @@ use Rattle.mr_phases.specs.Schedule.{Hop}
 use Rattle.mr_phases.specs.declared.phase_name.PhaseName.{PhaseName}
 use Rattle.mr_phases.specs.declared.phase_name.PhaseName.TheVariants.{OldOnly, BothReadOld, BothReadNew, NewOnly}
 use Rattle.mr_phases.specs.PhaseText.{phase_text}
-use Rattle.mr_config.specs.Timeline.{timeline_of, AdviceView, advice_of}
-use Rattle.mr_config.specs.declared.times.Span.{Span}
-use Rattle.mr_config.specs.declared.times.PhaseTimes.{PhaseTimes}
+use Rattle.mr_plan.specs.Timeline.{timeline_of, AdviceView, advice_of}
+use Rattle.mr_plan.specs.declared.times.Span.{Span}
+use Rattle.mr_plan.specs.declared.times.PhaseTimes.{PhaseTimes}
 
 -- the line of a phase that has a last second
 abbrev pub span_line : PhaseName → Span → List ℕ

@@ -4,7 +4,7 @@ ghost use Rattle.mr_commands.specs.ConfigFile.{LoadsConfig};
 use crate::fault::Fault;
 use crate::loading::load_bytes;
 use crate::sources::Sources;
-use mr_config::{Config, PlanError};
+use mr_plan::{Config, PlanError};
 use std::alloc::Global;
 
 /// The largest configuration, in bytes.

@@ -1,8 +1,8 @@
 //! What stops a command once its words were read.
 ghost use Rattle.std.specs.Prelude.{◌≡◌};
 
-use mr_config::PlanError;
 use mr_node::NodeError;
+use mr_plan::PlanError;
 use mr_text::{Sink, TextError};
 use mr_words::{node_line, plan_line, text_line};
 use thiserror::Error;

@@ -1,14 +1,14 @@
 //! The lines that commands print.
 ghost use Rattle.std.specs.Prelude.{◌≡◌, ◌++◌, ℕ, codes, OnOk, decimal};
 ghost use Rattle.mr_phases.specs.PhaseText.{phase_text};
-ghost use Rattle.mr_config.specs.Timeline.{AdviceView};
+ghost use Rattle.mr_plan.specs.Timeline.{AdviceView};
 ghost use Rattle.mr_proxy.specs.Sheets.{IsPlaced};
 ghost use Rattle.mr_commands.specs.PlanText.{phase_line, leg_line};
 ghost use Rattle.mr_commands.specs.TimelineText.{span_line, old_only_line, new_only_line, reading_line, near_text, spread_line};
 
 use itoa::Buffer;
-use mr_config::{Advice, Span};
 use mr_phases::PhaseName;
+use mr_plan::{Advice, Span};
 use mr_pools::Routing;
 use mr_proxy::LegSheet;
 use std::alloc::AllocError;

@@ -1,14 +1,14 @@
 //! The text of a plan.
 ghost use Rattle.std.specs.Prelude.{◌≡◌, ◌++◌, IfOk, OnOk, IsErrOf};
 ghost use Rattle.std.specs.List.{All};
-ghost use Rattle.mr_config.specs.Plan.{plan_of};
+ghost use Rattle.mr_plan.specs.Plan.{plan_of};
 ghost use Rattle.mr_proxy.specs.Sheets.{IsPlaced};
 ghost use Rattle.mr_commands.specs.PlanText.{leg_lines, plan_text};
 ghost use Rattle.mr_commands.specs.Printing.{WritesAtOnce};
 
 use crate::line::{push_leg_line, push_phase_line};
 use crate::printing::{PrintFault, write_at_once};
-use mr_config::{Config, RequestPlan};
+use mr_plan::{Config, RequestPlan};
 use mr_pools::Routing;
 use mr_proxy::LegSheet;
 use mr_text::{Request, Sink};
@@ -55,7 +55,7 @@ pub fn write_plan<W: Sink>(
     // The writer is not even touched where memory is refused.
     ensures memory { IsErrOf result PrintFault.Memory → writer.new ≡ writer.old }
 {
-    let Ok(plan) = mr_config::plan(alloc, config, at, request) else {
+    let Ok(plan) = mr_plan::plan(alloc, config, at, request) else {
         return Err(PrintFault::Memory);
     };
     let text = text_of_plan(alloc, config.routing(), &plan)?;

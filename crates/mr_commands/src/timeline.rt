@@ -1,6 +1,6 @@
 //! The text of a timeline.
 ghost use Rattle.std.specs.Prelude.{◌≡◌, ◌++◌, IfOk, OnOk, IsErrOf, length, option_map};
-ghost use Rattle.mr_config.specs.Timeline.{advice_of};
+ghost use Rattle.mr_plan.specs.Timeline.{advice_of};
 ghost use Rattle.mr_commands.specs.Printing.{WritesAtOnce};
 ghost use Rattle.mr_commands.specs.TimelineText.{times_text, reading_lines, advice_text, timeline_text};
 
@@ -8,8 +8,8 @@ use crate::line::{
     push_new_only_line, push_old_only_line, push_reading_line, push_span_line, push_spread_line,
 };
 use crate::printing::{PrintFault, write_at_once};
-use mr_config::{Config, PhaseTimes, advise, timeline};
 use mr_phases::PhaseName;
+use mr_plan::{Config, PhaseTimes, advise, timeline};
 use mr_text::Sink;
 use std::alloc::{AllocError, Global};
 

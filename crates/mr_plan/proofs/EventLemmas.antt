@@ -7,10 +7,10 @@ use Rattle.std.specs.Result.{result_err}
 use Rattle.std.specs.Prelude.{IsOk, is_ok}
 use Rattle.serde_json.specs.Data.{Data}
 use Rattle.mr_world.specs.declared.event.Event.{Event}
-use Rattle.mr_config.specs.Checking.{◌>>=◌}
+use Rattle.mr_plan.specs.Checking.{◌>>=◌}
 use Rattle.mr_plan.specs.Events.{event_of, event_at, events_of}
-use Rattle.mr_config.specs.declared.error.PlanError.{PlanError}
-use Rattle.mr_config.specs.declared.error.PlanError.TheVariants.{BadEvent}
+use Rattle.mr_plan.specs.declared.error.PlanError.{PlanError}
+use Rattle.mr_plan.specs.declared.error.PlanError.TheVariants.{BadEvent}
 use Rattle.mr_plan.proofs.ListLemmas.{refusal_kept, one_more, rest_ok, refused, turn}
 
 -- an event that can be made changes no refusal

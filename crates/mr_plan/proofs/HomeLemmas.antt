@@ -10,19 +10,19 @@ use Rattle.mr_world.specs.Setup.{SetupView}
 use Rattle.mr_world.specs.declared.error.WorldError.TheVariants.{NoSuchNode}
 use Rattle.mr_world.specs.declared.setup.HeldItem.{HeldItem}
 use Rattle.mr_world.specs.declared.setup.ProxySetup.{ProxySetup}
-use Rattle.mr_config.specs.Checking.{◌>>=◌, only_if}
-use Rattle.mr_config.specs.Config.{ConfigView, config_of, config_keys, config_between, hash_of}
-use Rattle.mr_config.specs.Fields.{Text, object_check, field, list_of, values_in, whole_number, text_of}
+use Rattle.mr_plan.specs.Checking.{◌>>=◌, only_if}
+use Rattle.mr_plan.specs.Config.{ConfigView, config_of, config_keys, config_between, hash_of}
+use Rattle.mr_plan.specs.Fields.{Text, object_check, field, list_of, values_in, whole_number, text_of}
 use Rattle.mr_plan.specs.Homes.{name_at, servers_at, names_at, pools_at, config_at, values_name, node_at, are_housed, values_have_room}
 use Rattle.mr_plan.specs.Lists.{all_of}
-use Rattle.mr_config.specs.Pools.{names_in, texts_of, pool_of_names, pool_in, pools_check}
-use Rattle.mr_config.specs.Route.{Migration, name_pointed_to, pool_behind, migration_of, is_migration, route_keys, interval_of, schedule_of}
+use Rattle.mr_plan.specs.Pools.{names_in, texts_of, pool_of_names, pool_in, pools_check}
+use Rattle.mr_plan.specs.Route.{Migration, name_pointed_to, pool_behind, migration_of, is_migration, route_keys, interval_of, schedule_of}
 use Rattle.mr_plan.specs.Setups.{held_of, proxy_of, config_or, proxy_keys, held_keys, pools_name, proxies_name, have_homes, have_room, settled}
 use Rattle.mr_plan.specs.Numbers.{small_number}
 use Rattle.mr_plan.specs.SetupDraft.{setup_between}
 use Rattle.mr_plan.specs.Texts.{key_of, block_of, node_name_of, node_name_of_text}
-use Rattle.mr_config.specs.declared.error.PlanError.{PlanError}
-use Rattle.mr_config.specs.declared.error.PlanError.TheVariants.{WrongKind, MissingKey, BadRoute, BadSetup}
+use Rattle.mr_plan.specs.declared.error.PlanError.{PlanError}
+use Rattle.mr_plan.specs.declared.error.PlanError.TheVariants.{WrongKind, MissingKey, BadRoute, BadSetup}
 
 -- what a check gave, and what the next made of it
 pub record Taken {X Y E : Type 0} (given : Result X E) (next : X → Result Y E) (made : Y) : Type 0 where

@@ -3,7 +3,7 @@ use Rattle.std.proofs.Common.{◌≡◌, ℕ, ◌+◌, ◌<◌, List, [], ◌∷
 use Rattle.std.proofs.lemmas.List.{drop_more}
 use Rattle.std.specs.Result.{result_err}
 use Rattle.std.specs.Prelude.{IsOk}
-use Rattle.mr_config.specs.Checking.{◌>>=◌}
+use Rattle.mr_plan.specs.Checking.{◌>>=◌}
 
 -- what comes before a refusal doesn't change it
 pub refusal_kept : {X E : Type 0} (first : X) (rest : Result (List X) E) → result_err (rest >>= λ items. Ok (first ∷ items)) ≡ result_err rest

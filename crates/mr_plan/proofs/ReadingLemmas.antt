@@ -6,9 +6,9 @@ use Rattle.std.specs.Prelude.{IsOk}
 use Rattle.serde_json.specs.Data.{Data}
 use Rattle.serde_json.specs.View.{view}
 use Rattle.serde_json.specs.declared.value.Value.{Value}
-use Rattle.mr_config.specs.Checking.{◌>>=◌}
+use Rattle.mr_plan.specs.Checking.{◌>>=◌}
 use Rattle.mr_plan.specs.Lists.{all_of}
-use Rattle.mr_config.specs.declared.error.PlanError.{PlanError}
+use Rattle.mr_plan.specs.declared.error.PlanError.{PlanError}
 use Rattle.mr_plan.proofs.ListLemmas.{one_more, rest_ok, turn}
 
 -- what is yet to come after one more item

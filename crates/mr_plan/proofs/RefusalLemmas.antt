@@ -8,9 +8,9 @@ use Rattle.mr_world.specs.Setup.{SetupView, CanBeMade, IsNamed}
 use Rattle.mr_world.specs.declared.error.WorldError.TheVariants.{NoSuchNode}
 use Rattle.mr_world.specs.declared.setup.HeldItem.{HeldItem}
 use Rattle.mr_world.specs.declared.setup.ProxySetup.{ProxySetup}
-use Rattle.mr_config.specs.Fields.{Text, is_one_of}
-use Rattle.mr_config.specs.declared.error.PlanError.{PlanError}
-use Rattle.mr_config.specs.declared.error.PlanError.TheVariants.{BadSetup}
+use Rattle.mr_plan.specs.Fields.{Text, is_one_of}
+use Rattle.mr_plan.specs.declared.error.PlanError.{PlanError}
+use Rattle.mr_plan.specs.declared.error.PlanError.TheVariants.{BadSetup}
 use Rattle.mr_plan.specs.Setups.{pools_name, proxies_name, have_homes, have_room, settled}
 
 left_or : (a b : Bool) → a ≡ true → (a || b) ≡ true

@@ -7,16 +7,16 @@ use Rattle.serde_json.specs.View.{view}
 use Rattle.mr_world.specs.Setup.{SetupView}
 use Rattle.serde_json.specs.declared.value.Value.{Value}
 use Rattle.mr_world.specs.declared.event.Event.{Event}
-use Rattle.mr_config.specs.Checking.{◌>>=◌}
-use Rattle.mr_config.specs.Config.{ConfigView}
+use Rattle.mr_plan.specs.Checking.{◌>>=◌}
+use Rattle.mr_plan.specs.Config.{ConfigView}
 use Rattle.mr_plan.specs.Events.{events_of}
-use Rattle.mr_config.specs.Fields.{list_of}
+use Rattle.mr_plan.specs.Fields.{list_of}
 use Rattle.mr_plan.specs.Lists.{all_of}
 use Rattle.mr_plan.specs.Script.{ScriptParts, count_in, counts_check}
 use Rattle.mr_plan.specs.ScriptDraft.{script_between, parts_between, parts_drafted, IsScriptReady}
 use Rattle.mr_plan.specs.SetupDraft.{setup_between, setup_drafted}
 use Rattle.mr_plan.specs.Setups.{held_of, proxy_of, settled}
-use Rattle.mr_config.specs.declared.error.PlanError.{PlanError}
+use Rattle.mr_plan.specs.declared.error.PlanError.{PlanError}
 use Rattle.mr_plan.specs.declared.script.ScriptDraft.{ScriptDraft}
 use Rattle.mr_plan.proofs.HomeLemmas.{taken, read_as}
 

@@ -11,16 +11,16 @@ use Rattle.mr_world.specs.declared.error.WorldError.TheVariants.{NoSuchNode}
 use Rattle.mr_world.specs.declared.event.Event.{Event}
 use Rattle.mr_world.specs.declared.setup.HeldItem.{HeldItem}
 use Rattle.mr_world.specs.declared.setup.ProxySetup.{ProxySetup}
-use Rattle.mr_config.specs.Checking.{◌>>=◌, only_if}
-use Rattle.mr_config.specs.Config.{config_of}
+use Rattle.mr_plan.specs.Checking.{◌>>=◌, only_if}
+use Rattle.mr_plan.specs.Config.{config_of}
 use Rattle.mr_plan.specs.Events.{events_of}
-use Rattle.mr_config.specs.Fields.{Text, is_one_of, object_check, field, whole_number, list_of}
+use Rattle.mr_plan.specs.Fields.{Text, is_one_of, object_check, field, whole_number, list_of}
 use Rattle.mr_plan.specs.Limits.{most_events, most_held, most_proxies}
 use Rattle.mr_plan.specs.Lists.{all_of}
 use Rattle.mr_plan.specs.Script.{ScriptParts, ScriptView, script_keys, format_check, count_in, counts_check, script_in, IsScript, IsPlayable}
 use Rattle.mr_plan.specs.Setups.{pools_name, proxies_name, have_homes, have_room, settled, held_of, proxy_of, setup_keys, setup_of}
-use Rattle.mr_config.specs.declared.error.PlanError.{PlanError}
-use Rattle.mr_config.specs.declared.error.PlanError.TheVariants.{BadSetup, TooLarge, WrongKind}
+use Rattle.mr_plan.specs.declared.error.PlanError.{PlanError}
+use Rattle.mr_plan.specs.declared.error.PlanError.TheVariants.{BadSetup, TooLarge, WrongKind}
 use Rattle.mr_plan.proofs.HomeLemmas.{taken}
 
 left_true : (a b : Bool) → (a && b) ≡ true → a ≡ true

@@ -6,9 +6,9 @@ use Rattle.std.proofs.lemmas.Str.{chars_past_char, IsUtf8-past_char, chars-nil}
 use Rattle.mr_text.specs.Key.{IsKey}
 use Rattle.mr_text.proofs.Keys.{key_test-true}
 use Rattle.mr_pools.specs.NodeName.{IsNodeName}
-use Rattle.mr_config.specs.Fields.{Text}
+use Rattle.mr_plan.specs.Fields.{Text}
 use Rattle.mr_plan.specs.Texts.{key_of_text, node_name_of_text}
-use Rattle.mr_config.proofs.PoolLemmas.{name_made}
+use Rattle.mr_plan.proofs.PoolLemmas.{name_made}
 
 -- what the first character is, and that a text comes after it
 pub first_point : (text rest : List ℕ) (point : ℕ) → IsUtf8 text → text ≡ encode_utf8 point ++ rest → chars text ≡ point ∷ chars rest

@@ -3,11 +3,11 @@ use Rattle.std.proofs.Common.{◌≡◌, Bool, true, false, not, Ok, refl, sym}
 use Rattle.serde_json.specs.Data.{Data}
 use Rattle.serde_json.specs.Written.{has_float}
 use Rattle.mr_plan.proofs.HomeLemmas.{taken}
-use Rattle.mr_config.specs.Checking.{◌>>=◌, only_if}
-use Rattle.mr_config.specs.Fields.{object_check}
+use Rattle.mr_plan.specs.Checking.{◌>>=◌, only_if}
+use Rattle.mr_plan.specs.Fields.{object_check}
 use Rattle.mr_plan.specs.Script.{ScriptParts, script_in, script_of, script_keys}
-use Rattle.mr_config.specs.declared.error.PlanError.{PlanError}
-use Rattle.mr_config.specs.declared.error.PlanError.TheVariants.{WrongKind}
+use Rattle.mr_plan.specs.declared.error.PlanError.{PlanError}
+use Rattle.mr_plan.specs.declared.error.PlanError.TheVariants.{WrongKind}
 
 held_to : (b : Bool) → only_if (not b) WrongKind ≡ Ok tt → b ≡ false
 held_to true e = cc

@@ -5,13 +5,13 @@ use Rattle.serde_json.specs.Data.{Data}
 use Rattle.mr_history.specs.declared.op_id.OpId.{OpId}
 use Rattle.mr_world.specs.declared.event.Event.{Event}
 use Rattle.mr_world.specs.declared.event.Event.TheVariants.{Clock, Client, Deliver, Return, GiveUp, NodeRestart, ProxyRestart}
-use Rattle.mr_config.specs.Checking.{◌>>=◌}
-use Rattle.mr_config.specs.Fields.{Text, object_check, field, whole_number, text_of, list_of}
+use Rattle.mr_plan.specs.Checking.{◌>>=◌}
+use Rattle.mr_plan.specs.Fields.{Text, object_check, field, whole_number, text_of, list_of}
 use Rattle.mr_plan.specs.Numbers.{small_number}
 use Rattle.mr_plan.specs.Requests.{request_of}
 use Rattle.mr_plan.specs.Texts.{node_name_of}
-use Rattle.mr_config.specs.declared.error.PlanError.{PlanError}
-use Rattle.mr_config.specs.declared.error.PlanError.TheVariants.{WrongKind, BadEvent}
+use Rattle.mr_plan.specs.declared.error.PlanError.{PlanError}
+use Rattle.mr_plan.specs.declared.error.PlanError.TheVariants.{WrongKind, BadEvent}
 
 -- the three numbers of a request's name
 abbrev pub op_of_parts : List Data → Result OpId PlanError

@@ -2,9 +2,9 @@
 use Rattle.std.specs.Prelude.{ℕ, ◌&&◌, ◌||◌, List, [], ◌∷◌, Bool, true, false, nat_le, Option, option_and_then, option_map, unwrap_or, codes}
 use Rattle.serde_json.specs.Data.{Data, Items}
 use Rattle.serde_json.specs.Find.{get, as_str, as_array}
-use Rattle.mr_config.specs.Fields.{Text, values_in}
-use Rattle.mr_config.specs.Pools.{names_in}
-use Rattle.mr_config.specs.Route.{name_pointed_to}
+use Rattle.mr_plan.specs.Fields.{Text, values_in}
+use Rattle.mr_plan.specs.Pools.{names_in}
+use Rattle.mr_plan.specs.Route.{name_pointed_to}
 use Rattle.mr_plan.specs.Setups.{pools_name}
 
 -- the name of the pool that a configuration's route names at this key

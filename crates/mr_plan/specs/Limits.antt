@@ -1,4 +1,4 @@
--- The limits of scripts and transcripts.
+-- The limits of scripts and transcripts, and what a configuration leaves unsaid.
 use Rattle.std.specs.Prelude.{ℕ}
 
 -- the largest script or transcript, in bytes
@@ -16,3 +16,7 @@ most_held = 65536
 -- the most proxies
 abbrev pub most_proxies : ℕ
 most_proxies = 64
+
+-- how long each of the two middle phases lasts where a configuration doesn't say it, in seconds
+abbrev pub default_interval : ℕ
+default_interval = 3600

@@ -2,10 +2,10 @@
 use Rattle.std.specs.Prelude.{ℕ, ◌^◌, ℤ, Bool, false, nat_lt, if◌then◌else◌, Option, Some, None, Result, Ok, Err, ok_or, option_and_then}
 use Rattle.serde_json.specs.Data.{Data}
 use Rattle.serde_json.specs.Find.{as_bool, as_number, as_i64}
-use Rattle.mr_config.specs.Checking.{◌>>=◌}
-use Rattle.mr_config.specs.Fields.{whole_number}
-use Rattle.mr_config.specs.declared.error.PlanError.{PlanError}
-use Rattle.mr_config.specs.declared.error.PlanError.TheVariants.{WrongKind}
+use Rattle.mr_plan.specs.Checking.{◌>>=◌}
+use Rattle.mr_plan.specs.Fields.{whole_number}
+use Rattle.mr_plan.specs.declared.error.PlanError.{PlanError}
+use Rattle.mr_plan.specs.declared.error.PlanError.TheVariants.{WrongKind}
 
 abbrev pub if_small : ℕ → Result ℕ PlanError
 if_small number = if nat_lt number (2 ^ 32) then Ok number else Err WrongKind

@@ -7,12 +7,12 @@ use Rattle.mr_text.specs.Key.{get_line_length}
 use Rattle.mr_text.specs.Limits.{MAX_LINE}
 use Rattle.mr_text.specs.declared.request.Request.{Request}
 use Rattle.mr_text.specs.declared.request.Request.TheVariants.{Get, Set, Delete}
-use Rattle.mr_config.specs.Checking.{◌>>=◌}
-use Rattle.mr_config.specs.Fields.{Text, object_check, field, text_of, list_of}
+use Rattle.mr_plan.specs.Checking.{◌>>=◌}
+use Rattle.mr_plan.specs.Fields.{Text, object_check, field, text_of, list_of}
 use Rattle.mr_plan.specs.Numbers.{small_number, signed_number, flag_of}
 use Rattle.mr_plan.specs.Texts.{key_of, block_of}
-use Rattle.mr_config.specs.declared.error.PlanError.{PlanError}
-use Rattle.mr_config.specs.declared.error.PlanError.TheVariants.{WrongKind}
+use Rattle.mr_plan.specs.declared.error.PlanError.{PlanError}
+use Rattle.mr_plan.specs.declared.error.PlanError.TheVariants.{WrongKind}
 
 -- each value is a key
 abbrev pub are_keys : List Data → Bool

@@ -7,14 +7,14 @@ use Rattle.serde_json.specs.Written.{has_float}
 use Rattle.serde_json.specs.declared.value.Value.{Value}
 use Rattle.mr_world.specs.Setup.{SetupView, CanBeMade}
 use Rattle.mr_world.specs.declared.event.Event.{Event}
-use Rattle.mr_config.specs.Checking.{◌>>=◌, only_if}
-use Rattle.mr_config.specs.Config.{IsJson, IsNoJson}
+use Rattle.mr_plan.specs.Checking.{◌>>=◌, only_if}
+use Rattle.mr_plan.specs.Config.{IsJson, IsNoJson}
 use Rattle.mr_plan.specs.Events.{events_of}
-use Rattle.mr_config.specs.Fields.{Text, object_check, field, whole_number, list_of}
+use Rattle.mr_plan.specs.Fields.{Text, object_check, field, whole_number, list_of}
 use Rattle.mr_plan.specs.Limits.{most_bytes, most_events, most_held, most_proxies}
 use Rattle.mr_plan.specs.Setups.{setup_of}
-use Rattle.mr_config.specs.declared.error.PlanError.{PlanError}
-use Rattle.mr_config.specs.declared.error.PlanError.TheVariants.{WrongKind, TooLarge, OutOfMemory}
+use Rattle.mr_plan.specs.declared.error.PlanError.{PlanError}
+use Rattle.mr_plan.specs.declared.error.PlanError.TheVariants.{WrongKind, TooLarge, OutOfMemory}
 
 -- what is played: a fleet, and what happens to it
 pub record ScriptParts : Type 0 where

@@ -3,12 +3,12 @@ use Rattle.std.specs.Prelude.{List, length, map, IsOk, Result, Ok}
 use Rattle.serde_json.specs.Data.{Data}
 use Rattle.serde_json.specs.View.{view}
 use Rattle.mr_world.specs.Setup.{SetupView}
-use Rattle.mr_config.specs.Checking.{◌>>=◌}
+use Rattle.mr_plan.specs.Checking.{◌>>=◌}
 use Rattle.mr_plan.specs.Events.{events_of}
-use Rattle.mr_config.specs.Fields.{list_of}
+use Rattle.mr_plan.specs.Fields.{list_of}
 use Rattle.mr_plan.specs.Script.{ScriptParts, count_in, counts_check}
 use Rattle.mr_plan.specs.SetupDraft.{setup_drafted, IsSetupReady}
-use Rattle.mr_config.specs.declared.error.PlanError.{PlanError}
+use Rattle.mr_plan.specs.declared.error.PlanError.{PlanError}
 use Rattle.mr_plan.specs.declared.script.ScriptDraft.{ScriptDraft}
 
 -- what comes of a setup and of the value of the events

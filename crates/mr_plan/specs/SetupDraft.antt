@@ -6,14 +6,14 @@ use Rattle.serde_json.specs.View.{view}
 use Rattle.mr_world.specs.Setup.{SetupView}
 use Rattle.mr_world.specs.declared.setup.HeldItem.{HeldItem}
 use Rattle.mr_world.specs.declared.setup.ProxySetup.{ProxySetup}
-use Rattle.mr_config.specs.Checking.{◌>>=◌}
-use Rattle.mr_config.specs.Config.{ConfigView}
-use Rattle.mr_config.specs.Draft.{config_drafted, CanBeMade}
+use Rattle.mr_plan.specs.Checking.{◌>>=◌}
+use Rattle.mr_plan.specs.Config.{ConfigView}
+use Rattle.mr_plan.specs.Draft.{config_drafted, CanBeMade}
 use Rattle.mr_plan.specs.Lists.{all_of}
 use Rattle.mr_plan.specs.Setups.{held_of, proxy_of, settled}
 use Rattle.mr_plan.specs.Texts.{key_of_text, block_of_text, node_name_of_text}
-use Rattle.mr_config.specs.declared.config.Draft.{Draft}
-use Rattle.mr_config.specs.declared.error.PlanError.{PlanError}
+use Rattle.mr_plan.specs.declared.config.Draft.{Draft}
+use Rattle.mr_plan.specs.declared.error.PlanError.{PlanError}
 use Rattle.mr_plan.specs.declared.held.HeldDraft.{HeldDraft}
 use Rattle.mr_plan.specs.declared.proxies.ProxyDraft.{ProxyDraft}
 use Rattle.mr_plan.specs.declared.setups.SetupDraft.{SetupDraft}

@@ -6,14 +6,14 @@ use Rattle.mr_world.specs.Setup.{SetupView}
 use Rattle.mr_world.specs.declared.error.WorldError.TheVariants.{NoSuchNode}
 use Rattle.mr_world.specs.declared.setup.HeldItem.{HeldItem}
 use Rattle.mr_world.specs.declared.setup.ProxySetup.{ProxySetup}
-use Rattle.mr_config.specs.Checking.{◌>>=◌}
-use Rattle.mr_config.specs.Config.{ConfigView, config_of}
-use Rattle.mr_config.specs.Fields.{Text, is_one_of, object_check, field, whole_number, list_of}
+use Rattle.mr_plan.specs.Checking.{◌>>=◌}
+use Rattle.mr_plan.specs.Config.{ConfigView, config_of}
+use Rattle.mr_plan.specs.Fields.{Text, is_one_of, object_check, field, whole_number, list_of}
 use Rattle.mr_plan.specs.Lists.{all_of}
 use Rattle.mr_plan.specs.Numbers.{small_number}
 use Rattle.mr_plan.specs.Texts.{key_of, block_of, node_name_of}
-use Rattle.mr_config.specs.declared.error.PlanError.{PlanError}
-use Rattle.mr_config.specs.declared.error.PlanError.TheVariants.{BadSetup}
+use Rattle.mr_plan.specs.declared.error.PlanError.{PlanError}
+use Rattle.mr_plan.specs.declared.error.PlanError.TheVariants.{BadSetup}
 
 abbrev pub held_keys : List Text
 held_keys = codes "data" ∷ codes "flags" ∷ codes "key" ∷ codes "node" ∷ []

@@ -4,11 +4,11 @@ use Rattle.std.specs.Str.{chars}
 use Rattle.serde_json.specs.Data.{Data}
 use Rattle.mr_text.specs.Key.{key_test}
 use Rattle.mr_text.specs.Limits.{MAX_BLOCK}
-use Rattle.mr_config.specs.Checking.{◌>>=◌}
-use Rattle.mr_config.specs.Fields.{Text, text_of}
-use Rattle.mr_config.specs.Pools.{is_node_name}
-use Rattle.mr_config.specs.declared.error.PlanError.{PlanError}
-use Rattle.mr_config.specs.declared.error.PlanError.TheVariants.{WrongKind}
+use Rattle.mr_plan.specs.Checking.{◌>>=◌}
+use Rattle.mr_plan.specs.Fields.{Text, text_of}
+use Rattle.mr_plan.specs.Pools.{is_node_name}
+use Rattle.mr_plan.specs.declared.error.PlanError.{PlanError}
+use Rattle.mr_plan.specs.declared.error.PlanError.TheVariants.{WrongKind}
 
 -- each of these code points is a byte
 abbrev pub are_bytes : List ℕ → Bool

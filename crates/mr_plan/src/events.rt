@@ -4,11 +4,11 @@ ghost use Rattle.serde_json.specs.View.{view};
 ghost use Rattle.mr_plan.specs.Events.{op_of_parts, op_of, clock_of, client_of, deliver_of, return_of, give_up_of, node_restart_of, proxy_restart_of, event_of, events_of};
 ghost use Rattle.mr_plan.specs.EventDraft.{event_drafted, IsEventReady};
 
+use crate::error::PlanError;
+use crate::fields::{check_object, field, list, text, whole_number};
 use crate::names::{make_node_name, node_name_text};
 use crate::numbers::small_number;
 use crate::requests::{RequestDraft, request_draft};
-use mr_config::PlanError;
-use mr_config::fields::{check_object, field, list, text, whole_number};
 use mr_history::OpId;
 use mr_world::Event;
 use serde_json::Value;

@@ -5,11 +5,11 @@ ghost use Rattle.mr_plan.specs.Lists.{all_of};
 ghost use Rattle.mr_plan.specs.Setups.{held_of};
 ghost use Rattle.mr_plan.specs.SetupDraft.{held_drafted, IsHeldReady};
 
+use crate::error::PlanError;
+use crate::fields::{check_object, field};
 use crate::names::{make_node_name, node_name_text};
 use crate::numbers::small_number;
 use crate::texts::{block_text, key_text, make_block, make_key};
-use mr_config::PlanError;
-use mr_config::fields::{check_object, field};
 use mr_world::HeldItem;
 use serde_json::Value;
 use std::alloc::{AllocError, Global};

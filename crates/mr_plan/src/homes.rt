@@ -2,11 +2,11 @@
 ghost use Rattle.std.specs.Prelude.{◌≡◌, map, option_map};
 ghost use Rattle.serde_json.specs.View.{view, items_view};
 ghost use Rattle.mr_plan.specs.Homes.{name_at, servers_at, names_at, pools_at, config_at, values_name, node_at, are_housed, values_have_room};
-ghost use Rattle.mr_config.specs.Pools.{names_in};
+ghost use Rattle.mr_plan.specs.Pools.{names_in};
 ghost use Rattle.mr_plan.specs.Setups.{pools_name};
 
-use mr_config::name_pointed_to;
-use mr_config::names::is_among;
+use crate::names::is_among;
+use crate::route::name_pointed_to;
 use serde_json::Value;
 
 /// The name of the pool that a configuration's route names at this key.
@@ -24,7 +24,7 @@ fn servers_at<'a>(config: &'a Value, name: &str) -> Option<&'a Vec<Value>>
 }
 
 /// The names of the pool that a configuration's route names at this key.
-#[tactic(auto, using(mr_config::proofs::FieldLemmas::values_in_items))]
+#[tactic(auto, using(crate::proofs::FieldLemmas::values_in_items))]
 fn names_at<'a>(config: &'a Value, key: &str) -> &'a [Value]
     ensures { names_in (map view result.now) ≡ names_at key.now (view config.now) }
 {

@@ -1,6 +1,6 @@
 //! What is known of setups.
 ghost use Rattle.std.specs.Prelude.{◌≡◌, Err};
-ghost use Rattle.mr_config.specs.declared.error.PlanError.{PlanError};
+ghost use Rattle.mr_plan.specs.declared.error.PlanError.{PlanError};
 ghost use Rattle.mr_world.specs.Setup.{SetupView, CanBeMade};
 ghost use Rattle.mr_plan.specs.Setups.{settled};
 

@@ -1,4 +1,4 @@
-//! The limits of scripts and transcripts.
+//! The limits of scripts and transcripts, and what a configuration leaves unsaid.
 
 /// The largest script or transcript, in bytes.
 pub const MAX_SCRIPT: usize = 16_777_216;
@@ -11,3 +11,6 @@ pub const MAX_HELD: usize = 65_536;
 
 /// The most proxies.
 pub const MAX_PROXIES: usize = 64;
+
+/// How long each of the two middle phases lasts where a configuration doesn't say it, in seconds.
+pub const DEFAULT_INTERVAL: u64 = 3600;

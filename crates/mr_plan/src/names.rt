@@ -1,14 +1,60 @@
-//! The names of nodes that texts of JSON hold.
-ghost use Rattle.std.specs.Prelude.{◌≡◌, Ok, Err, IfOk, IfErr};
+//! The names of nodes, as bytes and as values of JSON hold them.
+ghost use Rattle.std.specs.Prelude.{◌≡◌, [], ◌∷◌, Ok, Err, IfOk, IfErr, map};
 ghost use Rattle.serde_json.specs.View.{view};
+ghost use Rattle.mr_plan.specs.Fields.{is_one_of};
+ghost use Rattle.mr_plan.specs.Pools.{is_name_byte, are_name_bytes, is_node_name, names_in};
 ghost use Rattle.mr_plan.specs.Texts.{node_name_of_text, node_name_of};
 
-use mr_config::PlanError;
-use mr_config::fields::text;
-use mr_config::names::is_node_name;
-use mr_pools::{NodeName, PoolError};
+use crate::error::PlanError;
+use crate::fields::text;
+use mr_pools::{MAX_NAME, NodeName, PoolError};
 use serde_json::Value;
 use std::alloc::{AllocError, Global};
+
+/// Whether a byte may stand in a node's name.
+fn is_name_byte(byte: u8) -> bool
+    ensures { result ≡ is_name_byte byte }
+{
+    byte.is_ascii_graphic() && byte != b','
+}
+
+/// Whether each byte may stand in a node's name.
+fn are_name_bytes(name: &[u8]) -> bool
+    ensures { result ≡ are_name_bytes name.now }
+{
+    for byte in name {
+        if !is_name_byte(*byte) {
+            return false;
+        }
+    }
+    true
+}
+
+/// Whether the bytes name a node.
+pub fn is_node_name(name: &[u8]) -> bool
+    ensures { result ≡ is_node_name name.now }
+{
+    !name.is_empty() && name.len() <= MAX_NAME && are_name_bytes(name)
+}
+
+/// The text that a value holds; none where it is no text.
+pub fn name_in(value: &Value) -> &str
+    ensures { names_in (view value.now ∷ []) ≡ result.now ∷ [] }
+{
+    value.as_str().unwrap_or("")
+}
+
+/// Whether the name is one of these.
+pub fn is_among(values: &[Value], name: &str) -> bool
+    ensures { result ≡ is_one_of (names_in (map view values.now)) name.now }
+{
+    for value in values {
+        if name_in(value) == name {
+            return true;
+        }
+    }
+    false
+}
 
 /// The text of the node's name that a value is.
 pub fn node_name_text(value: &Value) -> Result<&str, PlanError>

@@ -4,8 +4,8 @@ ghost use Rattle.serde_json.specs.Find.{get};
 ghost use Rattle.serde_json.specs.View.{view};
 ghost use Rattle.mr_plan.specs.Numbers.{small_number, signed_number, flag_of};
 
-use mr_config::PlanError;
-use mr_config::fields::whole_number;
+use crate::error::PlanError;
+use crate::fields::whole_number;
 use serde_json::Value;
 
 /// A whole number of 32 bits.

@@ -2,14 +2,15 @@
 ghost use Rattle.std.specs.Prelude.{◌≡◌, Ok, Err, IfOk, IfErr, OnOk, IsOk, map, codes};
 ghost use Rattle.serde_json.specs.Find.{get};
 ghost use Rattle.serde_json.specs.View.{view};
-ghost use Rattle.mr_config.specs.Config.{ConfigView};
-ghost use Rattle.mr_config.specs.Draft.{config_drafted, CanBeMade};
+ghost use Rattle.mr_plan.specs.Config.{ConfigView};
+ghost use Rattle.mr_plan.specs.Draft.{config_drafted, CanBeMade};
 ghost use Rattle.mr_plan.specs.Lists.{all_of};
 ghost use Rattle.mr_plan.specs.Setups.{config_or, proxy_of};
 ghost use Rattle.mr_plan.specs.SetupDraft.{config_chosen, proxy_drafted, CanOwnBeMade};
 
-use mr_config::fields::{check_object, field, whole_number};
-use mr_config::{Config, Draft, PlanError, draft_of};
+use crate::config::{Config, Draft, draft_of};
+use crate::error::PlanError;
+use crate::fields::{check_object, field, whole_number};
 use mr_world::ProxySetup;
 use serde_json::Value;
 use std::alloc::{AllocError, Global};

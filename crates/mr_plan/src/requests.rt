@@ -6,10 +6,10 @@ ghost use Rattle.mr_text.specs.Key.{get_line_length};
 ghost use Rattle.mr_plan.specs.Requests.{are_keys, keys_in, keys_of, get_of, set_of, delete_of, request_of};
 ghost use Rattle.mr_plan.specs.RequestDraft.{request_drafted, IsRequestReady};
 
+use crate::error::PlanError;
+use crate::fields::{check_object, field, list, text};
 use crate::numbers::{flag, signed_number, small_number};
 use crate::texts::{block_text, key_text, length_of, make_block, make_key};
-use mr_config::PlanError;
-use mr_config::fields::{check_object, field, list, text};
 use mr_text::{Key, KeyList, MAX_LINE, Request};
 use serde_json::Value;
 use std::alloc::{AllocError, Global};

@@ -8,12 +8,13 @@ ghost use Rattle.mr_plan.specs.Script.{format_check, count_in, counts_check, scr
 ghost use Rattle.mr_plan.specs.ScriptDraft.{script_between, parts_between, parts_drafted, IsScriptReady};
 ghost use Rattle.mr_plan.specs.SetupDraft.{setup_drafted, IsSetupReady};
 
+use crate::config::json_of;
+use crate::error::PlanError;
 use crate::events::{check_events, make_events};
+use crate::fields::{check_object, field, list, whole_number};
 use crate::limits::{MAX_EVENTS, MAX_HELD, MAX_PROXIES, MAX_SCRIPT};
 use crate::setups::{SetupDraft, setup_draft};
 use crate::values::has_float;
-use mr_config::fields::{check_object, field, list, whole_number};
-use mr_config::{PlanError, json_of};
 use mr_world::{Event, Setup};
 use serde_json::Value;
 use std::alloc::{AllocError, Global};

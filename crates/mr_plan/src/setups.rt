@@ -1,16 +1,17 @@
 //! Fleets that JSON values set up.
 ghost use Rattle.std.specs.Prelude.{◌≡◌, Ok, Err, IfOk, IfErr, OnOk, IsOk, map};
 ghost use Rattle.serde_json.specs.View.{view};
-ghost use Rattle.mr_config.specs.Config.{ConfigView, config_of};
+ghost use Rattle.mr_plan.specs.Config.{ConfigView, config_of};
 ghost use Rattle.mr_plan.specs.Lists.{all_of};
 ghost use Rattle.mr_plan.specs.Setups.{held_of, proxy_of, setup_of};
 ghost use Rattle.mr_plan.specs.SetupDraft.{setup_between, setup_drafted, IsSetupReady};
 
+use crate::config::{Draft, draft_of};
+use crate::error::PlanError;
+use crate::fields::{check_object, field, list, whole_number};
 use crate::held::{check_held, make_held};
 use crate::homes::{are_housed, have_room};
 use crate::proxies::{check_proxies, make_proxies};
-use mr_config::fields::{check_object, field, list, whole_number};
-use mr_config::{Draft, PlanError, draft_of};
 use mr_world::{Setup, WorldError};
 use serde_json::Value;
 use std::alloc::{AllocError, Global};

@@ -6,8 +6,8 @@ ghost use Rattle.serde_json.specs.View.{view};
 ghost use Rattle.mr_text.specs.Key.{key_byte_test, key_test};
 ghost use Rattle.mr_plan.specs.Texts.{are_bytes, key_of_text, key_of, block_of_text, block_of};
 
-use mr_config::PlanError;
-use mr_config::fields::text;
+use crate::error::PlanError;
+use crate::fields::text;
 use mr_text::{Block, Key, MAX_BLOCK, MAX_KEY, TextError};
 use serde_json::Value;
 use std::alloc::{AllocError, Global};

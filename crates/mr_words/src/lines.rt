@@ -2,8 +2,8 @@
 ghost use Rattle.std.specs.Prelude.{◌≡◌};
 ghost use Rattle.mr_words.specs.Lines.{text_fault_line, node_fault_line, plan_fault_line};
 
-use mr_config::PlanError;
 use mr_node::NodeError;
+use mr_plan::PlanError;
 use mr_text::TextError;
 
 /// The line of a refusal of `mr_text`.
@@ -37,7 +37,7 @@ pub fn node_line(refusal: NodeError) -> &'static str
     }
 }
 
-/// The line of a refusal of `mr_plan` or of `mr_config`, without what it carries.
+/// The line of a refusal of `mr_plan`, without what it carries.
 pub fn plan_line(refusal: PlanError) -> &'static str
     ensures { result.now ≡ plan_fault_line refusal }
 {

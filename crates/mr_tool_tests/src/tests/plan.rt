@@ -8,7 +8,7 @@ mod script;
 mod script_values;
 
 use super::is;
-use mr_config::PlanError;
+use mr_plan::PlanError;
 use mr_pools::{NodeName, Pool};
 use mr_transcripts::{Outcome, check_transcript};
 use std::alloc::{AllocError, Global};

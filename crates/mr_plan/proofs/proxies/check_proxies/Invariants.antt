@@ -1,4 +1,4 @@
-use Rattle.mr_config.specs.Config.{ConfigView}
+use Rattle.mr_plan.specs.Config.{ConfigView}
 use Rattle.mr_plan.specs.Setups.{proxy_of}
 use Rattle.mr_plan.proofs.ReadingLemmas.{AreSeen}
 use Rattle.mr_plan.proofs.proxies.check_proxies.Given as goal

@@ -1,4 +1,4 @@
-use Rattle.mr_config.specs.Draft.{config_drafted}
+use Rattle.mr_plan.specs.Draft.{config_drafted}
 use Rattle.mr_plan.specs.Setups.{proxy_of}
 use Rattle.mr_plan.proofs.ReadingLemmas.{AreMade}
 use Rattle.mr_plan.proofs.proxies.make_proxies.Given as goal

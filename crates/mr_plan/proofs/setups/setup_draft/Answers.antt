@@ -1,5 +1,5 @@
 use Rattle.std.proofs.Common.{rules}
-use Rattle.mr_config.specs.Draft.{config_drafted}
+use Rattle.mr_plan.specs.Draft.{config_drafted}
 use Rattle.mr_plan.proofs.setups.setup_draft.Goals as goal
 
 pub returns-in-Err-check_homes-clause-refused : goal.returns-in-Err-check_homes-clause-refused

@@ -1,8 +1,8 @@
 //! Configurations, plans, timelines, scripts and transcripts.
 use super::{is, is_for, is_found, names_are};
-use mr_config::{Advice, Config, PhaseTimes, PlanError, RequestPlan, Span, advise, plan, timeline};
 use mr_history::OpId;
 use mr_phases::{PhaseName, ScheduleError, Side};
+use mr_plan::{Advice, Config, PhaseTimes, PlanError, RequestPlan, Span, advise, plan, timeline};
 use mr_pools::{NamedHash, PoolError};
 use mr_shown::KeptVerdict;
 use mr_text::{Key, KeyList, Request};

@@ -1,7 +1,6 @@
 //! Transcripts that were written or changed by hand, and many that are drawn.
 use super::{Change, changed, is, is_for, is_found, padded};
-use mr_config::PlanError;
-use mr_plan::read_events;
+use mr_plan::{PlanError, read_events};
 use mr_transcripts::{Outcome, write_transcript};
 use std::alloc::{AllocError, Global};
 use std::process::Abort;

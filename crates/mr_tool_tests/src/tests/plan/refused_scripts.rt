@@ -1,7 +1,7 @@
 //! Why texts are no scripts, and which of two reasons is told. Most texts are one script with some parts changed.
 use super::script::{SCRIPT, is_told, refusal};
 use super::{Change, changed, is_for};
-use mr_config::PlanError;
+use mr_plan::PlanError;
 use std::alloc::{AllocError, Global};
 use std::process::Abort;
 

@@ -1,7 +1,6 @@
 //! One script with each kind of event, and why a text is none.
 use super::{changed, is_for};
-use mr_config::PlanError;
-use mr_plan::read_events;
+use mr_plan::{PlanError, read_events};
 use std::alloc::{AllocError, Global};
 use std::process::Abort;
 

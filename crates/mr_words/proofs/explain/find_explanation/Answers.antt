@@ -11,4 +11,4 @@ pub returns-in-None-clause-found : goal.returns-in-None-clause-found
 unfolding table
 returns-in-None-clause-found c =
     told_second (is_of c.args.layer.now c.args.number) lower_table upper_table _ _ _ (rw c.in-None.is at c.told_among.ensures) c.lower_rows.ensures
-      c.told_among-in-None.ensures c.upper_rows.ensures
+    c.told_among-in-None.ensures c.upper_rows.ensures

@@ -1,6 +1,6 @@
 //! Bytes that are no JSON, and what of JSON is no matter: the same for configurations, scripts and transcripts.
 use super::*;
-use mr_config::Config;
+use mr_plan::Config;
 use mr_transcripts::check_transcript;
 use std::test::Fail;
 

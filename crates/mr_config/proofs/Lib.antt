@@ -1,3 +1,0 @@
-pub mod ConfigLemmas
-pub mod FieldLemmas
-pub mod PoolLemmas
