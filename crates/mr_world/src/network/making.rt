@@ -156,14 +156,23 @@ fn hold_item(nodes: &mut [Node], item: HeldItem) -> Result<(), AllocError>
     Ok(())
 }
 
+/// The history says that an item is held.
+fn record(history: &mut History, item: &HeldItem) -> Result<(), WorldError>
+    ensures history { IfOk result (λ _. history.new.entries ≡ history.old.entries ++ held_entry item.now ∷ []) }
+    ensures memory { IfErr result (λ e. e ≡ OutOfMemory) }
+{
+    history.reserve(1)?;
+    history.push(entry_of(item)?);
+    Ok(())
+}
+
 /// The item's node holds it, and the history says so.
 fn begin_with(nodes: &mut [Node], history: &mut History, item: HeldItem) -> Result<(), WorldError>
     ensures nodes { IfOk result (λ _. nodes.new ≡ hold nodes.old item) }
     ensures history { IfOk result (λ _. history.new.entries ≡ history.old.entries ++ held_entry item ∷ []) }
     ensures memory { IfErr result (λ e. e ≡ OutOfMemory) }
 {
-    history.reserve(1)?;
-    history.push(entry_of(&item)?);
+    record(history, &item)?;
     hold_item(nodes, item)?;
     Ok(())
 }

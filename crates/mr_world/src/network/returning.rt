@@ -64,10 +64,10 @@ impl Network {
         if number >= self.replies.len() {
             return Err(WorldError::NoSuchMessage);
         }
+        self.history.reserve(1)?;
         let delivery = &self.replies[number];
         let id = self.sent[delivery.message].sheet.id;
         let reply = delivery.reply.copy()?;
-        self.history.reserve(1)?;
         let proxy = &mut self.proxies[id.op.proxy as usize];
         let taken = proxy.take_reply(id, reply);
         Ok(note_taken(&mut self.history, taken))
