@@ -1,3 +1,13 @@
 pub mod ConfigLemmas
 pub mod FieldLemmas
 pub mod PoolLemmas
+pub mod EventLemmas
+pub mod HomeLemmas
+pub mod ListLemmas
+pub mod ReadingLemmas
+pub mod RefusalLemmas
+pub mod ScriptLemmas
+pub mod SetupLemmas
+pub mod TextLemmas
+pub mod ValueLemmas
+pub mod WholeLemmas
