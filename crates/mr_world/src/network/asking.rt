@@ -69,7 +69,10 @@ fn accept(proxy: &mut ProxyCore, reading: u64, request: &Request) -> Result<Issu
 {
     match proxy.issue(reading, request.copy()?) {
         Ok(issued) => Ok(issued),
-        Err(_) => Err(AllocError),
+        Err(back) => {
+            drop(back);
+            Err(AllocError)
+        }
     }
 }
 
@@ -100,7 +103,10 @@ impl Network {
         let place = number as usize;
         let proxy = &mut self.proxies[place];
         let count = make_room(&mut self.sent, &mut self.history, proxy, reading, &request)?;
-        let issued = accept(proxy, reading, &request)?;
+        let Ok(issued) = accept(proxy, reading, &request) else {
+            drop(request);
+            return Err(WorldError::OutOfMemory);
+        };
         let Issued { op, legs } = issued;
         let first = self.sent.len();
         send(&mut self.sent, &self.numbers[place], legs);

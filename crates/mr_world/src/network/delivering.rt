@@ -75,7 +75,10 @@ fn perform_leg(
     ensures unchanged { OnErr result ((node.new ≡ node.old) × (history.new.entries ≡ history.old.entries)) }
 {
     let entry = entry_of(sheet)?;
-    let reply = perform(node, now, &sheet.command)?;
+    let Ok(reply) = perform(node, now, &sheet.command) else {
+        drop(entry);
+        return Err(AllocError);
+    };
     append(history, entry);
     Ok(reply)
 }

@@ -152,7 +152,7 @@ fn hold_item(nodes: &mut [Node], item: HeldItem) -> Result<(), AllocError>
     };
     let command = command_of(item);
     let node = &mut nodes[number];
-    let _stored = node.cache.perform(0, command)?;
+    drop(node.cache.perform(0, command)?);
     Ok(())
 }
 

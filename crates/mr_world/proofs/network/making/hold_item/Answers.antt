@@ -3,5 +3,5 @@ use Rattle.mr_world.proofs.network.making.hold_item.Goals as goal
 
 pub returns : goal.returns
 returns c =
-    held_by c.args.nodes.now c.args.item c.in-Some.number c.index-nodes-number.result c.command_of-command.result c.in_ok-_stored._stored c.perform.new.self c.in-Some.ensures
-    c.command_of-command.ensures c.in_ok-_stored.ensures.done
+    held_by c.args.nodes.now c.args.item c.in-Some.number c.index-nodes-number.result c.command_of-command.result c.in_ok-perform.field-0 c.perform.new.self c.in-Some.ensures
+    c.command_of-command.ensures c.in_ok-perform.ensures.done
