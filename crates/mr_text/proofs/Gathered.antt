@@ -1,13 +1,14 @@
 -- What goes out of a text that is gathered, piece by piece.
-use Rattle.std.proofs.Common.{◌≡◌, ℕ, suc, ◌+◌, ◌<◌, ◌≤◌, ◌⊎◌, inl, inr, List, [], ◌∷◌, ◌++◌, length, take, drop, get_or, flat_map, take-append-drop, drop-cons, length-append, arith, refl, sym, ap, ◌∙◌, append-nil, append_assoc, Result, Ok, Err, subst, take-suc, zero, codes}
+use Rattle.std.proofs.Common.{◌≡◌, ℕ, suc, true, false, ◌+◌, ◌<◌, ◌≤◌, ◌⊎◌, inl, inr, List, [], ◌∷◌, ◌++◌, length, take, drop, get_or, flat_map, take-append-drop, drop-cons, length-append, arith, refl, sym, ap, ◌∙◌, append-nil, append_assoc, Result, Ok, Err, subst, take-suc, zero, codes}
 use Rattle.std.proofs.lemmas.Bool.{cases_lt}
 use Rattle.std.proofs.lemmas.Grind.{flat_map-append, common_steps}
+use Rattle.std.specs.Result.{is_ok, IsOk, OnOk}
 use Rattle.mr_text.specs.Canonical.{spaced, line_end}
-use Rattle.mr_text.specs.Gathering.{HasGathered, Gathers, Costs, IsFew, IsFewAtFault, owes}
+use Rattle.mr_text.specs.Gathering.{HasGathered, Gathers, Costs, IsFew, IsFewAtFault, TakesFewCalls, owes}
 use Rattle.mr_text.specs.Limits.{FIXED_BUFFER}
-use Rattle.mr_text.specs.Sink.{SinkView, HasStopped, Writes}
+use Rattle.mr_text.specs.Sink.{SinkView, HasWritten, HasStopped, Writes, IsOneWrite}
 use Rattle.mr_text.specs.declared.error.WriteFault.{WriteFault}
-use Rattle.mr_text.proofs.Writes.{written_none, written_then, stopped_behind, stopped_before, writes_behind}
+use Rattle.mr_text.proofs.Writes.{written_none, written_then, stopped_at_once, stopped_behind, stopped_before, writes_behind}
 
 both_fit : (a t b : ℕ) → (0 < a → b + a ≤ FIXED_BUFFER) → (0 < t → (b + a) + t ≤ FIXED_BUFFER) → 0 < a + t → b + (a + t) ≤ FIXED_BUFFER
 both_fit a zero b f g some = let h = f (omega arith) in omega arith
@@ -34,6 +35,34 @@ fault_before a t b c c' (over, few) = (omega arith, λ short. few (omega arith))
 -- nothing
 pub gathered_none : (buffer : List ℕ) (w : SinkView) → HasGathered [] buffer w buffer w
 gathered_none buffer w = record { sent = []; splits = append-nil buffer; wrote = written_none w; few = inl (λ some. absurd (omega arith), refl, omega arith) }
+
+-- bytes that fit the buffer stay there
+pub gathered_there : {E : Type 0} (a b old b' : List ℕ) (w : SinkView) (r : Result (Unit {0}) E) → b ≡ old → is_ok r ≡ true → OnOk r (b' ≡ old ++ a)
+    → (IsOk r → length old + length a ≤ FIXED_BUFFER) → HasGathered a b w b' w
+gathered_there a b old b' w (Ok _) same is grown fits =
+    let within = fits refl in
+    let size = ap length same in
+    let more = ap length grown in
+    let both = length-append old a in
+    record { sent = []; splits = ap (λ l. l ++ a) same ∙ sym grown; wrote = written_none w; few = inl (λ some. omega arith, refl, omega arith) }
+gathered_there a b old b' w (Err x) same is grown fits = absurd (let no : false ≡ true = is in cc)
+
+pub not_long : {E : Type 0} (a old : List ℕ) (r : Result (Unit {0}) E) → is_ok r ≡ true → (IsOk r → length old + length a ≤ FIXED_BUFFER) → length a ≤ FIXED_BUFFER
+not_long a old (Ok _) is fits = let within = fits refl in omega arith
+not_long a old (Err x) is fits = absurd (let no : false ≡ true = is in cc)
+
+-- the buffer goes out, and then the bytes by themselves
+pub gathers_alone : (a b b' : List ℕ) (old mid new : SinkView) (result : Result (Unit {0}) WriteFault) → HasWritten b old mid → b' ≡ [] → FIXED_BUFFER < length a
+    → IsOneWrite a mid result new → Gathers a b old result b' new
+gathers_alone a b b' old mid new (Ok _) sent none long one =
+    record {
+      sent = b ++ a;
+      splits = sym (append-nil (b ++ a)) ∙ ap (λ l. (b ++ a) ++ l) (sym none);
+      wrote = written_then b a old mid new sent one.0;
+      few = inr (omega arith, λ short. absurd (omega arith));
+    }
+gathers_alone a b b' old mid new (Err e) sent none long one =
+    (stopped_behind b a old mid new sent (stopped_at_once a mid new e one), (omega arith, λ short. absurd (omega arith)))
 
 -- one text, and another behind it
 pub gathered_then : (a t b b' b'' : List ℕ) (old mid new : SinkView) → HasGathered a b old b' mid → HasGathered t b' mid b'' new → HasGathered (a ++ t) b old b'' new
@@ -184,3 +213,29 @@ pub set_line_pieces : (key flags exptime size noreply word key' space flags' spa
     ≡ codes "set" ++ spaced key ++ spaced flags ++ spaced exptime ++ spaced size ++ noreply ++ line_end
 set_line_pieces key flags exptime size noreply word key' space flags' space' exptime' space'' size' noreply' a b c d e f g h i =
     rw (a, b, c, d, e, f, g, h, i) (set_pieces key flags exptime size noreply)
+
+-- the pieces of a get of one key are its text, which fits the buffer
+pub get_pieces : (key key' : List ℕ) → key' ≡ key → codes "get " ++ (key' ++ line_end) ≡ codes "get" ++ flat_map spaced (key ∷ []) ++ line_end
+get_pieces key key' same = ap (λ k. codes "get " ++ (k ++ line_end)) (same ∙ sym (append-nil key))
+
+pub get_fits : (key : List ℕ) → length key ≤ 250 → length (codes "get " ++ (key ++ line_end)) ≤ FIXED_BUFFER
+get_fits key short = let size = length-append key line_end in omega arith
+
+-- what a text that fits an empty buffer leaves, when it stops and when it is sent
+module _ (pieces text empty : List ℕ) (old : SinkView) (none : empty ≡ []) (are : pieces ≡ text) where
+  pub stopped_first : (new : SinkView) → HasStopped (empty ++ pieces) old new → HasStopped text old new
+  stopped_first new = subst (λ l. HasStopped l old new) (ap (λ l. l ++ pieces) none ∙ are)
+
+  pub few_at_fault : (new : SinkView) → length pieces ≤ FIXED_BUFFER → IsFewAtFault (length pieces) (length empty) old.calls new.calls → TakesFewCalls text 1 old new
+  few_at_fault new fits (over, few) = absurd (let size = ap length none in omega arith)
+
+  pub few_when_sent : (b : List ℕ) (mid new : SinkView) → length pieces ≤ FIXED_BUFFER → 0 < length pieces → HasGathered pieces empty old b mid
+      → (0 < length b → new.calls ≡ mid.calls + 1) → TakesFewCalls text 1 old new
+  few_when_sent b mid new fits some first sent = go first.few
+    where
+      size : length empty ≡ 0
+      size = ap length none
+
+      go : IsFew (length pieces) (length empty) old.calls (length b) mid.calls → TakesFewCalls text 1 old new
+      go (inl (within, same, grown)) = let zero = size in let once = sent (omega arith) in record { at_once = λ short. once ∙ ap (λ n. n + 1) same; few = omega arith }
+      go (inr (over, small)) = absurd (let zero = size in omega arith)

@@ -1,5 +1,6 @@
 -- What the first line of a reply says, as the reading finds it.
 use Rattle.std.proofs.Common.{◌≡◌, ◌≢◌, ℕ, zero, suc, ◌<◌, Bool, true, false, List, [], ◌∷◌, length, drop, Contains, Result, Ok, Err, refl, sym, ap, subst, arith, codes, if◌then◌else◌, inl, inr, slice_index_or}
+use Rattle.std.specs.List.{list_any}
 use Rattle.std.specs.Str.{bytes_eq}
 use Rattle.mr_text.specs.Replies.{lone_words, reply_words, IsUnknownReply, AreWrongReply, cause_of}
 use Rattle.mr_text.specs.steps.ReplyReading.{ReplyLine, drop_spaces, item_line, lone_line, first_line}
@@ -10,7 +11,7 @@ use Rattle.mr_text.specs.declared.reply.Reply.{Reply}
 use Rattle.mr_text.specs.declared.reply.Reply.TheVariants.{Items, Stored, Deleted, NotFound, Error, ClientError, ServerError}
 use Rattle.mr_text.proofs.ReplyLines.{ItemIs, item_is, wrong_item_found}
 use Rattle.mr_text.proofs.ReplySteps.{LineSays}
-use Rattle.mr_text.proofs.Texts.{text_true, true_among}
+use Rattle.mr_text.proofs.Texts.{text_true, true_among, not_among}
 
 -- the text behind the error's word
 abbrev pub error_text : List ℕ → List ℕ → List ℕ
@@ -180,3 +181,30 @@ unfolding first_line
 wrong_first line [] h = absurd h
 wrong_first line (word ∷ words) (inl ((place, within, there), more)) = lone_at line word words more place within there
 wrong_first line (word ∷ words) (inr is) = rw is.0 (wrong_item_found words is.1)
+
+-- the first line by its word, where a test of the word tells it
+module _ (line : List ℕ) (words : List (List ℕ)) (word : List ℕ) (behind : List (List ℕ)) (are : words ≡ word ∷ behind) where
+  pub value_line : bytes_eq word (codes "VALUE") ≡ true → first_line line words ≡ item_line behind
+  unfolding first_line
+  value_line is = rw (are, text_true word (codes "VALUE") is) refl
+
+  pub client_error_line : (rest text : List ℕ) → bytes_eq word (codes "CLIENT_ERROR") ≡ true → rest ≡ drop (length word) (drop_spaces line) → text ≡ drop 1 rest
+      → first_line line words ≡ Ok (LoneLine (ClientError (cause_of text)))
+  unfolding first_line
+  client_error_line rest text is left said = rw (are, said, left, text_true word (codes "CLIENT_ERROR") is) refl
+
+  pub server_error_line : (rest text : List ℕ) → bytes_eq word (codes "SERVER_ERROR") ≡ true → rest ≡ drop (length word) (drop_spaces line) → text ≡ drop 1 rest
+      → first_line line words ≡ Ok (LoneLine (ServerError (cause_of text)))
+  unfolding first_line
+  server_error_line rest text is left said = rw (are, said, left, text_true word (codes "SERVER_ERROR") is) refl
+
+  pub unknown_line : bytes_eq word (codes "VALUE") ≡ false → bytes_eq word (codes "CLIENT_ERROR") ≡ false → bytes_eq word (codes "SERVER_ERROR") ≡ false
+      → list_any (bytes_eq word) lone_words ≡ false → first_line line words ≡ Err (UnknownCommand true)
+  unfolding first_line
+  unknown_line value client server lone =
+      let stored = not_among word (codes "STORED") lone_words lone (0, omega arith, refl) in
+      let deleted = not_among word (codes "DELETED") lone_words lone (1, omega arith, refl) in
+      let not_found = not_among word (codes "NOT_FOUND") lone_words lone (2, omega arith, refl) in
+      let error = not_among word (codes "ERROR") lone_words lone (3, omega arith, refl) in
+      let end = not_among word (codes "END") lone_words lone (4, omega arith, refl) in
+      rw (are, stored, deleted, not_found, error, end, value, client, server) refl

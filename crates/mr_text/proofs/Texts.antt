@@ -1,5 +1,5 @@
 -- Tests of texts.
-use Rattle.std.proofs.Common.{◌≡◌, ◌≢◌, ℕ, zero, suc, ◌||◌, Bool, true, false, List, [], ◌∷◌, Contains, refl, sym, arith}
+use Rattle.std.proofs.Common.{◌≡◌, ◌≢◌, ℕ, zero, suc, ◌||◌, Bool, true, false, List, [], ◌∷◌, Contains, refl, sym, subst, arith}
 use Rattle.std.specs.Str.{bytes_eq}
 use Rattle.std.specs.List.{list_any}
 use Rattle.std.proofs.lemmas.Slice.Eq.{bytes_eq-Decides}
@@ -26,3 +26,11 @@ pub true_among : (text : List ℕ) (texts : List (List ℕ)) → Contains texts 
 true_among text [] (k, within, at) = absurd (omega arith)
 true_among text (t ∷ ts) (zero, within, at) = let same = true_text text t (sym at) in rw same refl
 true_among text (t ∷ ts) (suc k, within, at) = or_true (bytes_eq text t) (list_any (bytes_eq text) ts) (true_among text ts (k, omega arith, at))
+
+-- where a text is none of the texts, each of them is another
+pub not_among : (word text : List ℕ) (texts : List (List ℕ)) → list_any (bytes_eq word) texts ≡ false → Contains texts text → bytes_eq word text ≡ false
+not_among word text texts none has = go (bytes_eq word text) refl
+  where
+    go : (t : Bool) → bytes_eq word text ≡ t → bytes_eq word text ≡ false
+    go true e = absurd (let same = text_true word text e in let there = true_among word texts (subst (Contains texts) (sym same) has) in cc)
+    go false e = e

@@ -58,7 +58,7 @@ pub fn write_get<W: Sink>(key: &Key, writer: &mut W) -> Result<(), WriteFault>
     ensures calls { TakesFewCalls (canonical_request (Get (key.now ∷ []))) 1 (W.told writer.old) (W.told writer.new) }
 {
     let mut buffer = FixedBuffer::new();
-    buffer.put_line(&[b"get ".as_slice(), key.as_bytes(), LINE_END], writer)?;
+    buffer.put_line(&[b"get ", key.as_bytes(), LINE_END], writer)?;
     buffer.send(writer)
 }
 
@@ -118,11 +118,11 @@ fn put_value_line<W: Sink>(
     let mut length_text = Buffer::new();
     buffer.put_line(
         &[
-            b"VALUE ".as_slice(),
+            b"VALUE ",
             key.as_bytes(),
-            b" ".as_slice(),
+            b" ",
             flags_text.format(flags).as_bytes(),
-            b" ".as_slice(),
+            b" ",
             length_text.format(block_length).as_bytes(),
             LINE_END,
         ],
@@ -149,7 +149,7 @@ pub fn put_end<W: Sink>(buffer: &mut FixedBuffer, writer: &mut W) -> Result<(), 
     ensures text { Gathers (codes "END" ++ line_end) buffer.old (W.told writer.old) result buffer.new (W.told writer.new) }
     ensures calls { (W.told writer.new).calls ≤ (W.told writer.old).calls + owes buffer.old }
 {
-    buffer.put_line(&[b"END".as_slice(), LINE_END], writer)
+    buffer.put_line(&[b"END", LINE_END], writer)
 }
 
 /// Puts an error: its word with a space, the text and the line end.
@@ -181,10 +181,10 @@ fn put_reply<W: Sink>(
             put_items(items.as_slice(), buffer, writer)?;
             put_end(buffer, writer)
         }
-        Reply::Stored => buffer.put_line(&[b"STORED".as_slice(), LINE_END], writer),
-        Reply::Deleted => buffer.put_line(&[b"DELETED".as_slice(), LINE_END], writer),
-        Reply::NotFound => buffer.put_line(&[b"NOT_FOUND".as_slice(), LINE_END], writer),
-        Reply::Error => buffer.put_line(&[b"ERROR".as_slice(), LINE_END], writer),
+        Reply::Stored => buffer.put_line(&[b"STORED", LINE_END], writer),
+        Reply::Deleted => buffer.put_line(&[b"DELETED", LINE_END], writer),
+        Reply::NotFound => buffer.put_line(&[b"NOT_FOUND", LINE_END], writer),
+        Reply::Error => buffer.put_line(&[b"ERROR", LINE_END], writer),
         Reply::ClientError(cause) => put_error(b"CLIENT_ERROR ", cause, buffer, writer),
         Reply::ServerError(cause) => put_error(b"SERVER_ERROR ", cause, buffer, writer),
     }
@@ -214,13 +214,13 @@ fn put_set_line<W: Sink>(
     let mut length_text = Buffer::new();
     buffer.put_line(
         &[
-            b"set ".as_slice(),
+            b"set ",
             key.as_bytes(),
-            b" ".as_slice(),
+            b" ",
             flags_text.format(flags).as_bytes(),
-            b" ".as_slice(),
+            b" ",
             exptime_text.format(exptime).as_bytes(),
-            b" ".as_slice(),
+            b" ",
             length_text.format(block_length).as_bytes(),
             noreply_word(noreply),
             LINE_END,
@@ -257,12 +257,7 @@ fn put_delete<W: Sink>(
     ensures calls { (W.told writer.new).calls ≤ (W.told writer.old).calls + owes buffer.old }
 {
     buffer.put_line(
-        &[
-            b"delete ".as_slice(),
-            key.as_bytes(),
-            noreply_word(noreply),
-            LINE_END,
-        ],
+        &[b"delete ", key.as_bytes(), noreply_word(noreply), LINE_END],
         writer,
     )
 }
@@ -271,7 +266,7 @@ fn put_key<W: Sink>(key: &Key, buffer: &mut FixedBuffer, writer: &mut W) -> Resu
     ensures text { Gathers (spaced key.now) buffer.old (W.told writer.old) result buffer.new (W.told writer.new) }
     ensures calls { (W.told writer.new).calls ≤ (W.told writer.old).calls + 1 }
 {
-    buffer.put_line(&[b" ".as_slice(), key.as_bytes()], writer)
+    buffer.put_line(&[b" ", key.as_bytes()], writer)
 }
 
 fn put_keys<W: Sink>(
@@ -299,7 +294,7 @@ fn put_request<W: Sink>(
 {
     match request {
         Request::Get { keys } => {
-            buffer.put_line(&[b"get".as_slice()], writer)?;
+            buffer.put_line(&[b"get"], writer)?;
             put_keys(keys.as_slice(), buffer, writer)?;
             buffer.put_line(&[LINE_END], writer)
         }
@@ -311,6 +306,6 @@ fn put_request<W: Sink>(
             noreply,
         } => put_set(key, *flags, *exptime, block, *noreply, buffer, writer),
         Request::Delete { key, noreply } => put_delete(key, *noreply, buffer, writer),
-        Request::Quit => buffer.put_line(&[b"quit".as_slice(), LINE_END], writer),
+        Request::Quit => buffer.put_line(&[b"quit", LINE_END], writer),
     }
 }

@@ -1,10 +1,11 @@
 //! What the line of a request says.
-ghost use Rattle.std.specs.Prelude.{◌≡◌, ◌≤◌, length, IfOk};
+ghost use Rattle.std.specs.Prelude.{◌≡◌, ◌≤◌, ◌∷◌, length, IfOk};
 ghost use Rattle.std.specs.List.{list_any};
 ghost use Rattle.std.specs.Str.{bytes_eq};
 ghost use Rattle.mr_text.specs.Commands.{block_command_words};
+ghost use Rattle.mr_text.specs.Commands.Shape.{SetShape};
 ghost use Rattle.mr_text.specs.Text.{words_of};
-ghost use Rattle.mr_text.specs.steps.Reading.{command_line, line_of_shape, get_shape, set_shape, delete_shape, quit_shape, noreply_of, without_zero};
+ghost use Rattle.mr_text.specs.steps.Reading.{command_line, line_of, line_of_shape, get_shape, set_shape, delete_shape, quit_shape, noreply_of, without_zero};
 ghost use Rattle.mr_text.specs.steps.CommandView.{IsCommand, IsGoodLine};
 ghost use Rattle.mr_text.specs.Limits.{MAX_LINE};
 
@@ -12,7 +13,7 @@ use crate::error::TextError;
 use crate::key::is_key;
 use crate::limits::MAX_BLOCK;
 use crate::reading::numbers::{number_up_to, signed_number};
-use crate::reading::words::next_word;
+use crate::reading::words::{is_text, next_word};
 
 /// What the line of a request says, over the line's own bytes.
 #[derive(Clone, Copy)]
@@ -50,29 +51,43 @@ pub(crate) fn command_of(line: &[u8]) -> Result<Command<'_>, TextError>
 fn said(line: &[u8]) -> Result<Command<'_>, TextError>
     ensures { IsCommand (command_line (words_of line.now)) result }
 {
-    let Some((word, arguments)) = next_word(line) else {
-        return Err(TextError::UnknownCommand { closes: false });
-    };
-    match word {
-        b"get" => get(arguments),
-        b"set" => set(arguments),
-        b"delete" => delete(arguments),
-        b"quit" => quit(arguments),
-        _ => Err(TextError::UnknownCommand {
-            closes: is_followed_by_block(word),
-        }),
+    match next_word(line) {
+        Some((word, arguments)) => said_behind(word, arguments),
+        None => Err(TextError::UnknownCommand { closes: false }),
     }
+}
+
+/// What a line says that begins with this word.
+#[tactic(auto, unfolding(crate::specs::steps::Reading::shape_of))]
+fn said_behind<'a>(word: &[u8], arguments: &'a [u8]) -> Result<Command<'a>, TextError>
+    ensures { IsCommand (command_line (word.now ∷ words_of arguments.entry.now)) result }
+{
+    if is_text(word, b"get") {
+        return get(arguments);
+    }
+    if is_text(word, b"set") {
+        return set(arguments);
+    }
+    if is_text(word, b"delete") {
+        return delete(arguments);
+    }
+    if is_text(word, b"quit") {
+        return quit(arguments);
+    }
+    Err(TextError::UnknownCommand {
+        closes: is_followed_by_block(word),
+    })
 }
 
 /// Whether a block follows the line of this command, which isn't served.
 fn is_followed_by_block(word: &[u8]) -> bool
     ensures { result ≡ list_any (bytes_eq word.now) block_command_words }
 {
-    word == b"add".as_slice()
-        || word == b"replace".as_slice()
-        || word == b"append".as_slice()
-        || word == b"prepend".as_slice()
-        || word == b"cas".as_slice()
+    is_text(word, b"add")
+        || is_text(word, b"replace")
+        || is_text(word, b"append")
+        || is_text(word, b"prepend")
+        || is_text(word, b"cas")
 }
 
 fn get(arguments: &[u8]) -> Result<Command<'_>, TextError>
@@ -99,17 +114,46 @@ fn get(arguments: &[u8]) -> Result<Command<'_>, TextError>
 fn set(arguments: &[u8]) -> Result<Command<'_>, TextError>
     ensures { IsCommand (line_of_shape (set_shape (words_of arguments.now))) result }
 {
-    let (key, rest) = next_word(arguments).ok_or(TextError::WrongWords)?;
-    let (flags, rest) = next_word(rest).ok_or(TextError::WrongWords)?;
-    let (exptime, rest) = next_word(rest).ok_or(TextError::WrongWords)?;
-    let (bytes, options) = next_word(rest).ok_or(TextError::WrongWords)?;
-    let noreply = noreply(options).ok_or(TextError::WrongWords)?;
+    let Some((key, rest)) = next_word(arguments) else {
+        return Err(TextError::WrongWords);
+    };
+    let Some((flags, rest)) = next_word(rest) else {
+        return Err(TextError::WrongWords);
+    };
+    let Some((exptime, rest)) = next_word(rest) else {
+        return Err(TextError::WrongWords);
+    };
+    let Some((bytes, options)) = next_word(rest) else {
+        return Err(TextError::WrongWords);
+    };
+    match noreply(options) {
+        Some(noreply) => set_of(key, flags, exptime, bytes, noreply),
+        None => Err(TextError::WrongWords),
+    }
+}
+
+/// The set of these words.
+fn set_of<'a>(
+    key: &'a [u8],
+    flags: &[u8],
+    exptime: &[u8],
+    bytes: &[u8],
+    noreply: bool,
+) -> Result<Command<'a>, TextError>
+    ensures { IsCommand (line_of (SetShape key.entry.now flags.now exptime.now bytes.now noreply)) result }
+{
     if !is_key(key) {
         return Err(TextError::BadKey);
     }
-    let flags = number_up_to(u64::from(u32::MAX), flags).ok_or(TextError::BadNumber)?;
-    let exptime = signed_number(exptime).ok_or(TextError::BadNumber)?;
-    let block_length = number_up_to(u64::MAX, bytes).ok_or(TextError::BadNumber)?;
+    let Some(flags) = number_up_to(u64::from(u32::MAX), flags) else {
+        return Err(TextError::BadNumber);
+    };
+    let Some(exptime) = signed_number(exptime) else {
+        return Err(TextError::BadNumber);
+    };
+    let Some(block_length) = number_up_to(u64::MAX, bytes) else {
+        return Err(TextError::BadNumber);
+    };
     if block_length > MAX_BLOCK as u64 {
         return Err(TextError::DataTooLong);
     }
@@ -125,8 +169,12 @@ fn set(arguments: &[u8]) -> Result<Command<'_>, TextError>
 fn delete(arguments: &[u8]) -> Result<Command<'_>, TextError>
     ensures { IsCommand (line_of_shape (delete_shape (words_of arguments.now))) result }
 {
-    let (key, options) = next_word(arguments).ok_or(TextError::WrongWords)?;
-    let noreply = noreply(without_zero(options)).ok_or(TextError::WrongWords)?;
+    let Some((key, options)) = next_word(arguments) else {
+        return Err(TextError::WrongWords);
+    };
+    let Some(noreply) = noreply(without_zero(options)) else {
+        return Err(TextError::WrongWords);
+    };
     if !is_key(key) {
         return Err(TextError::BadKey);
     }
@@ -149,7 +197,7 @@ fn noreply(options: &[u8]) -> Option<bool>
     let Some((word, rest)) = next_word(options) else {
         return Some(false);
     };
-    if next_word(rest).is_none() && word == b"noreply".as_slice() {
+    if next_word(rest).is_none() && is_text(word, b"noreply") {
         Some(true)
     } else {
         None
@@ -161,7 +209,7 @@ fn without_zero(options: &[u8]) -> &[u8]
     ensures { words_of result.now ≡ without_zero (words_of options.now) }
 {
     match next_word(options) {
-        Some((word, rest)) if word == b"0".as_slice() => rest,
+        Some((word, rest)) if is_text(word, b"0") => rest,
         _ => options,
     }
 }

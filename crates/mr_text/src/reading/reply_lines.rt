@@ -1,5 +1,8 @@
 //! What a line of a reply says.
-ghost use Rattle.std.specs.Prelude.{◌≡◌, ◌≤◌, drop, length, IfOk};
+ghost use Rattle.std.specs.Prelude.{◌≡◌, ◌≤◌, ◌∷◌, [], ℕ, List, false, drop, length, IfOk, IfSome, MatchOption};
+ghost use Rattle.std.specs.List.{list_any};
+ghost use Rattle.std.specs.Str.{bytes_eq};
+ghost use Rattle.mr_text.specs.Replies.{lone_words};
 ghost use Rattle.mr_text.specs.Text.{words_of};
 ghost use Rattle.mr_text.specs.steps.ReplyReading.{ReplyLine, first_line, next_line, item_line, item_line_within, lone_line, drop_spaces};
 ghost use Rattle.mr_text.specs.steps.ReplyReading.ReplyLine.{EndLine, LoneLine};
@@ -11,7 +14,7 @@ use crate::error::TextError;
 use crate::key::is_key;
 use crate::limits::MAX_BLOCK;
 use crate::reading::numbers::number_up_to;
-use crate::reading::words::next_word;
+use crate::reading::words::{is_text, next_word};
 
 /// What a line of a reply says, over the line's own bytes.
 #[derive(Clone, Copy)]
@@ -42,31 +45,44 @@ pub(crate) fn first_line_of(line: &[u8]) -> Result<SaidLine<'_>, TextError>
     let Some((word, rest)) = next_word(line) else {
         return Err(TextError::UnknownCommand { closes: true });
     };
-    if word == b"STORED".as_slice() {
-        return alone(SaidLine::Stored, rest);
-    }
-    if word == b"DELETED".as_slice() {
-        return alone(SaidLine::Deleted, rest);
-    }
-    if word == b"NOT_FOUND".as_slice() {
-        return alone(SaidLine::NotFound, rest);
-    }
-    if word == b"ERROR".as_slice() {
-        return alone(SaidLine::Error, rest);
-    }
-    if word == b"END".as_slice() {
-        return alone(SaidLine::End, rest);
-    }
-    if word == b"VALUE".as_slice() {
+    if is_text(word, b"VALUE") {
         return item(rest);
     }
-    if word == b"CLIENT_ERROR".as_slice() {
+    if is_text(word, b"CLIENT_ERROR") {
         return Ok(SaidLine::ClientError(error_text(line, 12, rest)));
     }
-    if word == b"SERVER_ERROR".as_slice() {
+    if is_text(word, b"SERVER_ERROR") {
         return Ok(SaidLine::ServerError(error_text(line, 12, rest)));
     }
-    Err(TextError::UnknownCommand { closes: true })
+    match lone_word(word) {
+        Some(said) => alone(said, rest),
+        None => Err(TextError::UnknownCommand { closes: true }),
+    }
+}
+
+/// What a word says that stands alone in its line; None for any other word.
+#[tactic(auto, unfolding(crate::specs::steps::ReplyReading::first_line))]
+fn lone_word<'a>(word: &[u8]) -> Option<SaidLine<'a>>
+    ensures line { MatchOption result (list_any (bytes_eq word.now) lone_words ≡ false)
+        (λ said. (line : List ℕ) → (words : List (List ℕ)) → first_line line (word.now ∷ words) ≡ lone_line (said_by said) words) }
+    ensures text { IfSome result HasOneLine }
+{
+    if is_text(word, b"STORED") {
+        return Some(SaidLine::Stored);
+    }
+    if is_text(word, b"DELETED") {
+        return Some(SaidLine::Deleted);
+    }
+    if is_text(word, b"NOT_FOUND") {
+        return Some(SaidLine::NotFound);
+    }
+    if is_text(word, b"ERROR") {
+        return Some(SaidLine::Error);
+    }
+    if is_text(word, b"END") {
+        return Some(SaidLine::End);
+    }
+    None
 }
 
 /// What a line behind an item says, with room for so many more items.
@@ -81,11 +97,13 @@ pub(crate) fn next_line_of(room: usize, line: &[u8]) -> Result<SaidLine<'_>, Tex
 fn next_said(room: usize, line: &[u8]) -> Result<SaidLine<'_>, TextError>
     ensures { IsLine (next_line room (words_of line.now)) result }
 {
-    let (word, rest) = next_word(line).ok_or(TextError::WrongWords)?;
-    if word == b"END".as_slice() {
+    let Some((word, rest)) = next_word(line) else {
+        return Err(TextError::WrongWords);
+    };
+    if is_text(word, b"END") {
         return alone(SaidLine::End, rest);
     }
-    if word == b"VALUE".as_slice() {
+    if is_text(word, b"VALUE") {
         return item_within(room, rest);
     }
     Err(TextError::WrongWords)
@@ -131,17 +149,35 @@ fn item(words: &[u8]) -> Result<SaidLine<'_>, TextError>
     ensures line { IsLine (item_line (words_of words.now)) result }
     ensures text { IfOk result HasOneLine }
 {
-    let (key, rest) = next_word(words).ok_or(TextError::WrongWords)?;
-    let (flags, rest) = next_word(rest).ok_or(TextError::WrongWords)?;
-    let (bytes, rest) = next_word(rest).ok_or(TextError::WrongWords)?;
+    let Some((key, rest)) = next_word(words) else {
+        return Err(TextError::WrongWords);
+    };
+    let Some((flags, rest)) = next_word(rest) else {
+        return Err(TextError::WrongWords);
+    };
+    let Some((bytes, rest)) = next_word(rest) else {
+        return Err(TextError::WrongWords);
+    };
     if next_word(rest).is_some() {
         return Err(TextError::WrongWords);
     }
+    item_of(key, flags, bytes)
+}
+
+/// The item of these words.
+fn item_of<'a>(key: &'a [u8], flags: &[u8], bytes: &[u8]) -> Result<SaidLine<'a>, TextError>
+    ensures line { IsLine (item_line (key.entry.now ∷ flags.now ∷ bytes.now ∷ [])) result }
+    ensures text { IfOk result HasOneLine }
+{
     if !is_key(key) {
         return Err(TextError::BadKey);
     }
-    let flags = number_up_to(u64::from(u32::MAX), flags).ok_or(TextError::BadNumber)?;
-    let block_length = number_up_to(u64::MAX, bytes).ok_or(TextError::BadNumber)?;
+    let Some(flags) = number_up_to(u64::from(u32::MAX), flags) else {
+        return Err(TextError::BadNumber);
+    };
+    let Some(block_length) = number_up_to(u64::MAX, bytes) else {
+        return Err(TextError::BadNumber);
+    };
     if block_length > MAX_BLOCK as u64 {
         return Err(TextError::DataTooLong);
     }

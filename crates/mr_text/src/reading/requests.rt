@@ -1,5 +1,8 @@
 //! The request at the front of some bytes: found over the bytes, and then copied out.
 ghost use Rattle.std.specs.Prelude.{◌≡◌, ◌≤◌, length, IfOk};
+ghost use Rattle.mr_text.specs.Limits.{MAX_LINE};
+ghost use Rattle.mr_text.specs.steps.Reading.{line_reading};
+ghost use Rattle.mr_text.specs.steps.Reading.Reading.{Gives};
 ghost use Rattle.mr_text.specs.steps.RequestView.{IsFound, IsWhole, said_request};
 ghost use Rattle.mr_text.specs.steps.CommandView.{AreKeys};
 ghost use Rattle.mr_text.specs.Text.{words_of};
@@ -37,13 +40,25 @@ pub(crate) struct RefusedText {
 pub(crate) fn request_at(bytes: &[u8]) -> Result<Option<FoundRequest<'_>>, RefusedText>
     ensures { IsFound bytes.now result }
 {
-    let found = match line_at(bytes) {
-        Ok(found) => found,
-        Err(refusal) => return Err(RefusedText { refusal, length: 0 }),
-    };
-    let Some((line, line_length)) = found else {
-        return Ok(None);
-    };
+    match line_at(bytes) {
+        Ok(Some((line, length))) => request_of_line(bytes, line, length),
+        Ok(None) => Ok(None),
+        Err(refusal) => Err(RefusedText { refusal, length: 0 }),
+    }
+}
+
+/// The same where this line, the first of the bytes, was read.
+#[tactic(auto, unfolding(crate::specs::steps::Reading::request_reading))]
+fn request_of_line<'a>(
+    bytes: &'a [u8],
+    line: &'a [u8],
+    line_length: usize,
+) -> Result<Option<FoundRequest<'a>>, RefusedText>
+    requires line { line_reading bytes.now ≡ Gives line.now line_length }
+    requires within { line_length ≤ length bytes.now }
+    requires not_long { length line.now ≤ MAX_LINE }
+    ensures { IsFound bytes.entry.now result }
+{
     let command = match command_of(line) {
         Ok(command) => command,
         Err(refusal) => {

@@ -1,5 +1,6 @@
 //! The words of a line, one by one.
 ghost use Rattle.std.specs.Prelude.{◌≡◌, ◌≢◌, ◌∷◌, [], ◌<◌, ◌≤◌, drop, length, slice_get, Some, IfSome, MatchOption};
+ghost use Rattle.std.specs.Str.{bytes_eq};
 ghost use Rattle.mr_text.specs.Text.{words_of};
 ghost use Rattle.mr_text.specs.steps.ReplyReading.{drop_spaces};
 
@@ -30,4 +31,11 @@ pub(crate) fn next_word(bytes: &[u8]) -> Option<(&[u8], &[u8])>
     }
     let end = place_of_byte(b' ', bytes).unwrap_or(bytes.len());
     Some(bytes.split_at(end))
+}
+
+/// Whether the word is this text.
+pub(crate) fn is_text(word: &[u8], text: &[u8]) -> bool
+    ensures { result ≡ bytes_eq word.now text.now }
+{
+    word == text
 }

@@ -1,4 +1,4 @@
-use Rattle.std.proofs.Common.{rules, ◌≡◌, ◌∙◌, decimal, subst}
+use Rattle.std.proofs.Common.{rules, ◌≡◌, ◌∷◌, [], ◌∙◌, codes, decimal, refl, subst}
 use Rattle.std.specs.Fmt.{signed_decimal}
 use Rattle.mr_text.specs.Canonical.{noreply_text}
 use Rattle.mr_text.specs.Gathering.{Gathers}
@@ -10,8 +10,7 @@ returns-clause-text g c =
     let exptime : c.as_bytes-3.result.now ≡ signed_decimal c.args.exptime = search rules in
     subst (λ l. Gathers l c.args.buffer.now (g.W.Sink.told c.args.writer.now) c.put_line.result c.put_line.new.self (g.W.Sink.told c.put_line.new.writer))
     (set_line_pieces c.args.key.now (decimal c.args.flags) (signed_decimal c.args.exptime) (decimal c.args.block_length) (noreply_text c.args.noreply)
-    c.as_slice.result.now c.as_bytes.result.now c.as_slice-2.result.now c.as_bytes-2.result.now c.as_slice-3.result.now c.as_bytes-3.result.now c.as_slice-4.result.now
-    c.as_bytes-4.result.now c.noreply_word.result.now
-    c.as_slice.ensures c.as_bytes.ensures.bytes c.as_slice-2.ensures (c.as_bytes-2.ensures.value ∙ c.format.ensures.text) c.as_slice-3.ensures
-    exptime c.as_slice-4.ensures (c.as_bytes-4.ensures.value ∙ c.format-3.ensures.text) c.noreply_word.ensures)
+    (codes "set ") c.as_bytes.result.now (32 ∷ []) c.as_bytes-2.result.now (32 ∷ []) c.as_bytes-3.result.now (32 ∷ []) c.as_bytes-4.result.now c.noreply_word.result.now
+    refl c.as_bytes.ensures.bytes refl (c.as_bytes-2.ensures.value ∙ c.format.ensures.text) refl
+    exptime refl (c.as_bytes-4.ensures.value ∙ c.format-3.ensures.text) c.noreply_word.ensures)
     c.put_line.ensures.text
