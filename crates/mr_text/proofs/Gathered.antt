@@ -1,14 +1,13 @@
 -- What goes out of a text that is gathered, piece by piece.
-use Rattle.std.proofs.Common.{◌≡◌, ℕ, suc, true, false, ◌+◌, ◌<◌, ◌≤◌, ◌⊎◌, inl, inr, List, [], ◌∷◌, ◌++◌, length, take, drop, get_or, flat_map, take-append-drop, drop-cons, length-append, arith, refl, sym, ap, ◌∙◌, append-nil, append_assoc, Result, Ok, Err, subst, take-suc, zero, codes}
+use Rattle.std.proofs.Common.{◌≡◌, ℕ, suc, ◌+◌, ◌<◌, ◌≤◌, ◌⊎◌, inl, inr, List, [], ◌∷◌, ◌++◌, length, take, drop, get_or, flat_map, take-append-drop, drop-cons, length-append, arith, refl, sym, ap, ◌∙◌, append-nil, append_assoc, Result, Ok, Err, subst, take-suc, zero, codes}
 use Rattle.std.proofs.lemmas.Bool.{cases_lt}
 use Rattle.std.proofs.lemmas.Grind.{flat_map-append, common_steps}
-use Rattle.std.specs.Result.{is_ok, IsOk, OnOk}
 use Rattle.mr_text.specs.Canonical.{spaced, line_end}
 use Rattle.mr_text.specs.Gathering.{HasGathered, Gathers, Costs, IsFew, IsFewAtFault, TakesFewCalls, owes}
 use Rattle.mr_text.specs.Limits.{FIXED_BUFFER}
-use Rattle.mr_text.specs.Sink.{SinkView, HasWritten, HasStopped, Writes, IsOneWrite}
+use Rattle.mr_text.specs.Sink.{SinkView, HasStopped, Writes}
 use Rattle.mr_text.specs.declared.error.WriteFault.{WriteFault}
-use Rattle.mr_text.proofs.Writes.{written_none, written_then, stopped_at_once, stopped_behind, stopped_before, writes_behind}
+use Rattle.mr_text.proofs.Writes.{written_none, written_then, stopped_behind, stopped_before, writes_behind}
 
 both_fit : (a t b : ℕ) → (0 < a → b + a ≤ FIXED_BUFFER) → (0 < t → (b + a) + t ≤ FIXED_BUFFER) → 0 < a + t → b + (a + t) ≤ FIXED_BUFFER
 both_fit a zero b f g some = let h = f (omega arith) in omega arith
@@ -35,34 +34,6 @@ fault_before a t b c c' (over, few) = (omega arith, λ short. few (omega arith))
 -- nothing
 pub gathered_none : (buffer : List ℕ) (w : SinkView) → HasGathered [] buffer w buffer w
 gathered_none buffer w = record { sent = []; splits = append-nil buffer; wrote = written_none w; few = inl (λ some. absurd (omega arith), refl, omega arith) }
-
--- bytes that fit the buffer stay there
-pub gathered_there : {E : Type 0} (a b old b' : List ℕ) (w : SinkView) (r : Result (Unit {0}) E) → b ≡ old → is_ok r ≡ true → OnOk r (b' ≡ old ++ a)
-    → (IsOk r → length old + length a ≤ FIXED_BUFFER) → HasGathered a b w b' w
-gathered_there a b old b' w (Ok _) same is grown fits =
-    let within = fits refl in
-    let size = ap length same in
-    let more = ap length grown in
-    let both = length-append old a in
-    record { sent = []; splits = ap (λ l. l ++ a) same ∙ sym grown; wrote = written_none w; few = inl (λ some. omega arith, refl, omega arith) }
-gathered_there a b old b' w (Err x) same is grown fits = absurd (let no : false ≡ true = is in cc)
-
-pub not_long : {E : Type 0} (a old : List ℕ) (r : Result (Unit {0}) E) → is_ok r ≡ true → (IsOk r → length old + length a ≤ FIXED_BUFFER) → length a ≤ FIXED_BUFFER
-not_long a old (Ok _) is fits = let within = fits refl in omega arith
-not_long a old (Err x) is fits = absurd (let no : false ≡ true = is in cc)
-
--- the buffer goes out, and then the bytes by themselves
-pub gathers_alone : (a b b' : List ℕ) (old mid new : SinkView) (result : Result (Unit {0}) WriteFault) → HasWritten b old mid → b' ≡ [] → FIXED_BUFFER < length a
-    → IsOneWrite a mid result new → Gathers a b old result b' new
-gathers_alone a b b' old mid new (Ok _) sent none long one =
-    record {
-      sent = b ++ a;
-      splits = sym (append-nil (b ++ a)) ∙ ap (λ l. (b ++ a) ++ l) (sym none);
-      wrote = written_then b a old mid new sent one.0;
-      few = inr (omega arith, λ short. absurd (omega arith));
-    }
-gathers_alone a b b' old mid new (Err e) sent none long one =
-    (stopped_behind b a old mid new sent (stopped_at_once a mid new e one), (omega arith, λ short. absurd (omega arith)))
 
 -- one text, and another behind it
 pub gathered_then : (a t b b' b'' : List ℕ) (old mid new : SinkView) → HasGathered a b old b' mid → HasGathered t b' mid b'' new → HasGathered (a ++ t) b old b'' new

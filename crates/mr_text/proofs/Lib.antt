@@ -4,7 +4,6 @@ pub mod Numbers
 pub mod Words
 pub mod Texts
 pub mod Copied
-pub mod Failing
 pub mod Shapes
 pub mod Values
 pub mod Lines
