@@ -1,9 +1,8 @@
 //! What the clients of one proxy came to, as far as they were waited for.
 ghost use Rattle.std.specs.Prelude.{◌≡◌, ◌+◌, ◌≤◌, ◌<◌, map, IfOk, vec_len, vec_capacity};
 
-use crate::attended::Attended;
-use crate::client_end::ClientEnd;
 use mr_clock::Clock;
+use mr_fleet_clients::{Attended, ClientEnd};
 use mr_proxy::Answer;
 use mr_text::{Sink, Source};
 use mr_workers::{Carrier, Share};

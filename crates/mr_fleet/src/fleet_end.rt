@@ -2,9 +2,9 @@
 ghost use Rattle.std.specs.Prelude.{◌≡◌, map, IfOk, vec_len};
 ghost use Rattle.mr_workers.specs.Closing.{ClosesSo};
 
-use crate::client_end::ClientEnd;
 use crate::ending::Ending;
 use mr_clock::Clock;
+use mr_fleet_clients::ClientEnd;
 use mr_proxy::{Answer, ProxyCore};
 use mr_text::{Sink, Source};
 use mr_workers::{Carrier, Closed, RecordedProxy, Share, close};

@@ -1,6 +1,6 @@
 //! A proxy of a fleet.
-use crate::fleet_client::FleetClient;
 use mr_clock::Clock;
+use mr_fleet_clients::FleetClient;
 use mr_text::{Sink, Source};
 use mr_workers::{Carrier, RecordedProxy};
 

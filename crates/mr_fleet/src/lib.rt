@@ -1,18 +1,13 @@
 //! Fleets of proxies under threads: a thread for each client, and one for each link of a proxy to a node.
 #![tactic(auto)]
 
-mod attended;
-mod client_end;
 mod ending;
-mod fleet_client;
 mod fleet_end;
 mod fleet_proxy;
 mod room;
 mod run;
 mod threads;
 
-pub use client_end::ClientEnd;
-pub use fleet_client::FleetClient;
 pub use fleet_end::FleetEnd;
 pub use fleet_proxy::FleetProxy;
 pub use run::run_fleet;

@@ -2,11 +2,11 @@
 ghost use Rattle.std.specs.Prelude.{◌≡◌, ◌≤◌, [], map, length, IfOk, vec_len, vec_capacity};
 
 use crate::ending::Ending;
-use crate::fleet_client::FleetClient;
 use crate::fleet_end::FleetEnd;
 use crate::fleet_proxy::FleetProxy;
 use crate::threads::{Started, Underway};
 use mr_clock::Clock;
+use mr_fleet_clients::FleetClient;
 use mr_text::{Sink, Source};
 use mr_workers::{Carrier, RecordedProxy};
 use std::alloc::{AllocError, Global};

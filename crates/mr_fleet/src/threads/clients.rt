@@ -1,10 +1,9 @@
 //! The threads of one proxy's clients.
 ghost use Rattle.std.specs.Prelude.{◌≡◌, ◌≤◌, [], vec_len, vec_capacity};
 
-use crate::attended::Attended;
 use crate::ending::Ending;
-use crate::fleet_client::FleetClient;
 use mr_clock::Clock;
+use mr_fleet_clients::{Attended, FleetClient};
 use mr_link_carriers::Links;
 use mr_text::{Sink, Source};
 use mr_workers::{Carrier, RecordedProxy};

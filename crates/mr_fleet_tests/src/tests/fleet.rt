@@ -9,7 +9,8 @@ ghost use Rattle.mr_proxy.specs.ProxyView.{IsFresh};
 
 use super::{holds, pool};
 use mr_clock::{Clock, FixedClock};
-use mr_fleet::{FleetClient, FleetEnd, FleetProxy, run_fleet};
+use mr_fleet::{FleetEnd, FleetProxy, run_fleet};
+use mr_fleet_clients::FleetClient;
 use mr_node::{CacheNode, Ended};
 use mr_phases::Schedule;
 use mr_pools::{NamedHash, Routing};

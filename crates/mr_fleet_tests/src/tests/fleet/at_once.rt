@@ -3,7 +3,8 @@ ghost use Rattle.std.specs.Prelude.{◌≡◌, [], false};
 
 use super::{Nodes, carriers, fleet, holds, run, went_well};
 use mr_clock::FixedClock;
-use mr_fleet::{FleetClient, FleetEnd, FleetProxy};
+use mr_fleet::{FleetEnd, FleetProxy};
+use mr_fleet_clients::FleetClient;
 use mr_node::NodeCommand;
 use mr_proxy::LegSheet;
 use mr_text::{GhostBytes, GhostCount, OverReader, Sink, Source, WriteFault};

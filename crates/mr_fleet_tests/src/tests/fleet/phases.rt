@@ -1,7 +1,8 @@
 //! Many clients at once, while the migration goes through all four phases.
 use super::{Nodes, carriers, fleet, holds, run, went_well};
 use mr_clock::{Clock, ClockFault};
-use mr_fleet::{FleetClient, FleetProxy};
+use mr_fleet::FleetProxy;
+use mr_fleet_clients::FleetClient;
 use mr_text::{OverReader, OverWriter, Sink, Source};
 use mr_workers::{Carrier, OpenGate};
 use std::alloc::{AllocError, Global};

@@ -1,6 +1,6 @@
 //! What a client's thread hands over.
 ghost use Rattle.std.specs.Prelude.{◌≡◌};
-ghost use Rattle.mr_fleet.specs.ClientEnd.{EndStands};
+ghost use Rattle.mr_fleet_clients.specs.ClientEnd.{EndStands};
 
 use crate::client_end::ClientEnd;
 use mr_clock::Clock;
@@ -13,7 +13,7 @@ use std::snapshot::Snapshot;
 
 /// What a client's thread hands over: how the client ended, and what its proxy's book is held against.
 #[derive(Drop)]
-pub(crate) struct Attended<C: Carrier, K: Clock, S: Source, W: Sink> {
+pub struct Attended<C: Carrier, K: Clock, S: Source, W: Sink> {
     ended: Result<Ended, WorkerError>,
     reader: S,
     writer: W,
@@ -52,7 +52,7 @@ impl<C: Carrier, K: Clock, S: Source, W: Sink> Attended<C, K, S, W> {
     }
 
     /// How the client ended, how many requests it issued, and the answers that it took.
-    pub(crate) fn into_parts(self) -> (ClientEnd<C, K, S, W>, Share, Vec<Answer>)
+    pub fn into_parts(self) -> (ClientEnd<C, K, S, W>, Share, Vec<Answer>)
         ensures issued { result.0.issued.value ≡ result.1 }
         ensures took { result.0.took.value.items ≡ result.2.items }
     {

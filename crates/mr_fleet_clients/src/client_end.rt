@@ -1,6 +1,6 @@
 //! How a client of a fleet ended.
 ghost use Rattle.std.specs.Prelude.{◌≡◌};
-ghost use Rattle.mr_fleet.specs.ClientEnd.{EndStands};
+ghost use Rattle.mr_fleet_clients.specs.ClientEnd.{EndStands};
 
 use mr_clock::Clock;
 use mr_node::Ended;

@@ -1,5 +1,5 @@
 use Rattle.std.proofs.Common.{inl, refl}
-use Rattle.mr_fleet.proofs.fleet_client.FleetClient.serve.Goals as goal
+use Rattle.mr_fleet_clients.proofs.fleet_client.FleetClient.serve.Goals as goal
 
 pub of-requires : goal.of-requires
 of-requires g c = inl (record {

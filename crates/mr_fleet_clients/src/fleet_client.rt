@@ -1,6 +1,6 @@
 //! A client of a fleet.
 ghost use Rattle.std.specs.Prelude.{◌≡◌};
-ghost use Rattle.mr_fleet.specs.ClientEnd.{IsUnread, IsUnwritten};
+ghost use Rattle.mr_fleet_clients.specs.ClientEnd.{IsUnread, IsUnwritten};
 
 use crate::attended::Attended;
 use mr_clock::Clock;
@@ -51,7 +51,7 @@ impl<K: Clock, S: Source, W: Sink> FleetClient<K, S, W> {
 
 impl<K: Clock + Drop, S: Source, W: Sink> FleetClient<K, S, W> {
     /// Serves the client over these links.
-    pub(crate) fn serve<C: Carrier, R: Wait>(
+    pub fn serve<C: Carrier, R: Wait>(
         self,
         rt: &R,
         alloc: Global,
@@ -83,7 +83,7 @@ impl<K: Clock + Drop, S: Source, W: Sink> FleetClient<K, S, W> {
     }
 
     /// Ends a client for which no thread could be made. It takes no memory.
-    pub(crate) fn unserved<C: Carrier>(
+    pub fn unserved<C: Carrier>(
         self,
         alloc: Global,
         desk: &RecordedProxy<C>,
