@@ -4,6 +4,7 @@ pub mod KeptLemmas
 pub mod StepLemmas
 pub mod ReadLemmas
 pub mod SessionLemmas
+pub mod CountLemmas
 pub mod FaultLemmas
 pub mod ServiceLemmas
 pub mod GetLemmas

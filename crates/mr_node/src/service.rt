@@ -1,10 +1,10 @@
 //! The service of requests that come as text.
-ghost use Rattle.std.specs.Prelude.{◌≡◌, ◌≢◌, ◌+◌, ◌*◌, ◌<◌, ◌≤◌, ℕ, List, length, true, false, Some, None, if◌then◌else◌};
+ghost use Rattle.std.specs.Prelude.{◌≡◌, ◌≢◌, ◌+◌, ◌*◌, ◌<◌, ◌≤◌, ℕ, List, [], length, true, false, Some, None, if◌then◌else◌};
 ghost use Rattle.mr_text.specs.Source.{AreOffered};
-ghost use Rattle.mr_text.specs.Stream.{StandsFor};
+ghost use Rattle.mr_text.specs.Stream.{Becomes, StandsFor};
 ghost use Rattle.mr_node.specs.Outcome.{Outcome};
 ghost use Rattle.mr_node.specs.Service.{ServiceIs};
-ghost use Rattle.mr_node.specs.Session.{station, read_length};
+ghost use Rattle.mr_node.specs.Session.{SessionIs, station, read_length};
 ghost use Rattle.mr_node.specs.steps.Step.{RequestIs, StepIs};
 
 use crate::ended::Ended;
@@ -53,23 +53,55 @@ pub fn serve<P: Perform, S: Source, W: Sink, C: Clock>(
     ensures last_failed { result ≡ Err NodeError.WriteFault → (W.told writer.new).last_failed ≡ true }
 {
     let mut requests = RequestReader::new(alloc);
+    match serve_all(alloc, node, reader, &mut requests, writer, clock, turns) {
+        Ok(ended) => Ok(ended),
+        Err(fault) => Err(NodeError::from(fault)),
+    }
+}
+
+/// Serves all that comes, until the session ends.
+fn serve_all<P: Perform, S: Source, W: Sink, C: Clock>(
+    alloc: Global,
+    node: &mut P,
+    reader: &mut S,
+    requests: &mut RequestReader,
+    writer: &mut W,
+    clock: &mut C,
+    turns: u64,
+) -> Result<Ended, SessionFault>
+    requires { Becomes requests.old [] false false }
+    ensures session { SessionIs (Outcome C.reads C.failures P.did P.refused) (S.told reader.old) (S.told reader.new)
+        (station clock.old node.old (W.told writer.old)) (station clock.new node.new (W.told writer.new)) result }
+    ensures counts { ((S.told reader.new).reads ≤ (S.told reader.old).reads + turns)
+        × ((S.told reader.new).reads + length (S.told reader.old).taken ≤ (S.told reader.old).reads + length (S.told reader.new).taken + 1)
+        × (result ≡ Err SessionFault.TurnsSpent → ((S.told reader.new).reads ≡ (S.told reader.old).reads + turns)
+        × (length (S.told reader.old).taken + turns ≤ length (S.told reader.new).taken))
+        × (length (S.told reader.new).taken ≤ length (S.told reader.old).taken + turns * read_length)
+        × (AreOffered read_length (S.told reader.old).least_room → AreOffered read_length (S.told reader.new).least_room)
+        × (result ≡ Err SessionFault.ReadFault → (S.told reader.new).failures ≡ (S.told reader.old).failures + 1)
+        × (result ≢ Err SessionFault.ReadFault → (S.told reader.new).failures ≡ (S.told reader.old).failures) }
+{
     let mut buffer = [0; READ_LENGTH];
     let mut ended = false;
     let mut turns_left = turns;
     'session: loop {
-        match serve_next(alloc, node, &mut requests, writer, clock)? {
-            Step::Served => {}
-            Step::Ends(how) => return Ok(how),
-            Step::Waits => {
+        match serve_next(alloc, node, requests, writer, clock) {
+            Ok(Step::Served) => {}
+            Ok(Step::Ends(how)) => return Ok(how),
+            Ok(Step::Waits) => {
                 if ended {
                     return Ok(Ended::Ended);
                 }
                 if turns_left == 0 {
-                    return Err(NodeError::TurnsSpent);
+                    return Err(SessionFault::TurnsSpent);
                 }
                 turns_left -= 1;
-                ended = read_piece(reader, &mut requests, &mut buffer)?;
+                match read_piece(reader, requests, &mut buffer) {
+                    Ok(last) => ended = last,
+                    Err(fault) => return Err(fault),
+                }
             }
+            Err(fault) => return Err(fault),
         }
     }
 }

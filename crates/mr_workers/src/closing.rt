@@ -1,7 +1,7 @@
 //! Whether the book of a proxy stands with what its sessions did.
 ghost use Rattle.std.specs.Prelude.{◌≡◌, ◌↔◌, IsTrue, All, Contains, IfOk, IfErr, sum, map};
 ghost use Rattle.mr_proxy.specs.Pending.{is_same_op};
-ghost use Rattle.mr_workers.specs.Closing.{has_op, some_has_op, are_apart, have_different_ops, AreAmong, IsCounted, ClosesSo};
+ghost use Rattle.mr_workers.specs.Closing.{has_op, some_has_op, are_apart, have_different_ops, AreAmong, IsCounted, StandsWith, ClosesSo};
 
 use crate::carrier::Carrier;
 use crate::closed::Closed;
@@ -10,7 +10,7 @@ use crate::recorded_state::RecordedState;
 use crate::share::Share;
 use mr_history::OpId;
 use mr_proxy::{Answer, ProxyCore};
-use std::alloc::Global;
+use std::alloc::{AllocError, Global};
 
 /// Whether the shares sum up to this count.
 fn is_sum_of(count: u64, shares: &[Share]) -> bool
@@ -133,6 +133,23 @@ fn is_counted<C: Carrier>(
         && have_different_ops(sessions)
 }
 
+/// Whether the book of a proxy stands with what its sessions did.
+fn stands_with<C: Carrier>(
+    alloc: Global,
+    state: &RecordedState<C>,
+    opening: &ProxyCore,
+    shares: &[Share],
+    sessions: &[Vec<Answer>],
+) -> Result<bool, AllocError>
+    ensures { IfOk result (λ stands. IsTrue stands ↔ StandsWith opening.now state.now.core state.now.steps shares.now (map (λ session. session.items) sessions.now)) }
+{
+    if !is_counted(state, opening, shares, sessions) {
+        return Ok(false);
+    }
+    let answers = state.answers(alloc)?;
+    Ok(all_are_among(&answers, sessions))
+}
+
 /// Opens the lock of a proxy, and holds its book against what its sessions did: the shares that they were lent, and the
 /// answers that they took, one list for each session. The book is handed out whether it stands with that or not. Where
 /// memory is refused the proxy comes back as it was.
@@ -146,13 +163,10 @@ pub fn close<C: Carrier>(
     ensures back { IfErr result (λ back. back ≡ recorded) }
 {
     let (state, opening) = recorded.into_parts();
-    if !is_counted(&state, &opening, shares, sessions) {
-        return Ok(Closed::Differs(state.into_book()));
-    }
-    let Ok(answers) = state.answers(alloc) else {
+    let Ok(whole) = stands_with(alloc, &state, &opening, shares, sessions) else {
         return Err(RecordedProxy::of(state, opening));
     };
-    Ok(if all_are_among(&answers, sessions) {
+    Ok(if whole {
         Closed::Whole(state.into_book())
     } else {
         Closed::Differs(state.into_book())

@@ -13,6 +13,7 @@ use crate::book::Book;
 use crate::carried::Carried;
 use crate::carrier::Carrier;
 use crate::desk_error::DeskError;
+use crate::issuing::issue_copy;
 use crate::replaying::answers_in;
 use crate::share::Share;
 use crate::step::Step;
@@ -177,22 +178,20 @@ impl<C: Carrier> RecordedState<C> {
             Ok(legs) => legs,
             Err(refusal) => return Err(refusal),
         };
-        let noted = request.copy()?;
-        let own = request.copy()?;
         let open = self.core.open_legs() as usize;
         self.book.reserve(open + 1 + legs as usize)?;
-        match self.core.issue(reading, own) {
-            Ok(issued) => {
-                self.book.push_reserved(Step::Issue {
-                    reading,
-                    request: noted,
-                });
-                self.issues += 1;
-                share.raise();
-                Ok(issued)
-            }
-            Err(_) => Err(DeskError::OutOfMemory),
-        }
+        let noted = request.copy()?;
+        let Some(issued) = issue_copy(&mut self.core, reading, request) else {
+            drop(noted);
+            return Err(DeskError::OutOfMemory);
+        };
+        self.book.push_reserved(Step::Issue {
+            reading,
+            request: noted,
+        });
+        self.issues += 1;
+        share.raise();
+        Ok(issued)
     }
 
     /// Reads the clock, once, and issues a request at that reading, as the proxy does, and notes the step. A refusal
@@ -225,7 +224,10 @@ impl<C: Carrier> RecordedState<C> {
     {
         let back = carried.back();
         let noted = back.copy()?;
-        let reply = back.reply.copy()?;
+        let Ok(reply) = back.reply.copy() else {
+            discard(noted);
+            return Err(AllocError);
+        };
         if !awaits(&self.core, &back.sheet) {
             discard(noted);
             return Ok(Taken::Stranger(reply));

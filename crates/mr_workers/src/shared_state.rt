@@ -13,6 +13,7 @@ use crate::awaiting::awaits;
 use crate::carried::Carried;
 use crate::carrier::Carrier;
 use crate::desk_error::DeskError;
+use crate::issuing::issue_copy;
 use crate::share::Share;
 use mr_clock::Clock;
 use mr_history::OpId;
@@ -100,15 +101,12 @@ impl<C: Carrier> SharedState<C> {
         if let Some(refusal) = self.refusal(share, reading, request) {
             return Err(refusal);
         }
-        let own = request.copy()?;
-        match self.core.issue(reading, own) {
-            Ok(issued) => {
-                self.issues += 1;
-                share.raise();
-                Ok(issued)
-            }
-            Err(_) => Err(DeskError::OutOfMemory),
-        }
+        let Some(issued) = issue_copy(&mut self.core, reading, request) else {
+            return Err(DeskError::OutOfMemory);
+        };
+        self.issues += 1;
+        share.raise();
+        Ok(issued)
     }
 
     /// Reads the clock, once, and issues a request at that reading, as the proxy does. A refusal changes nothing; refusals
