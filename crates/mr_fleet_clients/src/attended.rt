@@ -14,10 +14,12 @@ use std::snapshot::Snapshot;
 /// What a client's thread hands over: how the client ended, and what its proxy's book is held against.
 #[derive(Drop)]
 pub struct Attended<C: Carrier, K: Clock, S: Source, W: Sink> {
-    ended: Result<Ended, WorkerError>,
+    /// How its session ended, or why it ended early. NoThread where none could be made for it.
+    pub ended: Result<Ended, WorkerError>,
     reader: S,
     writer: W,
-    turns: u64,
+    /// How many reads its session could make at most.
+    pub turns: u64,
     share: Share,
     answers: Vec<Answer>,
     carrier: PhantomData<C>,
@@ -38,6 +40,8 @@ impl<C: Carrier, K: Clock, S: Source, W: Sink> Attended<C, K, S, W> {
         answers: Vec<Answer>,
     ) -> Attended<C, K, S, W>
         requires { EndStands K.reads K.failures C.gave turns (S.told reader) (W.told writer) share answers.items ended }
+        ensures ended { result.ended ≡ ended }
+        ensures turns { result.turns ≡ turns }
     {
         Attended {
             ended,
@@ -53,6 +57,8 @@ impl<C: Carrier, K: Clock, S: Source, W: Sink> Attended<C, K, S, W> {
 
     /// How the client ended, how many requests it issued, and the answers that it took.
     pub fn into_parts(self) -> (ClientEnd<C, K, S, W>, Share, Vec<Answer>)
+        ensures ended { result.0.result ≡ self.ended }
+        ensures turns { result.0.turns ≡ self.turns }
         ensures issued { result.0.issued.value ≡ result.1 }
         ensures took { result.0.took.value.items ≡ result.2.items }
     {

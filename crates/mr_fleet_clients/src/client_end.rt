@@ -45,6 +45,8 @@ impl<C: Carrier, K: Clock, S: Source, W: Sink> ClientEnd<C, K, S, W> {
         took: Snapshot<Vec<Answer>>,
     ) -> ClientEnd<C, K, S, W>
         requires { ∥ EndStands K.reads K.failures C.gave turns (S.told reader) (W.told writer) issued.value took.value.items ended ∥₁ }
+        ensures ended { result.result ≡ ended }
+        ensures turns { result.turns ≡ turns }
         ensures issued { result.issued ≡ issued }
         ensures took { result.took ≡ took }
     {

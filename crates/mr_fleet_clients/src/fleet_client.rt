@@ -1,5 +1,5 @@
 //! A client of a fleet.
-ghost use Rattle.std.specs.Prelude.{◌≡◌};
+ghost use Rattle.std.specs.Prelude.{◌≡◌, ◌≢◌};
 ghost use Rattle.mr_fleet_clients.specs.ClientEnd.{IsUnread, IsUnwritten};
 
 use crate::attended::Attended;
@@ -57,7 +57,10 @@ impl<K: Clock + Drop, S: Source, W: Sink> FleetClient<K, S, W> {
         alloc: Global,
         desk: &RecordedProxy<C>,
         links: Links<C>,
-    ) -> Attended<C, K, S, W> {
+    ) -> Attended<C, K, S, W>
+        ensures ended { result.ended ≢ Err WorkerError.NoThread }
+        ensures turns { result.turns ≡ self.turns }
+    {
         let Self {
             mut clock,
             mut reader,
@@ -87,7 +90,10 @@ impl<K: Clock + Drop, S: Source, W: Sink> FleetClient<K, S, W> {
         self,
         alloc: Global,
         desk: &RecordedProxy<C>,
-    ) -> Attended<C, K, S, W> {
+    ) -> Attended<C, K, S, W>
+        ensures ended { result.ended ≡ Err WorkerError.NoThread }
+        ensures turns { result.turns ≡ self.turns }
+    {
         let Self {
             clock: _,
             reader,

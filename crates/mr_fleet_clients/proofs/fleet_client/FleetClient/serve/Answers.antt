@@ -1,4 +1,5 @@
-use Rattle.std.proofs.Common.{inl, refl}
+use Rattle.std.proofs.Common.{inl, refl, sym, ◌∙◌}
+use Rattle.mr_fleet_clients.proofs.EndLemmas.{had_a_thread}
 use Rattle.mr_fleet_clients.proofs.fleet_client.FleetClient.serve.Goals as goal
 
 pub of-requires : goal.of-requires
@@ -28,3 +29,6 @@ of-requires g c = inl (record {
   no_write_fault = c.serve_client-ended.ensures.no_write_fault;
   last_failed = c.serve_client-ended.ensures.last_failed;
 })
+
+pub ended : goal.ended
+ended g c told = had_a_thread _ _ _ _ _ _ _ c.serve_client-ended.ensures.session (sym c.of.ensures.ended ∙ told)
