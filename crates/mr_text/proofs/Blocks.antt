@@ -3,8 +3,10 @@ use Rattle.std.proofs.Common.{◌≡◌, ◌≢◌, ℕ, ◌+◌, ◌<◌, ◌�
 use Rattle.std.proofs.lemmas.Bool.{lt-leb, ne_eqb, eqb-false}
 use Rattle.std.proofs.Math.Seq.{get_or-append_seam}
 use Rattle.std.proofs.lemmas.List.{length-take-le, take-append-drop, get_or-append-add, take_more}
+use Rattle.mr_lines.specs.Blocks.{block_end}
+use Rattle.mr_lines.specs.declared.blocks.BlockEnd.TheVariants.{Awaited, Found, Wrong}
 use Rattle.mr_text.specs.Requests.{EndsBadly}
-use Rattle.mr_text.specs.steps.Reading.{block_reading}
+use Rattle.mr_text.specs.steps.Reading.{has_end, block_reading}
 use Rattle.mr_text.specs.declared.error.TextError.{TextError}
 use Rattle.mr_text.specs.declared.error.TextError.TheVariants.{BadDataEnd}
 
@@ -22,13 +24,13 @@ longer_by_two block rest first second = lt-leb (length (block ++ (first ∷ seco
 
 -- a block with its line end is read
 pub block_found : (block after : List ℕ) → block_reading (length block) (block ++ (13 ∷ 10 ∷ after)) ≡ Ok true
-unfolding block_reading
+unfolding block_reading block_end
 block_found block after =
     rw (longer block (10 ∷ after) 13, at_seam block (10 ∷ after) 13, longer_by_two block after 13 10, behind_seam block after 13 10) refl
 
 -- a wrong byte behind it is refused
 pub bad_found : (block_length : ℕ) (bytes : List ℕ) → EndsBadly block_length bytes → block_reading block_length bytes ≡ Err BadDataEnd
-unfolding block_reading
+unfolding block_reading block_end
 bad_found block_length bytes h = elim h.ends [
   | inl e ↦ subst (λ n. block_reading n bytes ≡ Err BadDataEnd) h.whole (subst (λ s. block_reading (length h.block) s ≡ Err BadDataEnd) (sym e.0) (first_wrong e.1))
   | inr e ↦ subst (λ n. block_reading n bytes ≡ Err BadDataEnd) h.whole (subst (λ s. block_reading (length h.block) s ≡ Err BadDataEnd) (sym e.0) (second_wrong e.1))
@@ -66,13 +68,13 @@ two bytes n within =
     first ∙ ap (λ s. take n bytes ++ (get_or bytes n 0 ∷ s)) (rest ∙ rw (second, behind) refl)
 
 pub block_is : (block_length : ℕ) (bytes : List ℕ) → BlockIs block_length bytes (block_reading block_length bytes)
-unfolding block_reading
+unfolding block_reading block_end
 block_is n bytes = short (nat_le (length bytes) n) refl
   where
     size : n ≤ length bytes → length (take n bytes) ≡ n
     size h = length-take-le n bytes h
 
-    last : n + 1 < length bytes → get_or bytes n 0 ≡ 13 → (t : Bool) → (get_or bytes (n + 1) 0 == 10) ≡ t → BlockIs n bytes (if t then Ok true else Err BadDataEnd)
+    last : n + 1 < length bytes → get_or bytes n 0 ≡ 13 → (t : Bool) → (get_or bytes (n + 1) 0 == 10) ≡ t → BlockIs n bytes (has_end (if t then Found else Wrong))
     last within cr true e =
         let lf = eqb-true (get_or bytes (n + 1) 0) 10 e in
         record { within = omega arith; splits = let both = two bytes n within in rw (cr, lf) at both }
@@ -88,13 +90,13 @@ block_is n bytes = short (nat_le (length bytes) n) refl
     )
 
     second : n < length bytes → get_or bytes n 0 ≡ 13 → (t : Bool) → nat_le (length bytes) (n + 1) ≡ t
-        → BlockIs n bytes (if t then Ok false else if get_or bytes (n + 1) 0 == 10 then Ok true else Err BadDataEnd)
+        → BlockIs n bytes (has_end (if t then Awaited else if get_or bytes (n + 1) 0 == 10 then Found else Wrong))
     second within cr true e = tt
     second within cr false e = last (leb-false _ _ e) cr (get_or bytes (n + 1) 0 == 10) refl
 
     first : n < length bytes → (t : Bool) → (get_or bytes n 0 == 13) ≡ t
-        → BlockIs n bytes (if not t then Err BadDataEnd else if nat_le (length bytes) (n + 1) then Ok false
-        else if get_or bytes (n + 1) 0 == 10 then Ok true else Err BadDataEnd)
+        → BlockIs n bytes (has_end (if not t then Wrong else if nat_le (length bytes) (n + 1) then Awaited
+        else if get_or bytes (n + 1) 0 == 10 then Found else Wrong))
     first within true e = second within (eqb-true _ _ e) (nat_le (length bytes) (n + 1)) refl
     first within false e = (
       refl,
@@ -108,7 +110,7 @@ block_is n bytes = short (nat_le (length bytes) n) refl
     )
 
     short : (t : Bool) → nat_le (length bytes) n ≡ t
-        → BlockIs n bytes (if t then Ok false else if not (get_or bytes n 0 == 13) then Err BadDataEnd
-        else if nat_le (length bytes) (n + 1) then Ok false else if get_or bytes (n + 1) 0 == 10 then Ok true else Err BadDataEnd)
+        → BlockIs n bytes (has_end (if t then Awaited else if not (get_or bytes n 0 == 13) then Wrong
+        else if nat_le (length bytes) (n + 1) then Awaited else if get_or bytes (n + 1) 0 == 10 then Found else Wrong))
     short true e = tt
     short false e = first (leb-false _ _ e) (get_or bytes n 0 == 13) refl

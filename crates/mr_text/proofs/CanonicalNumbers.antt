@@ -6,12 +6,12 @@ use Rattle.std.specs.List.{list_all}
 use Rattle.std.proofs.lemmas.Fmt.{decimal_by_steps, length-decimal-le}
 use Rattle.std.proofs.lemmas.List.Elements.{All-append}
 use Rattle.std.proofs.lemmas.List.Sums.{AllPass-from_list_all}
+use Rattle.mr_lines.specs.Numbers.{IsNumber, IsSigned}
 use Rattle.mr_text.specs.Commands.{IsExptime}
 use Rattle.mr_text.specs.Key.{IsKey}
-use Rattle.mr_text.specs.Text.{IsNumber, IsSigned}
 use Rattle.mr_text.proofs.CanonicalWords.{IsWord}
 use Rattle.mr_text.proofs.Keys.{and_true}
-use Rattle.mr_text.proofs.Numbers.{number-push}
+use Rattle.mr_lines.proofs.NumberLemmas.{number-push}
 
 -- a text that a test finds to be a word
 abbrev word_test : List ℕ → Bool

@@ -2,10 +2,12 @@
 use Rattle.std.proofs.Common.{◌≡◌, ℕ, zero, suc, ◌-◌, ◌<◌, ◌≤◌, ◌==◌, false, not, List, [], ◌∷◌, ◌++◌, length, get_or, slice_index, All, refl, sym, ◌∙◌, ap, subst, arith, inl, inr, filter, flat_map, ne_eqb, append-nil, append_assoc, length-append}
 use Rattle.std.proofs.Math.Seq.{get_or-append_seam, take-append_seam}
 use Rattle.std.proofs.lemmas.List.Elements.{Contains-append_cases}
+use Rattle.mr_lines.specs.Lines.{without_carriage_return}
+use Rattle.mr_lines.specs.Words.{words_of, pieces_of, is_empty}
 use Rattle.mr_text.specs.Canonical.{spaced, line_end}
 use Rattle.mr_text.specs.Line.{HasLineFeed}
 use Rattle.mr_text.specs.Requests.{IsLineOfWords}
-use Rattle.mr_text.specs.Text.{IsLine, words_of, pieces_of, is_empty, without_carriage_return}
+use Rattle.mr_text.specs.Text.{IsLine}
 use Rattle.mr_text.specs.Limits.{MAX_LINE}
 
 -- neither a space nor a control character

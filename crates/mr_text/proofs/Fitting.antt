@@ -1,8 +1,8 @@
 -- The keys of a line that was read fit a line.
 use Rattle.std.proofs.Common.{◌≡◌, ℕ, suc, ◌+◌, ◌*◌, All, ◌<◌, ◌≤◌, ◌==◌, Bool, true, false, not, List, [], ◌∷◌, length, Result, Ok, Err, refl, ◌∙◌, ap, subst, arith, if◌then◌else◌, cond, filter, sum_by, codes, IfOk}
 use Rattle.std.proofs.lemmas.List.Sums.{sum_by-cons}
+use Rattle.mr_lines.specs.Words.{words_of, pieces_of, begun_with, is_empty}
 use Rattle.mr_text.specs.Key.{IsKey, FitLine, AreFew}
-use Rattle.mr_text.specs.Text.{words_of, pieces_of, begun_with, is_empty}
 use Rattle.mr_text.specs.steps.CommandView.{said_by, IsCounted, IsCommand, IsGoodLine}
 use Rattle.mr_text.specs.steps.Reading.{command_line}
 use Rattle.mr_text.specs.Limits.{MAX_LINE}

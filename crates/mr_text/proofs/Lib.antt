@@ -1,7 +1,4 @@
-pub mod Bytes
 pub mod Keys
-pub mod Numbers
-pub mod Words
 pub mod Texts
 pub mod Copied
 pub mod Shapes

@@ -2,13 +2,14 @@
 use Rattle.std.proofs.Common.{◌≡◌, ℕ, ◌+◌, ◌≤◌, Bool, true, false, List, [], ◌∷◌, ◌++◌, length, take, drop, Option, Some, None, refl, sym, ◌∙◌, ap, arith, if◌then◌else◌, inl, inr, nat_le, nat_lt, leb-true, le-leb, ltb-true, ltb-false, lt-ltb, le-ltb, append_assoc, length-append, get_or, get_or-drop, add-zero}
 use Rattle.std.proofs.Math.Seq.{take-append_seam}
 use Rattle.std.proofs.lemmas.List.{take-append-drop, take_more}
-use Rattle.mr_text.specs.Text.{IsLine, without_carriage_return}
+use Rattle.mr_lines.specs.Lines.{without_carriage_return, byte_place}
+use Rattle.mr_text.specs.Text.{IsLine}
 use Rattle.mr_text.specs.Requests.{BeginsWithLongLine}
-use Rattle.mr_text.specs.steps.Reading.{Reading, byte_place, line_reading, line_reading_at}
+use Rattle.mr_text.specs.steps.Reading.{Reading, line_reading, line_reading_at}
 use Rattle.mr_text.specs.steps.Reading.Reading.{Waits, Gives, Refused}
 use Rattle.mr_text.specs.Limits.{MAX_LINE}
 use Rattle.mr_text.specs.declared.error.TextError.TheVariants.{LineTooLong}
-use Rattle.mr_text.proofs.Bytes.{SplitsAt, place_splits, place_behind, place_none, none_place}
+use Rattle.mr_lines.proofs.ByteLemmas.{SplitsAt, place_splits, place_behind, place_none, none_place}
 
 -- where a line ends
 pub line_place : (start after line : List ℕ) (h : IsLine start line) → byte_place 10 (start ++ after) ≡ Some (length h.raw)

@@ -1,8 +1,8 @@
 -- A line that was read has no line feed, and neither has what is cut from it.
 use Rattle.std.proofs.Common.{◌≡◌, ℕ, suc, ◌+◌, ◌-◌, ◌≤◌, ◌==◌, Bool, true, false, List, [], ◌∷◌, length, take, drop, sym, ◌∙◌, subst, arith, if◌then◌else◌, length-drop, get_or-drop, get_or-take, slice_index, length-take}
+use Rattle.mr_lines.specs.Lines.{without_carriage_return}
+use Rattle.mr_lines.specs.Words.{drop_spaces}
 use Rattle.mr_text.specs.Line.{HasLineFeed}
-use Rattle.mr_text.specs.Text.{without_carriage_return}
-use Rattle.mr_text.specs.steps.ReplyReading.{drop_spaces}
 use Rattle.mr_text.specs.steps.ReplyView.{IsOneLine}
 use Rattle.mr_text.specs.Limits.{MAX_LINE}
 

@@ -2,11 +2,10 @@
 use Rattle.std.proofs.Common.{◌≡◌, ◌≢◌, ℕ, zero, suc, ◌+◌, ◌<◌, ◌==◌, Bool, true, false, List, [], ◌∷◌, ◌++◌, length, take, drop, All, Option, Some, None, refl, sym, ◌∙◌, ap, subst, arith, if◌then◌else◌, inl, inr, ◌⊎◌, unwrap_or, slice_get, eqb-true, eq-eqb, append-nil}
 use Rattle.std.proofs.Math.Seq.{take-length, drop-length}
 use Rattle.std.proofs.lemmas.List.{take-append-drop, length-take-le}
-use Rattle.mr_text.specs.steps.Reading.{byte_place}
-use Rattle.mr_text.specs.steps.ReplyReading.{drop_spaces}
-use Rattle.mr_text.specs.Text.{words_of}
-use Rattle.mr_text.proofs.Bytes.{place_splits}
-use Rattle.mr_text.proofs.Words.{words_at}
+use Rattle.mr_lines.specs.Lines.{byte_place}
+use Rattle.mr_lines.specs.Words.{drop_spaces, words_of}
+use Rattle.mr_lines.proofs.ByteLemmas.{place_splits}
+use Rattle.mr_lines.proofs.WordLemmas.{words_at}
 
 -- spaces in front say nothing
 pub words-drop_spaces : (bytes : List ℕ) → words_of (drop_spaces bytes) ≡ words_of bytes

@@ -2,8 +2,9 @@
 use Rattle.std.proofs.Common.{◌≡◌, ◌≢◌, ℕ, zero, suc, ◌<◌, Bool, true, false, List, [], ◌∷◌, length, drop, Contains, Result, Ok, Err, refl, sym, ap, subst, arith, codes, if◌then◌else◌, inl, inr, slice_index_or}
 use Rattle.std.specs.List.{list_any}
 use Rattle.std.specs.Str.{bytes_eq}
+use Rattle.mr_lines.specs.Words.{drop_spaces}
 use Rattle.mr_text.specs.Replies.{lone_words, reply_words, IsUnknownReply, AreWrongReply, cause_of}
-use Rattle.mr_text.specs.steps.ReplyReading.{ReplyLine, drop_spaces, item_line, lone_line, first_line}
+use Rattle.mr_text.specs.steps.ReplyReading.{ReplyLine, item_line, lone_line, first_line}
 use Rattle.mr_text.specs.steps.ReplyReading.ReplyLine.{ItemLine, EndLine, LoneLine}
 use Rattle.mr_text.specs.declared.error.TextError.{TextError}
 use Rattle.mr_text.specs.declared.error.TextError.TheVariants.{LineTooLong, BadKey, BadNumber, WrongWords, DataTooLong, BadDataEnd, UnknownCommand, Truncated, Closed, OutOfMemory}

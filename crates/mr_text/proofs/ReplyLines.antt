@@ -1,9 +1,9 @@
 -- What the words of a reply's line say, as the reading finds it.
 use Rattle.std.proofs.Common.{◌≡◌, ◌≢◌, ℕ, zero, suc, ◌-◌, ◌^◌, ◌<◌, ◌≤◌, Bool, true, false, List, [], ◌∷◌, length, Option, Some, None, Result, Ok, Err, refl, sym, ◌∙◌, ap, subst, arith, codes, if◌then◌else◌, inl, inr, ◌⊎◌, nat_lt, ltb-true, ltb-false, IfOk}
 use Rattle.std.specs.Str.{bytes_eq}
+use Rattle.mr_lines.specs.Numbers.{number_in}
 use Rattle.mr_text.specs.Key.{IsKey, key_test}
 use Rattle.mr_text.specs.Replies.{ItemNumbers, item_words}
-use Rattle.mr_text.specs.steps.Reading.{number_in}
 use Rattle.mr_text.specs.steps.ReplyReading.{ReplyLine, item_values, item_line, item_line_within, lone_line, next_line}
 use Rattle.mr_text.specs.steps.ReplyReading.ReplyLine.{ItemLine, EndLine, LoneLine}
 use Rattle.mr_text.specs.Limits.{MAX_BLOCK}

@@ -2,12 +2,14 @@
 use Rattle.std.proofs.Common.{◌≡◌, ◌≢◌, ℕ, zero, suc, ◌+◌, ◌-◌, ◌<◌, ◌≤◌, true, false, List, [], ◌∷◌, ◌++◌, length, take, drop, Some, None, Result, Ok, Err, refl, sym, ◌∙◌, ap, subst, arith, codes, inl, inr, ◌⊎◌, append_assoc, append-nil, length-append, length-drop, slice_get, All}
 use Rattle.std.proofs.Math.Seq.{take-append_seam, drop-append_seam, take-length}
 use Rattle.std.proofs.lemmas.List.{take-append-drop}
+use Rattle.mr_lines.specs.Lines.{byte_place}
+use Rattle.mr_lines.specs.Words.{words_of, drop_spaces}
 use Rattle.mr_text.specs.Requests.{IsLineOfWords, BeginsWithWords, BeginsWithLongLine, EndsBadly}
 use Rattle.mr_text.specs.Replies.{item_words, IsItemLine, BeginsWithItems, BeginsWithItemLine, TellsCause, cause_of, SpellsReply, RefusesBehind, RefusesReply}
-use Rattle.mr_text.specs.Text.{IsLine, words_of}
-use Rattle.mr_text.specs.steps.Reading.{Reading, line_reading, byte_place}
+use Rattle.mr_text.specs.Text.{IsLine}
+use Rattle.mr_text.specs.steps.Reading.{Reading, line_reading}
 use Rattle.mr_text.specs.steps.Reading.Reading.{Waits, Gives, Refused}
-use Rattle.mr_text.specs.steps.ReplyReading.{ReplyLine, Step, drop_spaces, first_line, next_line, item_step, step_of_line, step_reading, with_items, items_by, items_reading, as_reply, reply_of_line, reply_of_reading, reply_reading}
+use Rattle.mr_text.specs.steps.ReplyReading.{ReplyLine, Step, first_line, next_line, item_step, step_of_line, step_reading, with_items, items_by, items_reading, as_reply, reply_of_line, reply_of_reading, reply_reading}
 use Rattle.mr_text.specs.steps.ReplyReading.ReplyLine.{ItemLine, EndLine, LoneLine}
 use Rattle.mr_text.specs.steps.ReplyReading.Step.{ItemStep, EndStep}
 use Rattle.mr_text.specs.declared.cause.Cause.{Cause}
@@ -18,13 +20,13 @@ use Rattle.mr_text.specs.declared.error.TextError.TheVariants.{LineTooLong, BadK
 use Rattle.mr_text.specs.declared.reply.Reply.{Reply}
 use Rattle.mr_text.specs.declared.reply.Reply.TheVariants.{Items, Stored, Deleted, NotFound, Error, ClientError, ServerError}
 use Rattle.mr_text.proofs.Blocks.{bad_found}
-use Rattle.mr_text.proofs.Bytes.{place_behind}
+use Rattle.mr_lines.proofs.ByteLemmas.{place_behind}
 use Rattle.mr_text.proofs.Lines.{line_found, long_found, IsRead, LineIs, line_is}
 use Rattle.mr_text.proofs.ReplyErrors.{words-drop_spaces, drop_spaces-append, first_word}
 use Rattle.mr_text.proofs.ReplyFirst.{error_text, LoneIs, FirstIs, first_is, value_first, end_first, lone_first, unknown_first, wrong_first}
 use Rattle.mr_text.proofs.ReplyLines.{good_item_found, bad_item_key_found, bad_item_number_found, end_found, value_found}
 use Rattle.mr_text.proofs.ReplySteps.{end_step_found, item_found, item_line_found, StepRefused, step_refusal_found, StepIs, step_is, LineSays, line_steps, line_words, begins_words}
-use Rattle.mr_text.proofs.Words.{words_at}
+use Rattle.mr_lines.proofs.WordLemmas.{words_at}
 
 -- items in a row
 

@@ -2,9 +2,9 @@
 use Rattle.std.proofs.Common.{◌≡◌, ℕ, zero, suc, ◌+◌, ◌-◌, ◌<◌, ◌≤◌, Bool, true, false, List, [], ◌∷◌, ◌++◌, length, take, drop, Result, Ok, Err, refl, sym, ◌∙◌, ap, subst, arith, codes, inl, inr, append_assoc, length-append, length-drop}
 use Rattle.std.proofs.Math.Seq.{take-append_seam, drop-append_seam}
 use Rattle.std.proofs.lemmas.List.{length-take-le, take-append-drop}
+use Rattle.mr_lines.specs.Words.{words_of}
 use Rattle.mr_text.specs.Requests.{IsLineOfWords, BeginsWithWords, block_end}
 use Rattle.mr_text.specs.Replies.{item_words, IsItemLine, SpellsItem, HasRoom, AreWrongReply, BeginsWithItemWords, BeginsWithItemLine, RefusesBehind}
-use Rattle.mr_text.specs.Text.{words_of}
 use Rattle.mr_text.specs.steps.Reading.{Reading, line_reading, block_reading}
 use Rattle.mr_text.specs.steps.Reading.Reading.{Waits, Gives, Refused}
 use Rattle.mr_text.specs.steps.ReplyReading.{ReplyLine, Step, next_line, item_line, item_step, step_of_line, step_of_reading, step_reading}

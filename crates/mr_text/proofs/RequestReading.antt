@@ -2,10 +2,10 @@
 use Rattle.std.proofs.Common.{◌≡◌, ℕ, ◌+◌, ◌-◌, ◌<◌, ◌≤◌, Bool, true, false, List, ◌∷◌, ◌++◌, length, take, drop, Result, Ok, Err, refl, sym, ◌∙◌, ap, subst, arith, inl, inr, ◌⊎◌, ℤ, append_assoc, length-append, length-drop}
 use Rattle.std.proofs.Math.Seq.{take-append_seam, drop-append_seam}
 use Rattle.std.proofs.lemmas.List.{length-take-le, take-append-drop}
+use Rattle.mr_lines.specs.Words.{words_of}
 use Rattle.mr_text.specs.Commands.{Shape, HasShape, IsUnknown, AreWrong, HasKeys, Numbers}
 use Rattle.mr_text.specs.Commands.Shape.{GetShape, SetShape, DeleteShape, QuitShape}
 use Rattle.mr_text.specs.Requests.{IsLineOfWords, IsLineOfShape, IsSetLine, SpellsSet, SpellsRequest, BeginsWithWords, HasBadKey, HasBadNumber, BeginsWithSet, HasBadDataEnd, RefusesRequest, SkipsLine, block_end}
-use Rattle.mr_text.specs.Text.{words_of}
 use Rattle.mr_text.specs.steps.Reading.{Reading, CommandLine, line_reading, command_line, line_of_shape, line_of, shape_of, block_reading, set_reading, request_of_line, request_of_reading, request_reading}
 use Rattle.mr_text.specs.steps.Reading.Reading.{Waits, Gives, Refused}
 use Rattle.mr_text.specs.steps.Reading.CommandLine.{GetLine, SetLine, DeleteLine, QuitLine}

@@ -1,16 +1,19 @@
 -- How much may be read without a request or a refusal: less than the longest line and the longest block with their ends.
 use Rattle.std.proofs.Common.{◌≡◌, ℕ, ◌+◌, ◌-◌, ◌<◌, ◌≤◌, ◌==◌, Bool, true, false, not, List, [], length, take, drop, Option, Some, None, Result, Ok, Err, refl, sym, arith, if◌then◌else◌, nat_le, nat_lt, leb-true, leb-false, length-drop, slice_index}
 use Rattle.std.proofs.lemmas.List.{take-append-drop, length-take, length-take-le}
+use Rattle.mr_lines.specs.Blocks.{block_end}
+use Rattle.mr_lines.specs.Lines.{byte_place, without_carriage_return}
+use Rattle.mr_lines.specs.Words.{words_of}
+use Rattle.mr_lines.specs.declared.blocks.BlockEnd.TheVariants.{Awaited, Found, Wrong}
 use Rattle.mr_text.proofs.Lines.{IsRead, LineIs, line_is, line_length}
 use Rattle.mr_text.proofs.Nexts.{RefusedSo, waits}
 use Rattle.mr_text.proofs.RequestNexts.{request_given, request_refuses}
 use Rattle.mr_text.proofs.RequestReading.{LineSays, line_says, request_found, refusal_found}
 use Rattle.mr_text.specs.Limits.{MAX_LINE, MAX_BLOCK}
-use Rattle.mr_text.specs.steps.Reading.{Reading, CommandLine, byte_place, block_reading, command_line, line_reading, request_of_line, request_of_reading, request_reading, set_reading}
+use Rattle.mr_text.specs.steps.Reading.{Reading, CommandLine, has_end, block_reading, command_line, line_reading, request_of_line, request_of_reading, request_reading, set_reading}
 use Rattle.mr_text.specs.steps.Reading.Reading.{Waits, Gives, Refused}
 use Rattle.mr_text.specs.steps.Reading.CommandLine.{GetLine, SetLine, DeleteLine, QuitLine}
 use Rattle.mr_text.specs.Requests.{SpellsRequest, RefusesRequest, SkipsLine, is_quit}
-use Rattle.mr_text.specs.Text.{words_of, without_carriage_return}
 use Rattle.mr_text.specs.declared.error.TextError.{TextError}
 use Rattle.mr_text.specs.declared.error.TextError.TheVariants.{LineTooLong, BadKey, BadNumber, WrongWords, DataTooLong, BadDataEnd, UnknownCommand, Truncated, Closed, OutOfMemory}
 use Rattle.mr_text.specs.declared.request.Request.{Request}
@@ -60,17 +63,17 @@ line_short bytes line size read =
 
 -- a block that waits isn't longer than it may be, with the first byte of its end
 block_waits : (block_length : ℕ) (bytes : List ℕ) → block_reading block_length bytes ≡ Ok false → length bytes ≤ block_length + 1
-unfolding block_reading
+unfolding block_reading block_end
 block_waits n bytes e = go (nat_le (length bytes) n) refl
   where
     last : (t : Bool) → (u : Bool) → nat_le (length bytes) (n + 1) ≡ t
-        → (if t then Ok false else if u then Ok true else Err BadDataEnd) ≡ Ok false → length bytes ≤ n + 1
+        → has_end (if t then Awaited else if u then Found else Wrong) ≡ Ok false → length bytes ≤ n + 1
     last true u is e = leb-true _ _ is
     last false true is e = cc
     last false false is e = cc
 
-    first : (t : Bool) → (if not t then Err BadDataEnd else if nat_le (length bytes) (n + 1) then Ok false
-        else if slice_index bytes (n + 1) == 10 then Ok true else Err BadDataEnd) ≡ Ok false → length bytes ≤ n + 1
+    first : (t : Bool) → has_end (if not t then Wrong else if nat_le (length bytes) (n + 1) then Awaited
+        else if slice_index bytes (n + 1) == 10 then Found else Wrong) ≡ Ok false → length bytes ≤ n + 1
     first true e = last (nat_le (length bytes) (n + 1)) (slice_index bytes (n + 1) == 10) refl e
     first false e = cc
 

@@ -3,11 +3,11 @@ use Rattle.std.proofs.Common.{◌≡◌, ℕ, zero, suc, ◌-◌, ◌^◌, ◌<�
 use Rattle.std.specs.List.{list_all}
 use Rattle.std.specs.Char.{is_ascii_digit, IsAsciiDigit}
 use Rattle.std.proofs.lemmas.List.Sums.{AllPass-from_list_all, list_all-from_AllPass}
+use Rattle.mr_lines.specs.Numbers.{IsNumber, IsSigned, number_of_digits, number_in, signed_in}
 use Rattle.mr_text.specs.Key.{IsKey, key_test}
-use Rattle.mr_text.specs.Text.{IsNumber, IsSigned, number_of_digits}
 use Rattle.mr_text.specs.Commands.{Shape, Numbers, IsExptime}
 use Rattle.mr_text.specs.Commands.Shape.{GetShape, SetShape, DeleteShape, QuitShape}
-use Rattle.mr_text.specs.steps.Reading.{CommandLine, number_in, signed_in, line_of, set_values}
+use Rattle.mr_text.specs.steps.Reading.{CommandLine, line_of, set_values}
 use Rattle.mr_text.specs.steps.Reading.CommandLine.{GetLine, SetLine, DeleteLine, QuitLine}
 use Rattle.mr_text.specs.Limits.{MAX_BLOCK}
 use Rattle.mr_text.specs.declared.error.TextError.{TextError}

@@ -1,7 +1,7 @@
 -- The words of a request's line.
 use Rattle.std.specs.Prelude.{◌≡◌, ℕ, ◌<◌, ◌^◌, ◌⊎◌, Bool, true, false, List, [], ◌∷◌, All, Contains, ℤ, pos, neg_ℤ, ◌≤ℤ◌, codes, IsTrue, ◌↔◌, ◌-◌}
+use Rattle.mr_lines.specs.Numbers.{IsNumber, IsSigned}
 use Rattle.mr_text.specs.Key.{IsKey, HasKey}
-use Rattle.mr_text.specs.Text.{IsNumber, IsSigned}
 
 -- what the words of a line say, before it is asked whether they may
 pub data Shape : Type 0 where

@@ -1,10 +1,11 @@
 -- The text of replies: which bytes spell which reply, and which bytes are refused and how.
 use Rattle.std.specs.Prelude.{◌≡◌, ◌≢◌, ℕ, zero, suc, ◌^◌, ◌<◌, ◌≤◌, ◌⊎◌, Bool, true, false, List, [], ◌∷◌, ◌++◌, length, All, Contains, codes, unwrap_or}
+use Rattle.mr_lines.specs.Numbers.{IsNumber}
 use Rattle.mr_text.specs.Block.{IsBlock}
 use Rattle.mr_text.specs.CauseText.{cause_named}
 use Rattle.mr_text.specs.Key.{IsKey}
 use Rattle.mr_text.specs.Requests.{IsLineOfWords, BeginsWithWords, BeginsWithLongLine, EndsBadly, block_end}
-use Rattle.mr_text.specs.Text.{IsLine, IsNumber}
+use Rattle.mr_text.specs.Text.{IsLine}
 use Rattle.mr_text.specs.declared.cause.Cause.{Cause}
 use Rattle.mr_text.specs.declared.cause.Cause.TheVariants.{Other}
 use Rattle.mr_text.specs.declared.item.Item.{Item}

@@ -1,10 +1,11 @@
 -- The text of requests: which bytes spell which request, and which bytes are refused and how.
 use Rattle.std.specs.Prelude.{◌≡◌, ◌≢◌, ℕ, ◌+◌, ◌<◌, ◌≤◌, ◌⊎◌, Bool, true, false, List, [], ◌∷◌, ◌++◌, length, ℤ}
+use Rattle.mr_lines.specs.Words.{words_of}
 use Rattle.mr_text.specs.Block.{IsBlock}
 use Rattle.mr_text.specs.Commands.{Shape, HasShape, IsUnknown, AreWrong, HasKeys, Numbers}
 use Rattle.mr_text.specs.Commands.Shape.{GetShape, SetShape, DeleteShape, QuitShape}
 use Rattle.mr_text.specs.Line.{HasLineFeed}
-use Rattle.mr_text.specs.Text.{IsLine, words_of}
+use Rattle.mr_text.specs.Text.{IsLine}
 use Rattle.mr_text.specs.Limits.{MAX_LINE, MAX_BLOCK}
 use Rattle.mr_text.specs.declared.error.TextError.{TextError}
 use Rattle.mr_text.specs.declared.error.TextError.TheVariants.{LineTooLong, BadKey, BadNumber, WrongWords, DataTooLong, BadDataEnd, UnknownCommand, Truncated, Closed, OutOfMemory}

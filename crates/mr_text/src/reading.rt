@@ -5,14 +5,12 @@ mod blocks;
 mod commands;
 mod kept;
 mod lines;
-mod numbers;
 mod replies;
 mod reply_lines;
 mod reply_reader;
 mod request_reader;
 mod requests;
 mod stream;
-mod words;
 
 pub use reply_reader::ReplyReader;
 pub use request_reader::RequestReader;

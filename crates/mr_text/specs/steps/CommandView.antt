@@ -1,10 +1,10 @@
 -- What a line that was read says, over the program's own type for it.
 use Rattle.std.specs.Prelude.{◌≡◌, ℕ, ◌≤◌, List, length, All, Result, Ok, Err}
+use Rattle.mr_lines.specs.Words.{words_of}
 use Rattle.mr_text.specs.Key.{IsKey, HasKey, FitLine}
 use Rattle.mr_text.specs.Limits.{MAX_BLOCK}
 use Rattle.mr_text.specs.steps.Reading.{CommandLine}
 use Rattle.mr_text.specs.steps.Reading.CommandLine.{GetLine, SetLine, DeleteLine, QuitLine}
-use Rattle.mr_text.specs.Text.{words_of}
 use Rattle.mr_text.specs.declared.error.TextError.{TextError}
 use Rattle.mr_text.specs.declared.reading.commands.Command.{Command}
 use Rattle.mr_text.specs.declared.reading.commands.Command.TheVariants.{Get, Set, Delete, Quit}

@@ -1,22 +1,21 @@
 -- How a text is read, step by step. The relations of `Requests` say what a text means; that the two agree is proved.
-use Rattle.std.specs.Prelude.{ℕ, ◌+◌, ◌-◌, ◌^◌, ◌==◌, ◌&&◌, not, nat_lt, nat_le, Bool, true, false, List, [], ◌∷◌, length, take, drop, ℤ, pos, neg_ℤ, codes, Option, Some, None, Result, Ok, Err, slice_index, if◌then◌else◌, option_map}
+use Rattle.std.specs.Prelude.{ℕ, ◌+◌, ◌-◌, ◌^◌, nat_lt, nat_le, Bool, true, false, List, [], ◌∷◌, length, take, drop, ℤ, codes, Option, Some, None, Result, Ok, Err, if◌then◌else◌}
 use Rattle.std.specs.List.{list_any, list_all}
 use Rattle.std.specs.Str.{bytes_eq}
-use Rattle.std.specs.Char.{is_ascii_digit}
+use Rattle.mr_lines.specs.Blocks.{block_end}
+use Rattle.mr_lines.specs.Lines.{byte_place, without_carriage_return}
+use Rattle.mr_lines.specs.Numbers.{number_in, signed_in}
+use Rattle.mr_lines.specs.Words.{words_of}
+use Rattle.mr_lines.specs.declared.blocks.BlockEnd.{BlockEnd}
+use Rattle.mr_lines.specs.declared.blocks.BlockEnd.TheVariants.{Awaited, Found, Wrong}
 use Rattle.mr_text.specs.Key.{key_test}
 use Rattle.mr_text.specs.Commands.{Shape, block_command_words}
 use Rattle.mr_text.specs.Commands.Shape.{GetShape, SetShape, DeleteShape, QuitShape}
-use Rattle.mr_text.specs.Text.{words_of, number_of_digits, without_carriage_return}
 use Rattle.mr_text.specs.Limits.{MAX_LINE, MAX_BLOCK}
 use Rattle.mr_text.specs.declared.error.TextError.{TextError}
 use Rattle.mr_text.specs.declared.error.TextError.TheVariants.{LineTooLong, BadKey, BadNumber, WrongWords, DataTooLong, BadDataEnd, UnknownCommand}
 use Rattle.mr_text.specs.declared.request.Request.{Request}
 use Rattle.mr_text.specs.declared.request.Request.TheVariants.{Get, Set, Delete, Quit}
-
--- the place of the first such byte
-abbrev pub byte_place : ℕ → List ℕ → Option ℕ
-byte_place wanted [] = None
-byte_place wanted (byte ∷ bytes) = if byte == wanted then Some 0 else option_map (λ place. place + 1) (byte_place wanted bytes)
 
 -- what a stretch of bytes gives: it waits for more, or gives a value, or is refused. The length is what is read:
 -- of a refusal, the line that reading goes on behind, and nothing where it ends.
@@ -55,19 +54,6 @@ noreply_of (word ∷ other ∷ words) = None
 abbrev pub without_zero : List (List ℕ) → List (List ℕ)
 without_zero [] = []
 without_zero (word ∷ words) = if bytes_eq word (codes "0") then words else word ∷ words
-
--- the number that a word is, unless it is none or above the greatest that fits
-unfoldable pub number_in : ℕ → List ℕ → Option ℕ
-number_in greatest word =
-    if nat_le 1 (length word) && list_all is_ascii_digit word && nat_le (number_of_digits word) greatest
-    then Some (number_of_digits word) else None
-
--- the same with a sign
-abbrev pub signed_in : List ℕ → Option ℤ
-signed_in [] = None
-signed_in (byte ∷ bytes) =
-    if byte == 45 then option_map (λ n. neg_ℤ (pos n)) (number_in (2 ^ 63) bytes)
-    else option_map (λ n. pos n) (number_in (2 ^ 63 - 1) (byte ∷ bytes))
 
 -- the shape of the words behind the command
 abbrev pub get_shape : List (List ℕ) → Result Shape TextError
@@ -130,14 +116,15 @@ line_of_shape (Err refusal) = Err refusal
 abbrev pub command_line : List (List ℕ) → Result CommandLine TextError
 command_line words = line_of_shape (shape_of words)
 
+-- whether a block and its line end are there, by what stands behind the block
+abbrev pub has_end : BlockEnd → Result Bool TextError
+has_end Awaited = Ok false
+has_end Found = Ok true
+has_end Wrong = Err BadDataEnd
+
 -- whether a block of this length and its line end stand at the front
 unfoldable pub block_reading : ℕ → List ℕ → Result Bool TextError
-block_reading block_length bytes =
-    if nat_le (length bytes) block_length then Ok false
-    else if not (slice_index bytes block_length == 13) then Err BadDataEnd
-    else if nat_le (length bytes) (block_length + 1) then Ok false
-    else if slice_index bytes (block_length + 1) == 10 then Ok true
-    else Err BadDataEnd
+block_reading block_length bytes = has_end (block_end block_length bytes)
 
 -- a set, when its line was read
 abbrev pub set_reading : List ℕ → List ℕ → ℕ → ℤ → ℕ → Bool → ℕ → Result Bool TextError → Reading Request

@@ -1,11 +1,12 @@
 -- How a reply is read, step by step. The relations of `Replies` say what a text means; that the two agree is proved.
-use Rattle.std.specs.Prelude.{ℕ, zero, suc, ◌+◌, ◌-◌, ◌^◌, ◌==◌, nat_lt, Bool, true, false, List, [], ◌∷◌, ◌++◌, length, take, drop, codes, Option, Some, None, Result, Ok, Err, if◌then◌else◌}
+use Rattle.std.specs.Prelude.{ℕ, zero, suc, ◌+◌, ◌-◌, ◌^◌, nat_lt, Bool, true, false, List, [], ◌∷◌, ◌++◌, length, take, drop, codes, Option, Some, None, Result, Ok, Err, if◌then◌else◌}
 use Rattle.std.specs.Str.{bytes_eq}
+use Rattle.mr_lines.specs.Numbers.{number_in}
+use Rattle.mr_lines.specs.Words.{words_of, drop_spaces}
 use Rattle.mr_text.specs.Key.{key_test}
-use Rattle.mr_text.specs.steps.Reading.{Reading, line_reading, number_in, block_reading}
+use Rattle.mr_text.specs.steps.Reading.{Reading, line_reading, block_reading}
 use Rattle.mr_text.specs.steps.Reading.Reading.{Waits, Gives, Refused}
 use Rattle.mr_text.specs.Replies.{cause_of}
-use Rattle.mr_text.specs.Text.{words_of}
 use Rattle.mr_text.specs.declared.item.Item.{Item}
 use Rattle.mr_text.specs.Limits.{MAX_BLOCK, MAX_ITEMS}
 use Rattle.mr_text.specs.declared.error.TextError.{TextError}
@@ -18,11 +19,6 @@ pub data ReplyLine : Type 0 where
   ItemLine : (key : List ℕ) (flags block_length : ℕ) → ReplyLine
   EndLine : ReplyLine
   LoneLine : (reply : Reply) → ReplyLine
-
--- the bytes from the first that is no space
-abbrev pub drop_spaces : List ℕ → List ℕ
-drop_spaces [] = []
-drop_spaces (byte ∷ bytes) = if byte == 32 then drop_spaces bytes else byte ∷ bytes
 
 abbrev pub item_values : List ℕ → Option ℕ → Option ℕ → Result ReplyLine TextError
 item_values key None block_length = Err BadNumber

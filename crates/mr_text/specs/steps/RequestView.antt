@@ -1,9 +1,9 @@
 -- A request that was found at the front of some bytes, over the program's own types for it.
 use Rattle.std.specs.Prelude.{◌≡◌, ℕ, ◌≤◌, List, length, Option, Some, None, Result, Ok, Err}
+use Rattle.mr_lines.specs.Words.{words_of}
 use Rattle.mr_text.specs.Block.{IsBlock}
 use Rattle.mr_text.specs.Key.{IsKey}
 use Rattle.mr_text.specs.steps.CommandView.{AreKeys}
-use Rattle.mr_text.specs.Text.{words_of}
 use Rattle.mr_text.specs.steps.Reading.{request_reading}
 use Rattle.mr_text.specs.steps.Reading.Reading.{Waits, Gives, Refused}
 use Rattle.mr_text.specs.declared.reading.commands.Command.{Command}

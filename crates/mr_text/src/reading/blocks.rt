@@ -3,6 +3,7 @@ ghost use Rattle.std.specs.Prelude.{◌≡◌, ◌+◌, ◌^◌, ◌<◌, ◌≤
 ghost use Rattle.mr_text.specs.steps.Reading.{block_reading};
 
 use crate::error::TextError;
+use mr_lines::{BlockEnd, block_end};
 
 /// Whether a block of this length and the line end behind it are there.
 #[tactic(auto, unfolding(crate::specs::steps::Reading::block_reading))]
@@ -11,17 +12,9 @@ pub(crate) fn has_block(block_length: usize, bytes: &[u8]) -> Result<bool, TextE
     ensures reading { result ≡ block_reading block_length bytes.now }
     ensures within { result ≡ Ok true → block_length + 2 ≤ length bytes.now }
 {
-    if bytes.len() <= block_length {
-        return Ok(false);
+    match block_end(block_length, bytes) {
+        BlockEnd::Awaited => Ok(false),
+        BlockEnd::Found => Ok(true),
+        BlockEnd::Wrong => Err(TextError::BadDataEnd),
     }
-    if bytes[block_length] != b'\r' {
-        return Err(TextError::BadDataEnd);
-    }
-    if bytes.len() <= block_length + 1 {
-        return Ok(false);
-    }
-    if bytes[block_length + 1] == b'\n' {
-        return Ok(true);
-    }
-    Err(TextError::BadDataEnd)
 }

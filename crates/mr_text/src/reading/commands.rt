@@ -2,9 +2,9 @@
 ghost use Rattle.std.specs.Prelude.{◌≡◌, ◌≤◌, ◌∷◌, length, IfOk};
 ghost use Rattle.std.specs.List.{list_any};
 ghost use Rattle.std.specs.Str.{bytes_eq};
+ghost use Rattle.mr_lines.specs.Words.{words_of};
 ghost use Rattle.mr_text.specs.Commands.{block_command_words};
 ghost use Rattle.mr_text.specs.Commands.Shape.{SetShape};
-ghost use Rattle.mr_text.specs.Text.{words_of};
 ghost use Rattle.mr_text.specs.steps.Reading.{command_line, line_of, line_of_shape, get_shape, set_shape, delete_shape, quit_shape, noreply_of, without_zero};
 ghost use Rattle.mr_text.specs.steps.CommandView.{IsCommand, IsGoodLine};
 ghost use Rattle.mr_text.specs.Limits.{MAX_LINE};
@@ -12,8 +12,7 @@ ghost use Rattle.mr_text.specs.Limits.{MAX_LINE};
 use crate::error::TextError;
 use crate::key::is_key;
 use crate::limits::MAX_BLOCK;
-use crate::reading::numbers::{number_up_to, signed_number};
-use crate::reading::words::{is_text, next_word};
+use mr_lines::{is_text, next_word, number_up_to, signed_number};
 
 /// What the line of a request says, over the line's own bytes.
 #[derive(Clone, Copy)]

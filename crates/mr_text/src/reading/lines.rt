@@ -1,31 +1,13 @@
 //! Where a line ends, and which bytes are the line's.
 ghost use Rattle.std.specs.Prelude.{◌≡◌, ◌<◌, ◌≤◌, length, IfSome, IfOk, MatchResult, MatchOption};
-ghost use Rattle.mr_text.specs.steps.Reading.{byte_place, line_reading, line_reading_at, line_read_to};
+ghost use Rattle.mr_lines.specs.Lines.{byte_place, without_carriage_return};
+ghost use Rattle.mr_text.specs.steps.Reading.{line_reading, line_reading_at, line_read_to};
 ghost use Rattle.mr_text.specs.steps.Reading.Reading.{Waits, Gives, Refused};
 ghost use Rattle.mr_text.specs.Line.{HasLineFeed};
-ghost use Rattle.mr_text.specs.Text.{without_carriage_return};
 
 use crate::error::TextError;
 use crate::limits::MAX_LINE;
-use memchr::memchr;
-
-/// The place of the first such byte.
-pub(crate) fn place_of_byte(wanted: u8, bytes: &[u8]) -> Option<usize>
-    ensures place { result ≡ byte_place wanted bytes.now }
-    ensures within { IfSome result (λ place. place < length bytes.now) }
-{
-    memchr(wanted, bytes)
-}
-
-/// The bytes without the one carriage return at their end, if there is one.
-fn without_carriage_return(bytes: &[u8]) -> &[u8]
-    ensures { result.now ≡ without_carriage_return bytes.now }
-{
-    match bytes {
-        [front @ .., b'\r'] => front,
-        _ => bytes,
-    }
-}
+use mr_lines::{place_of_byte, without_carriage_return};
 
 /// The first line and the length of its bytes, its end included; None where its end isn't there yet.
 #[tactic(auto, unfolding(crate::specs::steps::Reading::line_reading))]

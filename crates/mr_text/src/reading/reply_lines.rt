@@ -2,9 +2,9 @@
 ghost use Rattle.std.specs.Prelude.{◌≡◌, ◌≤◌, ◌∷◌, [], ℕ, List, false, drop, length, IfOk, IfSome, MatchOption};
 ghost use Rattle.std.specs.List.{list_any};
 ghost use Rattle.std.specs.Str.{bytes_eq};
+ghost use Rattle.mr_lines.specs.Words.{words_of, drop_spaces};
 ghost use Rattle.mr_text.specs.Replies.{lone_words};
-ghost use Rattle.mr_text.specs.Text.{words_of};
-ghost use Rattle.mr_text.specs.steps.ReplyReading.{ReplyLine, first_line, next_line, item_line, item_line_within, lone_line, drop_spaces};
+ghost use Rattle.mr_text.specs.steps.ReplyReading.{ReplyLine, first_line, next_line, item_line, item_line_within, lone_line};
 ghost use Rattle.mr_text.specs.steps.ReplyReading.ReplyLine.{EndLine, LoneLine};
 ghost use Rattle.mr_text.specs.steps.ReplyView.{IsLine, IsGoodItem, HasOneLine, IsOneLine, said_by};
 ghost use Rattle.mr_text.specs.Line.{HasLineFeed};
@@ -13,8 +13,7 @@ ghost use Rattle.mr_text.specs.Limits.{MAX_LINE};
 use crate::error::TextError;
 use crate::key::is_key;
 use crate::limits::MAX_BLOCK;
-use crate::reading::numbers::number_up_to;
-use crate::reading::words::{is_text, next_word};
+use mr_lines::{is_text, next_word, number_up_to};
 
 /// What a line of a reply says, over the line's own bytes.
 #[derive(Clone, Copy)]

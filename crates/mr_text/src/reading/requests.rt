@@ -1,11 +1,11 @@
 //! The request at the front of some bytes: found over the bytes, and then copied out.
 ghost use Rattle.std.specs.Prelude.{◌≡◌, ◌≤◌, length, IfOk};
+ghost use Rattle.mr_lines.specs.Words.{words_of};
 ghost use Rattle.mr_text.specs.Limits.{MAX_LINE};
 ghost use Rattle.mr_text.specs.steps.Reading.{line_reading};
 ghost use Rattle.mr_text.specs.steps.Reading.Reading.{Gives};
 ghost use Rattle.mr_text.specs.steps.RequestView.{IsFound, IsWhole, said_request};
 ghost use Rattle.mr_text.specs.steps.CommandView.{AreKeys};
-ghost use Rattle.mr_text.specs.Text.{words_of};
 
 use crate::block::Block;
 use crate::error::TextError;
@@ -14,8 +14,8 @@ use crate::key_list::KeyList;
 use crate::reading::blocks::has_block;
 use crate::reading::commands::{Command, command_of};
 use crate::reading::lines::line_at;
-use crate::reading::words::next_word;
 use crate::request::Request;
+use mr_lines::next_word;
 use std::alloc::{AllocError, Global};
 
 /// A whole request at the front of some bytes, over these bytes.

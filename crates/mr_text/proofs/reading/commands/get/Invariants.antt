@@ -1,6 +1,6 @@
 use Rattle.std.proofs.Common.{◌≡◌, ◌+◌, ◌≤◌, length}
 use Rattle.std.specs.List.{list_all}
-use Rattle.mr_text.specs.Text.{words_of}
+use Rattle.mr_lines.specs.Words.{words_of}
 use Rattle.mr_text.specs.Key.{key_test}
 use Rattle.mr_text.proofs.reading.commands.get.Given as goal
 

@@ -1,6 +1,6 @@
 use Rattle.std.proofs.Common.{take, sym, ◌∙◌, subst}
 use Rattle.mr_text.specs.Line.{HasLineFeed}
-use Rattle.mr_text.proofs.Bytes.{place_splits, place_none}
+use Rattle.mr_lines.proofs.ByteLemmas.{place_splits, place_none}
 use Rattle.mr_text.proofs.OneLine.{cut_one_line}
 use Rattle.mr_text.proofs.reading.lines.line_at.Goals as goal
 

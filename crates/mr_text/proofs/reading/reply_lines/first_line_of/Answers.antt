@@ -1,5 +1,5 @@
 use Rattle.std.proofs.Common.{sym, ◌∙◌, subst}
-use Rattle.mr_text.specs.Text.{words_of}
+use Rattle.mr_lines.specs.Words.{words_of}
 use Rattle.mr_text.specs.steps.ReplyView.{IsLine}
 use Rattle.mr_text.proofs.ReplyFirst.{value_line, client_error_line, server_error_line, unknown_line}
 use Rattle.mr_text.proofs.reading.reply_lines.first_line_of.Goals as goal

@@ -1,4 +1,4 @@
-use Rattle.mr_text.specs.Text.{words_of}
+use Rattle.mr_lines.specs.Words.{words_of}
 use Rattle.mr_text.proofs.ReplyLines.{good_next}
 use Rattle.mr_text.proofs.reading.reply_lines.next_line_of.Goals as goal
 

@@ -1,6 +1,6 @@
 use Rattle.std.proofs.Common.{rules, ◌≡◌, ℕ, suc, List, [], ◌∷◌, ◌++◌, All, append_assoc, sym, ◌∙◌, ap, subst, arith}
+use Rattle.mr_lines.specs.Words.{words_of}
 use Rattle.mr_text.specs.Key.{IsKey, AreFew}
-use Rattle.mr_text.specs.Text.{words_of}
 use Rattle.mr_text.proofs.Fitting.{few_keys}
 use Rattle.mr_text.proofs.reading.requests.keys_of.Goals as goal
 

@@ -1,6 +1,6 @@
 use Rattle.std.proofs.Common.{◌≡◌, ◌++◌, length, All}
+use Rattle.mr_lines.specs.Words.{words_of}
 use Rattle.mr_text.specs.Key.{IsKey}
-use Rattle.mr_text.specs.Text.{words_of}
 use Rattle.mr_text.proofs.reading.requests.keys_of.Given as goal
 
 -- the keys so far and the words left are all the words
