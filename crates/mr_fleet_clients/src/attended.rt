@@ -1,6 +1,6 @@
 //! What a client's thread hands over.
-ghost use Rattle.std.specs.Prelude.{◌≡◌};
-ghost use Rattle.mr_fleet_clients.specs.ClientEnd.{EndStands};
+ghost use Rattle.std.specs.Prelude.{◌≡◌, ◌≢◌};
+ghost use Rattle.mr_fleet_clients.specs.ClientEnd.{HadSession, EndStands};
 
 use crate::client_end::ClientEnd;
 use mr_clock::Clock;
@@ -53,6 +53,22 @@ impl<C: Carrier, K: Clock, S: Source, W: Sink> Attended<C, K, S, W> {
             carrier: PhantomData,
             clock: PhantomData,
         }
+    }
+
+    /// What a client came to that had a session.
+    pub(crate) fn served(
+        ended: Result<Ended, WorkerError>,
+        reader: S,
+        writer: W,
+        turns: u64,
+        share: Share,
+        answers: Vec<Answer>,
+    ) -> Attended<C, K, S, W>
+        requires { HadSession K.reads K.failures C.gave turns (S.told reader) (W.told writer) share answers.items ended }
+        ensures ended { result.ended ≢ Err WorkerError.NoThread }
+        ensures turns { result.turns ≡ turns }
+    {
+        Attended::of(ended, reader, writer, turns, share, answers)
     }
 
     /// How the client ended, how many requests it issued, and the answers that it took.

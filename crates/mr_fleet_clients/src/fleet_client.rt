@@ -82,7 +82,7 @@ impl<K: Clock + Drop, S: Source, W: Sink> FleetClient<K, S, W> {
             &mut carriers,
             turns,
         );
-        Attended::of(ended, reader, writer, turns, share, answers)
+        Attended::served(ended, reader, writer, turns, share, answers)
     }
 
     /// Ends a client for which no thread could be made. It takes no memory.

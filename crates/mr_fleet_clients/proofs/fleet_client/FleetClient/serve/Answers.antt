@@ -1,9 +1,8 @@
-use Rattle.std.proofs.Common.{inl, refl, sym, ◌∙◌}
-use Rattle.mr_fleet_clients.proofs.EndLemmas.{had_a_thread}
+use Rattle.std.proofs.Common.{refl}
 use Rattle.mr_fleet_clients.proofs.fleet_client.FleetClient.serve.Goals as goal
 
-pub of-requires : goal.of-requires
-of-requires g c = inl (record {
+pub served-requires : goal.served-requires
+served-requires g c = record {
   reader_before = g.S.Source.told c.args.self.reader;
   writer_before = g.W.Sink.told c.args.self.writer;
   clock_before = c.args.self.clock;
@@ -28,7 +27,4 @@ of-requires g c = inl (record {
   write_fault = c.serve_client-ended.ensures.write_fault;
   no_write_fault = c.serve_client-ended.ensures.no_write_fault;
   last_failed = c.serve_client-ended.ensures.last_failed;
-})
-
-pub ended : goal.ended
-ended g c told = had_a_thread _ _ _ _ _ _ _ c.serve_client-ended.ensures.session (sym c.of.ensures.ended ∙ told)
+}
