@@ -2,6 +2,7 @@
 use super::{are, holds};
 use mr_join::{Joined, Joining, LegReply, worse};
 use mr_phases::Side;
+use mr_test_parts::must;
 use mr_text::{Block, Cause};
 use std::process::Abort;
 use std::test::Fail;
@@ -54,36 +55,35 @@ fn failed(cause: Cause) -> LegReply {
 }
 
 #[test]
-fn joins_both_sides_in_either_order(rt: HostRuntime) -> Result<(), Fail> {
+fn joins_both_sides_in_either_order(rt: HostRuntime) {
     let missing = "NOT_FOUND";
     is_told(
         &rt,
-        old_first(LegReply::Deleted, LegReply::NotFound)?,
+        must(&rt, old_first(LegReply::Deleted, LegReply::NotFound)),
         missing,
     );
     is_told(
         &rt,
-        new_first(LegReply::Deleted, LegReply::NotFound)?,
+        must(&rt, new_first(LegReply::Deleted, LegReply::NotFound)),
         missing,
     );
     let lost = "SERVER_ERROR leg lost";
     is_told(
         &rt,
-        old_first(LegReply::Deleted, failed(Cause::LegLost))?,
+        must(&rt, old_first(LegReply::Deleted, failed(Cause::LegLost))),
         lost,
     );
     let busy = "SERVER_ERROR busy";
     is_told(
         &rt,
-        old_first(failed(Cause::Busy), failed(Cause::LegLost))?,
+        must(&rt, old_first(failed(Cause::Busy), failed(Cause::LegLost))),
         busy,
     );
     is_told(
         &rt,
-        new_first(failed(Cause::Busy), failed(Cause::LegLost))?,
+        must(&rt, new_first(failed(Cause::Busy), failed(Cause::LegLost))),
         busy,
     );
-    Ok(())
 }
 
 /// The reply that is handed back where another of the same side came before.
@@ -96,15 +96,14 @@ fn handed_back() -> Result<LegReply, Fail> {
 }
 
 /// Asserts what is told of a reply, and of the same where it is awaited alone.
-fn is_told_alone(rt: &impl Abort, reply: LegReply, wanted: &str) -> Result<(), Fail> {
+fn is_told_alone(rt: &impl Abort, reply: LegReply, wanted: &str) {
     is_told(rt, told(&reply), wanted);
-    is_told(rt, alone(Side::New, reply)?, wanted);
-    Ok(())
+    is_told(rt, must(rt, alone(Side::New, reply)), wanted);
 }
 
 #[test]
-fn hands_back_what_is_not_awaited(rt: HostRuntime) -> Result<(), Fail> {
-    is_told_alone(&rt, handed_back()?, "NOT_FOUND")
+fn hands_back_what_is_not_awaited(rt: HostRuntime) {
+    is_told_alone(&rt, must(&rt, handed_back()), "NOT_FOUND");
 }
 
 /// What a client reads of a delete that was done and a copy of this reply.
@@ -114,11 +113,10 @@ fn told_of_worse(reply: &LegReply) -> Result<&'static str, Fail> {
 }
 
 #[test]
-fn the_worse_reply_is_told(rt: HostRuntime) -> Result<(), Fail> {
+fn the_worse_reply_is_told(rt: HostRuntime) {
     holds(&rt, failed(Cause::Busy).badness() == 2);
     let text = told_of_worse(&failed(Cause::LegLost));
-    is_told(&rt, text?, "SERVER_ERROR leg lost");
-    Ok(())
+    is_told(&rt, must(&rt, text), "SERVER_ERROR leg lost");
 }
 
 /// Asserts whether two replies are the same.
@@ -127,18 +125,17 @@ fn are_same(rt: &impl Abort, reply: LegReply, other: LegReply, wanted: bool) {
 }
 
 /// Asserts that a hit is the same as its copy, and not as a miss.
-fn is_like_its_copy(rt: &impl Abort, hit: &LegReply) -> Result<(), Fail> {
-    let copy = hit.copy()?;
+fn is_like_its_copy(rt: &impl Abort, hit: &LegReply) {
+    let copy = must(rt, hit.copy());
     holds(rt, hit.same_as(&copy));
     holds(rt, !hit.same_as(&LegReply::Miss));
-    Ok(())
 }
 
 #[test]
-fn equal_replies_are_the_same(rt: HostRuntime) -> Result<(), Fail> {
+fn equal_replies_are_the_same(rt: HostRuntime) {
     are_same(&rt, LegReply::Stored, LegReply::Stored, true);
     are_same(&rt, failed(Cause::Busy), failed(Cause::Busy), true);
     are_same(&rt, failed(Cause::Busy), failed(Cause::LegLost), false);
-    let block = Block::new(rt.alloc(), b"a")?;
-    is_like_its_copy(&rt, &LegReply::Hit { flags: 1, block })
+    let block = must(&rt, Block::new(rt.alloc(), b"a"));
+    is_like_its_copy(&rt, &LegReply::Hit { flags: 1, block });
 }

@@ -3,10 +3,10 @@ use super::{are, count_is, holds, number_is};
 use mr_phases::{
     Judged, PhaseName, RequestKind, Schedule, ScheduleError, Side, Sides, judge, laws,
 };
+use mr_test_parts::must;
 use std::alloc::Global;
 use std::fmt::Display;
 use std::process::Abort;
-use std::test::Fail;
 
 /// Asserts the phase and the reading of what was judged.
 fn is_judged(rt: &impl Abort, judged: &Judged, name: PhaseName, reading: u64) {
@@ -76,12 +76,11 @@ fn is_row(rt: &impl Abort, schedule: Schedule, row: &Row) {
 }
 
 #[test]
-fn each_bound_belongs_to_the_later_phase(rt: HostRuntime) -> Result<(), Fail> {
-    let schedule = Schedule::new(1000, 100)?;
+fn each_bound_belongs_to_the_later_phase(rt: HostRuntime) {
+    let schedule = must(&rt, Schedule::new(1000, 100));
     for row in &ROWS {
         is_row(&rt, schedule, row);
     }
-    Ok(())
 }
 
 /// Asserts that both sides are there, the old one first.
@@ -102,12 +101,11 @@ fn goes_by_type(rt: &impl Abort, judged: Judged) {
 }
 
 #[test]
-fn one_or_two_sides_by_the_type(rt: HostRuntime) -> Result<(), Fail> {
-    let schedule = Schedule::new(1000, 100)?;
+fn one_or_two_sides_by_the_type(rt: HostRuntime) {
+    let schedule = must(&rt, Schedule::new(1000, 100));
     for now in [999, 1000, 1100, 1200] {
         goes_by_type(&rt, judge(schedule, now));
     }
-    Ok(())
 }
 
 /// Asserts what a schedule tells, and its copy.
@@ -119,12 +117,11 @@ fn tells(rt: &impl Abort, schedule: &Schedule, start: u64, interval: u64) {
 }
 
 #[test]
-fn limits_of_a_schedule(rt: HostRuntime) -> Result<(), Fail> {
-    let last = Schedule::new(18446744073709551415, 100)?;
+fn limits_of_a_schedule(rt: HostRuntime) {
+    let last = must(&rt, Schedule::new(18446744073709551415, 100));
     tells(&rt, &last, 18446744073709551415, 100);
     holds(&rt, judge(last, u64::MAX).name() == PhaseName::NewOnly);
-    holds(&rt, !last.same_as(&Schedule::new(1000, 100)?));
-    Ok(())
+    holds(&rt, !last.same_as(&must(&rt, Schedule::new(1000, 100))));
 }
 
 /// Asserts why there is no such schedule, and the error's number.
@@ -150,31 +147,24 @@ fn is_later(rt: &impl Abort, judged: &Judged, now: u64, accepted: bool, wanted: 
 }
 
 #[test]
-fn later_takes_no_earlier_reading(rt: HostRuntime) -> Result<(), Fail> {
-    let judged = judge(Schedule::new(1000, 100)?, 1099);
+fn later_takes_no_earlier_reading(rt: HostRuntime) {
+    let judged = judge(must(&rt, Schedule::new(1000, 100)), 1099);
     is_later(&rt, &judged, 1100, true, (PhaseName::BothReadNew, 1100));
     is_later(&rt, &judged, 1099, true, (PhaseName::BothReadOld, 1099));
     is_later(&rt, &judged, 1098, false, (PhaseName::BothReadOld, 1099));
     is_later(&rt, &judged, 999, false, (PhaseName::BothReadOld, 1099));
-    Ok(())
 }
 
 /// Asserts what a name is printed as.
-fn is_printed<T: Display>(
-    rt: &impl Abort,
-    alloc: Global,
-    name: &T,
-    text: &str,
-) -> Result<(), Fail> {
-    let printed = format!(in alloc; "{name}")?;
+fn is_printed<T: Display>(rt: &impl Abort, alloc: Global, name: &T, text: &str) {
+    let printed = must(rt, format!(in alloc; "{name}"));
     are(rt, printed.as_bytes(), text.as_bytes());
-    Ok(())
 }
 
 #[test]
-fn names_are_printed(rt: HostRuntime) -> Result<(), Fail> {
+fn names_are_printed(rt: HostRuntime) {
     for (side, text) in &[(Side::Old, "old"), (Side::New, "new")] {
-        is_printed(&rt, rt.alloc(), side, text)?;
+        is_printed(&rt, rt.alloc(), side, text);
     }
     for (name, text) in &[
         (PhaseName::OldOnly, "old-only"),
@@ -182,9 +172,8 @@ fn names_are_printed(rt: HostRuntime) -> Result<(), Fail> {
         (PhaseName::BothReadNew, "both-read-new"),
         (PhaseName::NewOnly, "new-only"),
     ] {
-        is_printed(&rt, rt.alloc(), name, text)?;
+        is_printed(&rt, rt.alloc(), name, text);
     }
-    Ok(())
 }
 
 #[test]

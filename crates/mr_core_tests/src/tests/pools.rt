@@ -1,10 +1,10 @@
 //! Worked values of names, hashes, pools and routings.
 use super::{are, count_is, holds, pool, routing};
 use mr_pools::{Fnv1a32, KeyHash, NamedHash, NodeName, Pool, PoolError, Routing, SumHash, laws};
+use mr_test_parts::must;
 use mr_text::Key;
 use std::alloc::Global;
 use std::process::Abort;
-use std::test::Fail;
 
 /// Asserts why there is no such value.
 fn is_refused<T: Drop>(rt: &impl Abort, answer: Result<T, PoolError>, wanted: PoolError) {
@@ -34,32 +34,36 @@ fn is_summed(rt: &impl Abort, routing: &Routing, key: &Key, spot: u32, places: (
 }
 
 #[test]
-fn sum_places_keys(rt: HostRuntime) -> Result<(), Fail> {
+fn sum_places_keys(rt: HostRuntime) {
     let alloc = rt.alloc();
-    let routing = routing(alloc, NamedHash::Sum)?;
+    let routing = must(&rt, routing(alloc, NamedHash::Sum));
     holds(&rt, routing.hash() == NamedHash::Sum);
-    is_summed(&rt, &routing, &Key::new(alloc, b"k")?, 107, (1, 2));
-    is_summed(&rt, &routing, &Key::new(alloc, b"a")?, 97, (1, 1));
-    is_summed(&rt, &routing, &Key::new(alloc, b"b")?, 98, (0, 2));
-    Ok(())
+    is_summed(
+        &rt,
+        &routing,
+        &must(&rt, Key::new(alloc, b"k")),
+        107,
+        (1, 2),
+    );
+    is_summed(&rt, &routing, &must(&rt, Key::new(alloc, b"a")), 97, (1, 1));
+    is_summed(&rt, &routing, &must(&rt, Key::new(alloc, b"b")), 98, (0, 2));
 }
 
 #[test]
-fn places_name_their_nodes(rt: HostRuntime) -> Result<(), Fail> {
+fn places_name_their_nodes(rt: HostRuntime) {
     let alloc = rt.alloc();
-    let routing = routing(alloc, NamedHash::Sum)?;
+    let routing = must(&rt, routing(alloc, NamedHash::Sum));
     for (text, old, new) in [
         ("k", "7002", "7103"),
         ("a", "7002", "7102"),
         ("b", "7001", "7103"),
     ] {
-        let key = Key::new(alloc, text.as_bytes())?;
+        let key = must(&rt, Key::new(alloc, text.as_bytes()));
         let old_node = routing.pool(0).name(routing.place(0, &key));
         let new_node = routing.pool(1).name(routing.place(1, &key));
         are(&rt, old_node.as_bytes(), old.as_bytes());
         are(&rt, new_node.as_bytes(), new.as_bytes());
     }
-    Ok(())
 }
 
 /// Asserts which spot a key has by FNV-1a.
@@ -69,24 +73,22 @@ fn is_hashed(rt: &impl Abort, key: &Key, spot: u32) {
 }
 
 #[test]
-fn fnv1a32_meets_published_vectors(rt: HostRuntime) -> Result<(), Fail> {
+fn fnv1a32_meets_published_vectors(rt: HostRuntime) {
     let alloc = rt.alloc();
-    is_hashed(&rt, &Key::new(alloc, b"a")?, 3826002220);
-    is_hashed(&rt, &Key::new(alloc, b"foobar")?, 0xbf9c_f968);
-    is_hashed(&rt, &Key::new(alloc, b"k")?, 3993778410);
-    Ok(())
+    is_hashed(&rt, &must(&rt, Key::new(alloc, b"a")), 3826002220);
+    is_hashed(&rt, &must(&rt, Key::new(alloc, b"foobar")), 0xbf9c_f968);
+    is_hashed(&rt, &must(&rt, Key::new(alloc, b"k")), 3993778410);
 }
 
 #[test]
-fn fnv1a32_places_keys(rt: HostRuntime) -> Result<(), Fail> {
+fn fnv1a32_places_keys(rt: HostRuntime) {
     let alloc = rt.alloc();
-    let routing = routing(alloc, NamedHash::Fnv)?;
+    let routing = must(&rt, routing(alloc, NamedHash::Fnv));
     for (text, old, new) in [("a", 0, 1), ("k", 0, 0)] {
-        let key = Key::new(alloc, text.as_bytes())?;
+        let key = must(&rt, Key::new(alloc, text.as_bytes()));
         count_is(&rt, routing.place(0, &key), old);
         count_is(&rt, routing.place(1, &key), new);
     }
-    Ok(())
 }
 
 /// Asserts which hash has a name.
@@ -109,33 +111,31 @@ fn is_no_name(rt: &impl Abort, alloc: Global, bytes: &[u8]) {
 }
 
 #[test]
-fn names_are_visible_ascii(rt: HostRuntime) -> Result<(), Fail> {
+fn names_are_visible_ascii(rt: HostRuntime) {
     let alloc = rt.alloc();
-    let name = NodeName::new(alloc, b"!~")?;
+    let name = must(&rt, NodeName::new(alloc, b"!~"));
     are(&rt, name.as_str().as_bytes(), b"!~");
     is_no_name(&rt, alloc, b"");
     for byte in b" ,\x7f\x80" {
         is_no_name(&rt, alloc, &[b'a', *byte]);
     }
-    Ok(())
 }
 
 /// Asserts that a name is equal to its copy, and not to the other.
-fn differs(rt: &impl Abort, name: &NodeName, other: &NodeName) -> Result<(), Fail> {
-    holds(rt, *name == name.copy()?);
+fn differs(rt: &impl Abort, name: &NodeName, other: &NodeName) {
+    holds(rt, *name == must(rt, name.copy()));
     let is_same = *name == *other;
     holds(rt, !is_same);
-    Ok(())
 }
 
 #[test]
-fn names_have_up_to_255_bytes(rt: HostRuntime) -> Result<(), Fail> {
+fn names_have_up_to_255_bytes(rt: HostRuntime) {
     let alloc = rt.alloc();
     let long = [b'x'; 256];
     is_no_name(&rt, alloc, &long);
-    let name = NodeName::new(alloc, &long[..255])?;
+    let name = must(&rt, NodeName::new(alloc, &long[..255]));
     count_is(&rt, name.as_bytes().len(), 255);
-    differs(&rt, &name, &NodeName::new(alloc, &long[..254])?)
+    differs(&rt, &name, &must(&rt, NodeName::new(alloc, &long[..254])));
 }
 
 /// So many equal names.
@@ -148,16 +148,15 @@ fn equal_names(alloc: Global, count: u32) -> Result<Vec<NodeName>, PoolError> {
 }
 
 #[test]
-fn pools_are_refused_in_order(rt: HostRuntime) -> Result<(), Fail> {
+fn pools_are_refused_in_order(rt: HostRuntime) {
     let alloc = rt.alloc();
     is_refused(&rt, pool(alloc, &[]), PoolError::EmptyPool);
     is_refused(&rt, pool(alloc, &["7001", "7001"]), PoolError::RepeatedName);
     is_refused(&rt, pool(alloc, &["7001", ""]), PoolError::BadName);
-    count_is(&rt, numbered_pool(alloc, 1024)?.len(), 1024);
+    count_is(&rt, must(&rt, numbered_pool(alloc, 1024)).len(), 1024);
     is_refused(&rt, numbered_pool(alloc, 1025), PoolError::TooManyNodes);
-    let many = Pool::new(equal_names(alloc, 1025)?);
+    let many = Pool::new(must(&rt, equal_names(alloc, 1025)));
     is_refused(&rt, many, PoolError::TooManyNodes);
-    Ok(())
 }
 
 /// A routing of two pools with a common name.
@@ -182,10 +181,9 @@ fn is_copy(rt: &impl Abort, routing: &Routing, copy: &Routing) {
 }
 
 #[test]
-fn copies_are_equal(rt: HostRuntime) -> Result<(), Fail> {
-    let routing = routing(rt.alloc(), NamedHash::Sum)?;
-    is_copy(&rt, &routing, &routing.copy()?);
-    Ok(())
+fn copies_are_equal(rt: HostRuntime) {
+    let routing = must(&rt, routing(rt.alloc(), NamedHash::Sum));
+    is_copy(&rt, &routing, &must(&rt, routing.copy()));
 }
 
 /// A routing of the same pools by the other hash.
@@ -202,10 +200,9 @@ fn differ_in_hash(rt: &impl Abort, sum: &Routing, fnv: &Routing) {
 }
 
 #[test]
-fn routings_of_other_hashes_differ(rt: HostRuntime) -> Result<(), Fail> {
-    let sum = routing(rt.alloc(), NamedHash::Sum)?;
-    differ_in_hash(&rt, &sum, &hashed_otherwise(&sum)?);
-    Ok(())
+fn routings_of_other_hashes_differ(rt: HostRuntime) {
+    let sum = must(&rt, routing(rt.alloc(), NamedHash::Sum));
+    differ_in_hash(&rt, &sum, &must(&rt, hashed_otherwise(&sum)));
 }
 
 #[test]

@@ -6,7 +6,7 @@ mod values;
 mod writer;
 
 use super::{are, count_is, holds, repeated};
-use mr_test_parts::{reply_text, request_text};
+use mr_test_parts::{must, reply_text, request_text};
 use mr_text::{Block, Item, Key, Reply, Request, TextError};
 use std::alloc::Global;
 use std::process::Abort;
@@ -30,25 +30,23 @@ fn item(alloc: Global, key: &[u8], flags: u32, block: &[u8]) -> Result<Item, Fai
 }
 
 /// Asserts what a request is written as.
-fn is_written(rt: &impl Abort, alloc: Global, request: &Request, text: &[u8]) -> Result<(), Fail> {
-    are(rt, &request_text(alloc, request)?, text);
-    Ok(())
+fn is_written(rt: &impl Abort, alloc: Global, request: &Request, text: &[u8]) {
+    are(rt, &must(rt, request_text(alloc, request)), text);
 }
 
 /// Asserts what a request and its copy are written as.
-fn is_request(rt: &impl Abort, alloc: Global, request: Request, text: &[u8]) -> Result<(), Fail> {
-    is_written(rt, alloc, &request, text)?;
-    is_written(rt, alloc, &request.copy()?, text)
+fn is_request(rt: &impl Abort, alloc: Global, request: Request, text: &[u8]) {
+    is_written(rt, alloc, &request, text);
+    is_written(rt, alloc, &must(rt, request.copy()), text);
 }
 
 /// Asserts what a reply is written as.
-fn is_answered(rt: &impl Abort, alloc: Global, reply: &Reply, text: &[u8]) -> Result<(), Fail> {
-    are(rt, &reply_text(alloc, reply)?, text);
-    Ok(())
+fn is_answered(rt: &impl Abort, alloc: Global, reply: &Reply, text: &[u8]) {
+    are(rt, &must(rt, reply_text(alloc, reply)), text);
 }
 
 /// Asserts what a reply and its copy are written as.
-fn is_reply(rt: &impl Abort, alloc: Global, reply: Reply, text: &[u8]) -> Result<(), Fail> {
-    is_answered(rt, alloc, &reply, text)?;
-    is_answered(rt, alloc, &reply.copy()?, text)
+fn is_reply(rt: &impl Abort, alloc: Global, reply: Reply, text: &[u8]) {
+    is_answered(rt, alloc, &reply, text);
+    is_answered(rt, alloc, &must(rt, reply.copy()), text);
 }

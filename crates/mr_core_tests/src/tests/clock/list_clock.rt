@@ -1,8 +1,8 @@
 //! Clocks whose readings are given.
 use super::shows;
 use mr_clock::{FixedClock, ListClock};
+use mr_test_parts::must;
 use std::process::Abort;
-use std::test::Fail;
 
 /// Asserts what a clock shows, one reading after the other.
 fn gives(rt: &impl Abort, clock: &mut ListClock, wanted: &[Option<u64>]) {
@@ -12,18 +12,16 @@ fn gives(rt: &impl Abort, clock: &mut ListClock, wanted: &[Option<u64>]) {
 }
 
 #[test]
-fn gives_each_member_and_then_the_last(rt: HostRuntime) -> Result<(), Fail> {
-    let members = vec![in rt.alloc(); Some(999), None, Some(1000)]?;
+fn gives_each_member_and_then_the_last(rt: HostRuntime) {
+    let members = must(&rt, vec![in rt.alloc(); Some(999), None, Some(1000)]);
     let wanted = [Some(999), None, Some(1000), Some(1000)];
     gives(&rt, &mut ListClock::new(members), &wanted);
-    Ok(())
 }
 
 #[test]
-fn fails_for_good_at_a_last_fault(rt: HostRuntime) -> Result<(), Fail> {
-    let members = vec![in rt.alloc(); Some(999), None]?;
+fn fails_for_good_at_a_last_fault(rt: HostRuntime) {
+    let members = must(&rt, vec![in rt.alloc(); Some(999), None]);
     gives(&rt, &mut ListClock::new(members), &[Some(999), None, None]);
-    Ok(())
 }
 
 #[test]

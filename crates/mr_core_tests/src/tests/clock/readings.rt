@@ -1,8 +1,8 @@
 //! The readings of a fleet.
 use super::{holds, number_is};
 use mr_clock::{ClockError, ClockFault, Readings};
+use mr_test_parts::must;
 use std::process::Abort;
-use std::test::Fail;
 
 /// Asserts the greatest difference that there was, and whether a reading went back.
 fn tells(rt: &impl Abort, readings: &Readings, spread: u64, went_back: bool) {
@@ -43,23 +43,21 @@ fn tell_of_two(rt: &impl Abort, readings: &Readings) {
 }
 
 #[test]
-fn the_greatest_difference_stays(rt: HostRuntime) -> Result<(), Fail> {
-    let mut readings = Readings::new(vec![in rt.alloc(); 1000, 1100]?);
+fn the_greatest_difference_stays(rt: HostRuntime) {
+    let mut readings = Readings::new(must(&rt, vec![in rt.alloc(); 1000, 1100]));
     tells(&rt, &readings, 100, false);
     takes(&rt, &mut readings, 0, 999, 101, true);
     takes(&rt, &mut readings, 0, 1050, 101, true);
     refuses_a_third(&rt, &mut readings);
     are_two(&rt, &readings, 1050, 1100);
-    tell_of_two(&rt, &readings.copy()?);
-    Ok(())
+    tell_of_two(&rt, &must(&rt, readings.copy()));
 }
 
 #[test]
-fn fewer_than_two_readings_have_no_difference(rt: HostRuntime) -> Result<(), Fail> {
+fn fewer_than_two_readings_have_no_difference(rt: HostRuntime) {
     number_is(&rt, Readings::new(Vec::new(rt.alloc())).spread(), 0);
-    let mut one = Readings::new(vec![in rt.alloc(); 999]?);
+    let mut one = Readings::new(must(&rt, vec![in rt.alloc(); 999]));
     takes(&rt, &mut one, 0, 999, 0, false);
-    Ok(())
 }
 
 #[test]

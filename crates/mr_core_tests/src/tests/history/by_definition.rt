@@ -1,6 +1,7 @@
 //! The judge beside the definition's own words: every hit, every Stored entry, every delete.
 use super::making::*;
 use super::*;
+use mr_test_parts::must;
 
 /// A small generator of numbers.
 #[derive(Clone, Copy)]
@@ -247,23 +248,21 @@ fn is_judged(rt: &impl Abort, history: &History) -> u8 {
 }
 
 /// Asserts that random histories are judged by the definition, and counts their verdicts.
-fn meet_verdicts(rt: &impl Abort, alloc: Global, met: &mut Met) -> Result<(), Fail> {
+fn meet_verdicts(rt: &impl Abort, alloc: Global, met: &mut Met) {
     let mut dice = Dice { state: 7 };
     for _ in 0..600 {
-        met.count(is_judged(rt, &random_history(alloc, &mut dice)?));
+        met.count(is_judged(rt, &must(rt, random_history(alloc, &mut dice))));
     }
-    Ok(())
 }
 
 #[test]
-fn judge_agrees_with_the_definition(rt: HostRuntime) -> Result<(), Fail> {
+fn judge_agrees_with_the_definition(rt: HostRuntime) {
     let mut met = Met {
         safe: 0,
         stale: 0,
         invented: 0,
     };
-    meet_verdicts(&rt, rt.alloc(), &mut met)?;
+    meet_verdicts(&rt, rt.alloc(), &mut met);
     // Each verdict was met often.
     holds(&rt, met.safe >= 40 && met.stale >= 40 && met.invented >= 40);
-    Ok(())
 }

@@ -1,6 +1,7 @@
 //! Histories as plain values, and what is asserted of each.
 use super::making::*;
 use super::*;
+use mr_test_parts::must;
 
 /// The first request of the first proxy.
 pub const FIRST: OpId = OpId {
@@ -122,8 +123,7 @@ pub fn shows(rt: &impl Abort, history: &History, run: &Run) {
 }
 
 /// Asserts which entries fit, and what is said of the history then.
-pub fn goes(rt: &impl Abort, alloc: Global, run: &Run) -> Result<(), Fail> {
-    let history = written(alloc, run)?;
+pub fn goes(rt: &impl Abort, alloc: Global, run: &Run) {
+    let history = must(rt, written(alloc, run));
     shows(rt, &history, run);
-    Ok(())
 }

@@ -13,8 +13,8 @@ static INVENTED: Run = Run {
 };
 
 #[test]
-fn hit_that_nothing_stored_is_invented(rt: HostRuntime) -> Result<(), Fail> {
-    goes(&rt, rt.alloc(), &INVENTED)
+fn hit_that_nothing_stored_is_invented(rt: HostRuntime) {
+    goes(&rt, rt.alloc(), &INVENTED);
 }
 
 /// A set, a delete on both sides, and a get that finds nothing.
@@ -35,8 +35,8 @@ static BOTH_SIDES: Run = Run {
 };
 
 #[test]
-fn delete_on_both_sides_is_kept(rt: HostRuntime) -> Result<(), Fail> {
-    goes(&rt, rt.alloc(), &BOTH_SIDES)
+fn delete_on_both_sides_is_kept(rt: HostRuntime) {
+    goes(&rt, rt.alloc(), &BOTH_SIDES);
 }
 
 /// A set, a delete on one side alone, and a get that finds the item.
@@ -56,8 +56,8 @@ static ONE_SIDE: Run = Run {
 };
 
 #[test]
-fn delete_on_one_side_alone_is_betrayed(rt: HostRuntime) -> Result<(), Fail> {
-    goes(&rt, rt.alloc(), &ONE_SIDE)
+fn delete_on_one_side_alone_is_betrayed(rt: HostRuntime) {
+    goes(&rt, rt.alloc(), &ONE_SIDE);
 }
 
 /// The set is delivered again behind the delete, and a get finds the item.
@@ -78,8 +78,8 @@ static DELIVERED_AGAIN: Run = Run {
 };
 
 #[test]
-fn set_that_is_delivered_again_makes_a_hit_fresh(rt: HostRuntime) -> Result<(), Fail> {
-    goes(&rt, rt.alloc(), &DELIVERED_AGAIN)
+fn set_that_is_delivered_again_makes_a_hit_fresh(rt: HostRuntime) {
+    goes(&rt, rt.alloc(), &DELIVERED_AGAIN);
 }
 
 /// An item that is held from the beginning, a delete, and a get that finds the item.
@@ -97,8 +97,8 @@ static HELD: Run = Run {
 };
 
 #[test]
-fn item_held_from_the_beginning_is_betrayed(rt: HostRuntime) -> Result<(), Fail> {
-    goes(&rt, rt.alloc(), &HELD)
+fn item_held_from_the_beginning_is_betrayed(rt: HostRuntime) {
+    goes(&rt, rt.alloc(), &HELD);
 }
 
 /// A delete before the item is stored, and three behind it, of which the last is answered first and the first last, once
@@ -126,8 +126,8 @@ static DELETES: Run = Run {
 };
 
 #[test]
-fn delete_issued_first_is_named(rt: HostRuntime) -> Result<(), Fail> {
-    goes(&rt, rt.alloc(), &DELETES)
+fn delete_issued_first_is_named(rt: HostRuntime) {
+    goes(&rt, rt.alloc(), &DELETES);
 }
 
 /// An answer with an item that was stored and two that weren't, and then another bad answer.
@@ -147,6 +147,6 @@ static BAD_ITEMS: Run = Run {
 };
 
 #[test]
-fn first_bad_item_of_the_first_bad_answer_is_named(rt: HostRuntime) -> Result<(), Fail> {
-    goes(&rt, rt.alloc(), &BAD_ITEMS)
+fn first_bad_item_of_the_first_bad_answer_is_named(rt: HostRuntime) {
+    goes(&rt, rt.alloc(), &BAD_ITEMS);
 }

@@ -1,6 +1,7 @@
 //! Which entries fit, room and copies.
 use super::playing::*;
 use super::*;
+use mr_test_parts::must;
 
 /// Entries of an op that was never issued, an item that is held from the beginning, and a request of another proxy.
 static UNKNOWN: Run = Run {
@@ -16,8 +17,8 @@ static UNKNOWN: Run = Run {
 };
 
 #[test]
-fn entries_fit_behind_their_issue(rt: HostRuntime) -> Result<(), Fail> {
-    goes(&rt, rt.alloc(), &UNKNOWN)
+fn entries_fit_behind_their_issue(rt: HostRuntime) {
+    goes(&rt, rt.alloc(), &UNKNOWN);
 }
 
 /// A request that is issued and answered twice, and what its legs do then.
@@ -35,8 +36,8 @@ static ONCE: Run = Run {
 };
 
 #[test]
-fn requests_are_issued_and_answered_once(rt: HostRuntime) -> Result<(), Fail> {
-    goes(&rt, rt.alloc(), &ONCE)
+fn requests_are_issued_and_answered_once(rt: HostRuntime) {
+    goes(&rt, rt.alloc(), &ONCE);
 }
 
 /// The room of a history that is empty, then with room for three, and then behind an entry.
@@ -51,13 +52,12 @@ fn rooms(alloc: Global, history: &mut History) -> Result<(usize, usize, usize), 
 }
 
 #[test]
-fn room_is_made_before_entries_come(rt: HostRuntime) -> Result<(), Fail> {
-    let counts = rooms(rt.alloc(), &mut History::new(rt.alloc())?);
-    let (empty, made, left) = counts?;
+fn room_is_made_before_entries_come(rt: HostRuntime) {
+    let counts = rooms(rt.alloc(), &mut must(&rt, History::new(rt.alloc())));
+    let (empty, made, left) = must(&rt, counts);
     count_is(&rt, empty, 0);
     holds(&rt, made >= 3);
     count_is(&rt, left.saturating_add(1), made);
-    Ok(())
 }
 
 /// A set, a delete, and a hit with other data.
@@ -80,9 +80,12 @@ fn copied(alloc: Global, run: &Run) -> Result<History, Fail> {
 }
 
 #[test]
-fn copies_are_judged_alike(rt: HostRuntime) -> Result<(), Fail> {
-    goes(&rt, rt.alloc(), &OTHER_DATA)?;
-    shows(&rt, &copied(rt.alloc(), &OTHER_DATA)?, &OTHER_DATA);
+fn copies_are_judged_alike(rt: HostRuntime) {
+    goes(&rt, rt.alloc(), &OTHER_DATA);
+    shows(
+        &rt,
+        &must(&rt, copied(rt.alloc(), &OTHER_DATA)),
+        &OTHER_DATA,
+    );
     holds(&rt, HistoryError::OutOfMemory.number() == 1);
-    Ok(())
 }

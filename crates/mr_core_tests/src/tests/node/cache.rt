@@ -1,6 +1,7 @@
 //! What a cache answers and keeps.
 use super::{Came, Told, count_is, expiry, holds, key};
 use mr_node::{CacheNode, NodeCommand, NodeError, Perform};
+use mr_test_parts::must;
 use std::alloc::Global;
 use std::process::Abort;
 use std::test::Fail;
@@ -14,12 +15,11 @@ fn perform<P: Perform>(node: &mut P, now: u64, command: &NodeCommand) -> Result<
 type Step<'a> = (u64, Told, &'a [u8], Came, usize);
 
 /// Asserts what a command comes to and how many items it leaves.
-fn is_step(rt: &impl Abort, alloc: Global, node: &mut CacheNode, step: &Step) -> Result<(), Fail> {
+fn is_step(rt: &impl Abort, alloc: Global, node: &mut CacheNode, step: &Step) {
     let (now, told, name, came, kept) = *step;
-    let answered = perform(node, now, &told.of(alloc, name)?)?;
+    let answered = must(rt, perform(node, now, &must(rt, told.of(alloc, name))));
     holds(rt, answered == came);
     count_is(rt, node.len(), kept);
-    Ok(())
 }
 
 /// The capacity of a cache, commands, and when the item of a name has to expire after them, if it is kept.
@@ -27,23 +27,22 @@ type Row<'a> = (usize, &'a [Step<'a>], &'a [u8], Option<Option<u64>>);
 
 /// When the item of a row's name expires after its commands. The name is looked at before each of them too, which is no
 /// use of the item.
-fn kept_after(rt: &impl Abort, alloc: Global, row: &Row) -> Result<Option<Option<u64>>, Fail> {
+fn kept_after(rt: &impl Abort, alloc: Global, row: &Row) -> Option<Option<u64>> {
     let (capacity, steps, name, _) = *row;
-    let mut node = CacheNode::new(alloc, capacity)?;
-    let name = key(alloc, name)?;
+    let mut node = must(rt, CacheNode::new(alloc, capacity));
+    let name = must(rt, key(alloc, name));
     for step in steps {
         let _ = node.peek(&name);
-        is_step(rt, alloc, &mut node, step)?;
+        is_step(rt, alloc, &mut node, step);
     }
-    Ok(expiry(&node, &name))
+    expiry(&node, &name)
 }
 
 /// Asserts what the rows say.
-fn are_rows(rt: &impl Abort, alloc: Global, rows: &[Row]) -> Result<(), Fail> {
+fn are_rows(rt: &impl Abort, alloc: Global, rows: &[Row]) {
     for row in rows {
-        holds(rt, kept_after(rt, alloc, row)? == row.3);
+        holds(rt, kept_after(rt, alloc, row) == row.3);
     }
-    Ok(())
 }
 
 const FIRST: Step<'static> = (100, Told::Set(0), b"a", Came::Stored, 1);
@@ -145,14 +144,14 @@ static ROWS: [Row<'static>; 20] = [
 ];
 
 #[test]
-fn commands_come_to_what_their_rows_say(rt: HostRuntime) -> Result<(), Fail> {
-    are_rows(&rt, rt.alloc(), &ROWS)
+fn commands_come_to_what_their_rows_say(rt: HostRuntime) {
+    are_rows(&rt, rt.alloc(), &ROWS);
 }
 
 #[test]
-fn a_restart_drops_all(rt: HostRuntime) -> Result<(), Fail> {
-    let mut node = CacheNode::new(rt.alloc(), usize::MAX)?;
-    is_step(&rt, rt.alloc(), &mut node, &FIRST)?;
+fn a_restart_drops_all(rt: HostRuntime) {
+    let mut node = must(&rt, CacheNode::new(rt.alloc(), usize::MAX));
+    is_step(&rt, rt.alloc(), &mut node, &FIRST);
     node.restart();
     holds(&rt, node.is_empty());
     is_step(
@@ -160,7 +159,7 @@ fn a_restart_drops_all(rt: HostRuntime) -> Result<(), Fail> {
         rt.alloc(),
         &mut node,
         &(100, Told::Get, b"a", Came::Miss, 0),
-    )
+    );
 }
 
 #[test]

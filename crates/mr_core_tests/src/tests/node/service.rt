@@ -3,7 +3,7 @@ use super::devices::{AMPLE, Given, Left, Shown, serve_input};
 use super::{are, count_is, expiry, holds, key};
 use mr_clock::{Clock, FixedClock, ListClock};
 use mr_node::{CacheNode, Ended, NodeError};
-use mr_test_parts::add_repeated;
+use mr_test_parts::{add_repeated, must};
 use std::alloc::Global;
 use std::cell::Cell;
 use std::process::Abort;
@@ -29,20 +29,21 @@ fn has_left(rt: &impl Abort, left: &Left, row: &Row) {
 }
 
 /// Asserts what the service of a text over a new cache comes to.
-fn is_row<C: Clock>(rt: &impl Abort, alloc: Global, clock: &mut C, row: &Row) -> Result<(), Fail> {
-    let mut node = CacheNode::new(alloc, 4)?;
-    let left = serve_input(alloc, &mut node, clock, &Cell::new(0), row.0, row.1)?;
+fn is_row<C: Clock>(rt: &impl Abort, alloc: Global, clock: &mut C, row: &Row) {
+    let mut node = must(rt, CacheNode::new(alloc, 4));
+    let left = must(
+        rt,
+        serve_input(alloc, &mut node, clock, &Cell::new(0), row.0, row.1),
+    );
     has_left(rt, &left, row);
     count_is(rt, node.len(), row.5);
-    Ok(())
 }
 
 /// Asserts what the services of texts come to at 999.
-fn are_rows(rt: &impl Abort, alloc: Global, rows: &[Row]) -> Result<(), Fail> {
+fn are_rows(rt: &impl Abort, alloc: Global, rows: &[Row]) {
     for row in rows {
-        is_row(rt, alloc, &mut FixedClock(999), row)?;
+        is_row(rt, alloc, &mut FixedClock(999), row);
     }
-    Ok(())
 }
 
 const ENDED: Result<Ended, NodeError> = Ok(Ended::Ended);
@@ -96,8 +97,8 @@ static ANSWERS: [Row<'static>; 7] = [
 ];
 
 #[test]
-fn answers_each_request(rt: HostRuntime) -> Result<(), Fail> {
-    are_rows(&rt, rt.alloc(), &ANSWERS)
+fn answers_each_request(rt: HostRuntime) {
+    are_rows(&rt, rt.alloc(), &ANSWERS);
 }
 
 static REFUSALS: [Row<'static>; 7] = [
@@ -160,8 +161,8 @@ static REFUSALS: [Row<'static>; 7] = [
 ];
 
 #[test]
-fn answers_refusals(rt: HostRuntime) -> Result<(), Fail> {
-    are_rows(&rt, rt.alloc(), &REFUSALS)
+fn answers_refusals(rt: HostRuntime) {
+    are_rows(&rt, rt.alloc(), &REFUSALS);
 }
 
 /// A text with so many equal bytes within it.
@@ -179,25 +180,19 @@ fn long_text(
 }
 
 /// Asserts that a text is refused, and the answer to it.
-fn is_refused(
-    rt: &impl Abort,
-    alloc: Global,
-    input: Vec<u8>,
-    output: &[u8],
-    number: u8,
-) -> Result<(), Fail> {
+fn is_refused(rt: &impl Abort, alloc: Global, input: Vec<u8>, output: &[u8], number: u8) {
     let how = Ok(Ended::Refused(number));
     let row = (input.as_slice(), AMPLE, how, output, 1, 0);
-    is_row(rt, alloc, &mut FixedClock(999), &row)
+    is_row(rt, alloc, &mut FixedClock(999), &row);
 }
 
 #[test]
-fn refuses_long_keys_and_lines(rt: HostRuntime) -> Result<(), Fail> {
+fn refuses_long_keys_and_lines(rt: HostRuntime) {
     let alloc = rt.alloc();
-    let key = long_text(alloc, b"get ", b'x', 251, b"\r\n")?;
-    is_refused(&rt, alloc, key, b"CLIENT_ERROR bad key\r\n", 2)?;
-    let line = long_text(alloc, b"get k", b' ', 8188, b"\n")?;
-    is_refused(&rt, alloc, line, b"CLIENT_ERROR line too long\r\n", 1)
+    let key = must(&rt, long_text(alloc, b"get ", b'x', 251, b"\r\n"));
+    is_refused(&rt, alloc, key, b"CLIENT_ERROR bad key\r\n", 2);
+    let line = must(&rt, long_text(alloc, b"get k", b' ', 8188, b"\n"));
+    is_refused(&rt, alloc, line, b"CLIENT_ERROR line too long\r\n", 1);
 }
 
 const READ_FAULT: Result<Ended, NodeError> = Err(NodeError::ReadFault);
@@ -400,8 +395,8 @@ static FAULTS: [Row<'static>; 16] = [
 ];
 
 #[test]
-fn faults_leave_what_was_done(rt: HostRuntime) -> Result<(), Fail> {
-    are_rows(&rt, rt.alloc(), &FAULTS)
+fn faults_leave_what_was_done(rt: HostRuntime) {
+    are_rows(&rt, rt.alloc(), &FAULTS);
 }
 
 const CLOCK_FAULT: [Option<u64>; 3] = [None, Some(999), Some(999)];
@@ -456,22 +451,16 @@ static READINGS: [([Option<u64>; 3], Row<'static>); 4] = [
 ];
 
 /// Asserts what the service of a text comes to with what its clock shows.
-fn is_at(
-    rt: &impl Abort,
-    alloc: Global,
-    readings: [Option<u64>; 3],
-    row: &Row,
-) -> Result<(), Fail> {
-    let mut clock = ListClock::new(Vec::from_array(alloc, readings)?);
-    is_row(rt, alloc, &mut clock, row)
+fn is_at(rt: &impl Abort, alloc: Global, readings: [Option<u64>; 3], row: &Row) {
+    let mut clock = ListClock::new(must(rt, Vec::from_array(alloc, readings)));
+    is_row(rt, alloc, &mut clock, row);
 }
 
 #[test]
-fn takes_one_reading_for_each_request(rt: HostRuntime) -> Result<(), Fail> {
+fn takes_one_reading_for_each_request(rt: HostRuntime) {
     for (readings, row) in &READINGS {
-        is_at(&rt, rt.alloc(), *readings, row)?;
+        is_at(&rt, rt.alloc(), *readings, row);
     }
-    Ok(())
 }
 
 /// Serves a set of sixteen bytes, one at a time, by a clock that shows these seconds.
@@ -488,10 +477,9 @@ fn serve_slowly(alloc: Global, node: &mut CacheNode, seconds: &Cell<u64>) -> Res
 
 /// The first byte of the request comes at 101. So it has arrived at 116.
 #[test]
-fn reads_the_clock_once_a_request_has_arrived(rt: HostRuntime) -> Result<(), Fail> {
-    let key = key(rt.alloc(), b"k")?;
-    let mut node = CacheNode::new(rt.alloc(), 1)?;
-    serve_slowly(rt.alloc(), &mut node, &Cell::new(100))?;
+fn reads_the_clock_once_a_request_has_arrived(rt: HostRuntime) {
+    let key = must(&rt, key(rt.alloc(), b"k"));
+    let mut node = must(&rt, CacheNode::new(rt.alloc(), 1));
+    must(&rt, serve_slowly(rt.alloc(), &mut node, &Cell::new(100)));
     holds(&rt, expiry(&node, &key) == Some(Some(121)));
-    Ok(())
 }

@@ -1,6 +1,7 @@
 //! Copies of items, and the numbers of errors.
 use super::{Told, holds, key};
 use mr_node::{CacheNode, CachedItem, NodeError, Perform};
+use mr_test_parts::must;
 use std::alloc::Global;
 use std::process::Abort;
 use std::test::Fail;
@@ -26,10 +27,12 @@ fn copied_out(alloc: Global, node: &mut CacheNode) -> Result<Option<CachedItem>,
 }
 
 #[test]
-fn a_copied_item_is_equal(rt: HostRuntime) -> Result<(), Fail> {
-    let copy = copied_out(rt.alloc(), &mut CacheNode::new(rt.alloc(), 1)?);
-    holds(&rt, matches!(&copy?, Some(item) if is_wanted(item)));
-    Ok(())
+fn a_copied_item_is_equal(rt: HostRuntime) {
+    let copy = copied_out(rt.alloc(), &mut must(&rt, CacheNode::new(rt.alloc(), 1)));
+    holds(
+        &rt,
+        matches!(&must(&rt, copy), Some(item) if is_wanted(item)),
+    );
 }
 
 /// Asserts an error's number.

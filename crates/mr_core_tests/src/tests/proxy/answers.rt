@@ -1,7 +1,7 @@
 //! What a client reads of an answer, in how many calls it goes out, and what is left where one of them fails.
 use super::{Asked, Came, answer_to, are, count_is, holds};
 use mr_proxy::Answer;
-use mr_test_parts::{TakesHalf, add_repeated, reply_text};
+use mr_test_parts::{TakesHalf, add_repeated, must, reply_text};
 use mr_text::OverWriter;
 use std::alloc::Global;
 use std::process::Abort;
@@ -44,16 +44,9 @@ fn text_of_reply(alloc: Global, answer: Answer) -> Result<Vec<u8>, Fail> {
 }
 
 /// Asserts what an answer is written as, and that the reply that is built of it is written alike.
-fn reads(
-    rt: &impl Abort,
-    alloc: Global,
-    answer: Answer,
-    text: &[u8],
-    calls: usize,
-) -> Result<(), Fail> {
+fn reads(rt: &impl Abort, alloc: Global, answer: Answer, text: &[u8], calls: usize) {
     is_written(rt, alloc, &answer, text, calls);
-    are(rt, &text_of_reply(alloc, answer)?, text);
-    Ok(())
+    are(rt, &must(rt, text_of_reply(alloc, answer)), text);
 }
 
 /// Asserts what the answer to a request is written as in one call, once these replies came.
@@ -64,9 +57,9 @@ fn is_answer(
     asked: Asked,
     replies: &[(u32, Came)],
     text: &[u8],
-) -> Result<(), Fail> {
-    let answer = answer_to(alloc, reading, asked, replies)?;
-    reads(rt, alloc, answer, text, 1)
+) {
+    let answer = must(rt, answer_to(alloc, reading, asked, replies));
+    reads(rt, alloc, answer, text, 1);
 }
 
 /// Replies to the legs of a request, by place, and the text of its answer then.
@@ -109,11 +102,10 @@ static GETS: [Row<'static>; 5] = [
 ];
 
 #[test]
-fn gets_are_answered_in_order_of_their_keys(rt: HostRuntime) -> Result<(), Fail> {
+fn gets_are_answered_in_order_of_their_keys(rt: HostRuntime) {
     for (replies, text) in &GETS {
-        is_answer(&rt, rt.alloc(), 999, Asked::Get(b"kkb"), replies, text)?;
+        is_answer(&rt, rt.alloc(), 999, Asked::Get(b"kkb"), replies, text);
     }
-    Ok(())
 }
 
 static DELETES: [Row<'static>; 5] = [
@@ -130,15 +122,14 @@ static DELETES: [Row<'static>; 5] = [
 ];
 
 #[test]
-fn the_worse_leg_of_a_delete_is_told(rt: HostRuntime) -> Result<(), Fail> {
+fn the_worse_leg_of_a_delete_is_told(rt: HostRuntime) {
     for (replies, text) in &DELETES {
-        is_answer(&rt, rt.alloc(), 1000, Asked::Delete(b'k'), replies, text)?;
+        is_answer(&rt, rt.alloc(), 1000, Asked::Delete(b'k'), replies, text);
     }
-    Ok(())
 }
 
 #[test]
-fn a_set_is_answered(rt: HostRuntime) -> Result<(), Fail> {
+fn a_set_is_answered(rt: HostRuntime) {
     let asked = Asked::Set(b'a');
     is_answer(
         &rt,
@@ -147,7 +138,7 @@ fn a_set_is_answered(rt: HostRuntime) -> Result<(), Fail> {
         asked,
         &[(0, Came::Stored)],
         b"STORED\r\n",
-    )
+    );
 }
 
 static LONG: [(u32, Came); 3] = [
@@ -165,9 +156,9 @@ fn long_text(alloc: Global) -> Result<Vec<u8>, Fail> {
 }
 
 #[test]
-fn a_long_block_goes_out_by_itself(rt: HostRuntime) -> Result<(), Fail> {
+fn a_long_block_goes_out_by_itself(rt: HostRuntime) {
     let alloc = rt.alloc();
-    let text = long_text(alloc)?;
-    let answer = answer_to(alloc, 999, Asked::Get(b"kkb"), &LONG)?;
-    reads(&rt, alloc, answer, &text, 3)
+    let text = must(&rt, long_text(alloc));
+    let answer = must(&rt, answer_to(alloc, 999, Asked::Get(b"kkb"), &LONG));
+    reads(&rt, alloc, answer, &text, 3);
 }

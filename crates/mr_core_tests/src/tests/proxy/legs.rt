@@ -3,6 +3,7 @@ use super::{Asked, core_of, count_is, holds, issue, number_is, request_of};
 use mr_join::LegReply;
 use mr_phases::Side;
 use mr_proxy::{Leg, LegBack, LegSheet, ProxyCore, Taken};
+use mr_test_parts::must;
 use std::alloc::Global;
 use std::process::Abort;
 use std::test::Fail;
@@ -39,12 +40,11 @@ fn goes_to(
     reading: u64,
     asked: Asked,
     wanted: &[Node],
-) -> Result<(), Fail> {
-    let count = count_of(alloc, core, reading, asked)?;
+) {
+    let count = must(rt, count_of(alloc, core, reading, asked));
     number_is(rt, count, wanted.len() as u64);
-    let issued = issue(alloc, core, reading, asked)?;
+    let issued = must(rt, issue(alloc, core, reading, asked));
     are_sent_to(rt, issued.legs.as_slice(), wanted);
-    Ok(())
 }
 
 /// A reading, a request, and the nodes that its legs go to.
@@ -70,12 +70,11 @@ static ROWS: [Row<'static>; 6] = [
 ];
 
 #[test]
-fn legs_go_where_the_reading_says(rt: HostRuntime) -> Result<(), Fail> {
-    let mut core = core_of(rt.alloc(), 0, 8)?;
+fn legs_go_where_the_reading_says(rt: HostRuntime) {
+    let mut core = must(&rt, core_of(rt.alloc(), 0, 8));
     for (reading, asked, wanted) in &ROWS {
-        goes_to(&rt, rt.alloc(), &mut core, *reading, *asked, wanted)?;
+        goes_to(&rt, rt.alloc(), &mut core, *reading, *asked, wanted);
     }
-    Ok(())
 }
 
 /// A copy of what comes back of a leg.
@@ -95,16 +94,15 @@ fn comes_back(rt: &impl Abort, core: &mut ProxyCore, back: LegBack) {
     holds(rt, is_answered(core, &sheet, reply));
 }
 
-fn come_back(rt: &impl Abort, alloc: Global, core: &mut ProxyCore) -> Result<(), Fail> {
-    for leg in issue(alloc, core, 1200, Asked::Set(b'a'))?.legs {
-        comes_back(rt, core, back_of(leg)?);
+fn come_back(rt: &impl Abort, alloc: Global, core: &mut ProxyCore) {
+    for leg in must(rt, issue(alloc, core, 1200, Asked::Set(b'a'))).legs {
+        comes_back(rt, core, must(rt, back_of(leg)));
     }
     count_is(rt, core.outstanding(), 0);
-    Ok(())
 }
 
 #[test]
-fn a_leg_comes_back_with_its_sheet(rt: HostRuntime) -> Result<(), Fail> {
+fn a_leg_comes_back_with_its_sheet(rt: HostRuntime) {
     let alloc = rt.alloc();
-    come_back(&rt, alloc, &mut core_of(alloc, 0, 4)?)
+    come_back(&rt, alloc, &mut must(&rt, core_of(alloc, 0, 4)));
 }

@@ -2,6 +2,7 @@
 use super::{Asked, Came, core_of, is_asked, op_of, reply_of, request_of};
 use mr_history::OpId;
 use mr_proxy::{LegId, ProxyCore, ProxyError, Taken};
+use mr_test_parts::must;
 use std::alloc::Global;
 use std::process::Abort;
 use std::test::Fail;
@@ -100,11 +101,10 @@ fn is_right(rt: &impl Abort, place: usize, done: bool) {
 }
 
 /// Asserts that each step of a script comes to what it has to.
-fn runs(rt: &impl Abort, alloc: Global, core: &mut ProxyCore, script: &[Step]) -> Result<(), Fail> {
+fn runs(rt: &impl Abort, alloc: Global, core: &mut ProxyCore, script: &[Step]) {
     for (place, step) in script.iter().enumerate() {
-        is_right(rt, place, is_done(alloc, core, step)?);
+        is_right(rt, place, must(rt, is_done(alloc, core, step)));
     }
-    Ok(())
 }
 
 static DELETE: [Step<'static>; 12] = [
@@ -123,9 +123,9 @@ static DELETE: [Step<'static>; 12] = [
 ];
 
 #[test]
-fn a_delete_waits_for_both_legs(rt: HostRuntime) -> Result<(), Fail> {
+fn a_delete_waits_for_both_legs(rt: HostRuntime) {
     let alloc = rt.alloc();
-    runs(&rt, alloc, &mut core_of(alloc, 0, 4)?, &DELETE)
+    runs(&rt, alloc, &mut must(&rt, core_of(alloc, 0, 4)), &DELETE);
 }
 
 static RESTART: [Step<'static>; 6] = [
@@ -138,9 +138,9 @@ static RESTART: [Step<'static>; 6] = [
 ];
 
 #[test]
-fn a_restarted_proxy_knows_no_reply(rt: HostRuntime) -> Result<(), Fail> {
+fn a_restarted_proxy_knows_no_reply(rt: HostRuntime) {
     let alloc = rt.alloc();
-    runs(&rt, alloc, &mut core_of(alloc, 0, 4)?, &RESTART)
+    runs(&rt, alloc, &mut must(&rt, core_of(alloc, 0, 4)), &RESTART);
 }
 
 static FULL: [Step<'static>; 5] = [
@@ -152,9 +152,9 @@ static FULL: [Step<'static>; 5] = [
 ];
 
 #[test]
-fn a_full_proxy_refuses(rt: HostRuntime) -> Result<(), Fail> {
+fn a_full_proxy_refuses(rt: HostRuntime) {
     let alloc = rt.alloc();
-    runs(&rt, alloc, &mut core_of(alloc, 0, 1)?, &FULL)
+    runs(&rt, alloc, &mut must(&rt, core_of(alloc, 0, 1)), &FULL);
 }
 
 static LAST: [Step<'static>; 2] = [
@@ -163,7 +163,12 @@ static LAST: [Step<'static>; 2] = [
 ];
 
 #[test]
-fn the_last_incarnation_cannot_restart(rt: HostRuntime) -> Result<(), Fail> {
+fn the_last_incarnation_cannot_restart(rt: HostRuntime) {
     let alloc = rt.alloc();
-    runs(&rt, alloc, &mut core_of(alloc, u64::MAX, 1)?, &LAST)
+    runs(
+        &rt,
+        alloc,
+        &mut must(&rt, core_of(alloc, u64::MAX, 1)),
+        &LAST,
+    );
 }

@@ -1,11 +1,11 @@
 //! What goes through to a device, and a device that fails.
 use super::{are, count_is, holds, repeated};
+use mr_test_parts::must;
 use mr_text::{FailsAt, OverReader, OverWriter, ReadFault, Sink, Source};
 use std::alloc::Global;
 use std::io;
 use std::io::{Read, Write};
 use std::process::Abort;
-use std::test::Fail;
 
 /// Asserts what a read comes to.
 fn reads<S: Source>(
@@ -171,19 +171,17 @@ fn writes_go_through(rt: &impl Abort, bytes: &[u8]) {
 }
 
 #[test]
-fn one_read_is_one_call_of_the_device(rt: HostRuntime) -> Result<(), Fail> {
+fn one_read_is_one_call_of_the_device(rt: HostRuntime) {
     for length in [1, 4, 4096, 65_536] {
-        reads_go_through(&rt, &mut repeated(rt.alloc(), b'x', length)?);
+        reads_go_through(&rt, &mut must(&rt, repeated(rt.alloc(), b'x', length)));
     }
-    Ok(())
 }
 
 #[test]
-fn one_write_is_one_call_of_the_device(rt: HostRuntime) -> Result<(), Fail> {
+fn one_write_is_one_call_of_the_device(rt: HostRuntime) {
     for length in [1, 4, 4096, 65_536] {
-        writes_go_through(&rt, &repeated(rt.alloc(), b'x', length)?);
+        writes_go_through(&rt, &must(&rt, repeated(rt.alloc(), b'x', length)));
     }
-    Ok(())
 }
 
 /// Asserts that a read fails, and that the next one gives a byte.

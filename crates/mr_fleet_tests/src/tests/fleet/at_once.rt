@@ -7,13 +7,13 @@ use mr_fleet::{FleetEnd, FleetProxy};
 use mr_fleet_clients::FleetClient;
 use mr_node::NodeCommand;
 use mr_proxy::LegSheet;
+use mr_test_parts::must;
 use mr_text::{GhostBytes, GhostCount, OverReader, Sink, Source, WriteFault};
 use mr_workers::{Carrier, Gate};
 use std::alloc::{AllocError, Global};
 use std::io::Read;
 use std::process::Abort;
 use std::sync::{Mutex, Wait};
-use std::test::Fail;
 use std::thread::Threads;
 use std::time::{Clock, Duration};
 use std::{io, thread};
@@ -264,8 +264,8 @@ fn play<
     W: Sink + IsTold + Send + Drop,
     G: Gate + Sync,
     R: Threads + Wait + Abort + Sync,
->(rt: &R, alloc: Global, proxies: Vec<FleetProxy<C, K, S, W>>, gate: &G) -> Result<(), Fail> {
-    let ends = run(rt, alloc, proxies, gate)?;
+>(rt: &R, alloc: Global, proxies: Vec<FleetProxy<C, K, S, W>>, gate: &G) {
+    let ends = must(rt, run(rt, alloc, proxies, gate));
     assert_eq!(rt; ends.len(), 2);
     if let Some(first) = ends.first() {
         let told: [&[u8]; 2] = [b"END\r\n", b"STORED\r\nVALUE k 0 1\r\nv\r\nEND\r\n"];
@@ -275,7 +275,6 @@ fn play<
         let told: [&[u8]; 1] = [b"END\r\n"];
         were_told(rt, second, &[1], &told);
     }
-    Ok(())
 }
 
 /// The same over these caches, with a gate that holds the leg of `get b`.
@@ -284,23 +283,25 @@ fn play_over<'x, R: Threads + Wait + Clock + Abort + Sync>(
     alloc: Global,
     nodes: &'x Nodes,
     flags: &'x Flags,
-) -> Result<(), Fail> {
+) {
     let gate = HoldsGetOfB { rt, flags };
-    let first_carriers = carriers(rt, alloc, nodes)?;
-    let second_carriers = carriers(rt, alloc, nodes)?;
-    let first = first_clients(rt, alloc, flags)?;
-    let second = second_clients(rt, alloc, flags)?;
-    let proxies = fleet(alloc, first, first_carriers, second, second_carriers)?;
-    play(rt, alloc, proxies, &gate)
+    let first_carriers = must(rt, carriers(rt, alloc, nodes));
+    let second_carriers = must(rt, carriers(rt, alloc, nodes));
+    let first = must(rt, first_clients(rt, alloc, flags));
+    let second = must(rt, second_clients(rt, alloc, flags));
+    let proxies = must(
+        rt,
+        fleet(alloc, first, first_carriers, second, second_carriers),
+    );
+    play(rt, alloc, proxies, &gate);
 }
 
 #[test]
-fn a_held_leg_holds_no_other_client(rt: HostRuntime) -> Result<(), Fail> {
+fn a_held_leg_holds_no_other_client(rt: HostRuntime) {
     let alloc = rt.alloc();
-    let nodes = Nodes::new(alloc)?;
+    let nodes = must(&rt, Nodes::new(alloc));
     let flags = Flags::new();
-    play_over(&rt, alloc, &nodes, &flags)?;
+    play_over(&rt, alloc, &nodes, &flags);
     holds(&rt, is_set(&rt, &flags.held));
     holds(&rt, !is_set(&rt, &flags.in_vain));
-    Ok(())
 }

@@ -3,6 +3,7 @@ use super::{Nodes, carriers, fleet, holds, run, went_well};
 use mr_clock::{Clock, ClockFault};
 use mr_fleet::FleetProxy;
 use mr_fleet_clients::FleetClient;
+use mr_test_parts::must;
 use mr_text::{OverReader, OverWriter, Sink, Source};
 use mr_workers::{Carrier, OpenGate};
 use std::alloc::{AllocError, Global};
@@ -11,7 +12,6 @@ use std::io::{Read, Write};
 use std::process::Abort;
 use std::sync::atomic::{AtomicU64, Ordering};
 use std::sync::{Mutex, Wait};
-use std::test::Fail;
 use std::thread::Threads;
 
 /// How many clients each proxy has.
@@ -349,13 +349,12 @@ fn play<
     S: Source + Send + Drop,
     W: Sink + Send + Drop,
     R: Threads + Wait + Abort + Sync,
->(rt: &R, alloc: Global, proxies: Vec<FleetProxy<C, K, S, W>>) -> Result<(), Fail> {
-    let ends = run(rt, alloc, proxies, &OpenGate)?;
+>(rt: &R, alloc: Global, proxies: Vec<FleetProxy<C, K, S, W>>) {
+    let ends = must(rt, run(rt, alloc, proxies, &OpenGate));
     assert_eq!(rt; ends.len(), 2);
     for end in &ends {
         went_well(rt, end, &[REQUESTS; CLIENTS]);
     }
-    Ok(())
 }
 
 /// The same over these caches, where the second proxy is ahead by so many seconds.
@@ -367,29 +366,31 @@ fn play_over<'x, R: Threads + Wait + Abort + Sync>(
     ahead: u64,
     first: &'x [Log],
     second: &'x [Log],
-) -> Result<(), Fail> {
-    let first_carriers = carriers(rt, alloc, nodes)?;
-    let second_carriers = carriers(rt, alloc, nodes)?;
-    let first = clients(rt, alloc, course, ahead, 0, first)?;
-    let second = clients(rt, alloc, course, ahead, 1, second)?;
-    let proxies = fleet(alloc, first, first_carriers, second, second_carriers)?;
-    play(rt, alloc, proxies)
+) {
+    let first_carriers = must(rt, carriers(rt, alloc, nodes));
+    let second_carriers = must(rt, carriers(rt, alloc, nodes));
+    let first = must(rt, clients(rt, alloc, course, ahead, 0, first));
+    let second = must(rt, clients(rt, alloc, course, ahead, 1, second));
+    let proxies = must(
+        rt,
+        fleet(alloc, first, first_carriers, second, second_carriers),
+    );
+    play(rt, alloc, proxies);
 }
 
 #[test]
-fn no_get_finds_what_an_acknowledged_delete_took_away(rt: HostRuntime) -> Result<(), Fail> {
+fn no_get_finds_what_an_acknowledged_delete_took_away(rt: HostRuntime) {
     let alloc = rt.alloc();
-    let nodes = Nodes::new(alloc)?;
+    let nodes = must(&rt, Nodes::new(alloc));
     let course = Course::new();
-    let first = logs(alloc)?;
-    let second = logs(alloc)?;
-    play_over(&rt, alloc, &nodes, &course, AHEAD, &first, &second)?;
+    let first = must(&rt, logs(alloc));
+    let second = must(&rt, logs(alloc));
+    play_over(&rt, alloc, &nodes, &course, AHEAD, &first, &second);
     holds(&rt, course.seconds.load(Ordering::SeqCst) >= 1200);
     let mut all = Vec::new(alloc);
-    add_exchanges(first, &mut all)?;
-    add_exchanges(second, &mut all)?;
+    must(&rt, add_exchanges(first, &mut all));
+    must(&rt, add_exchanges(second, &mut all));
     let (hits, wrong) = count_hits(&all);
     holds(&rt, hits > 0);
     assert_eq!(rt; wrong, 0);
-    Ok(())
 }

@@ -1,11 +1,11 @@
 //! Clients of a node that leave in the middle, send byte by byte, send garbage, or don't read.
 use super::{answers, asked_whole, half_asked, is, listener, node, node_serves};
+use mr_test_parts::must;
 use mr_workers::SharedNode;
 use std::alloc::Global;
 use std::io::Write;
 use std::net::{Net, SocketAddr, TcpListener, TcpStream};
 use std::sync::Wait;
-use std::test::Fail;
 use std::thread::Threads;
 use std::time::Clock;
 use std::{io, thread};
@@ -56,19 +56,18 @@ fn all_answers<R: Net>(rt: &R, alloc: Global, address: SocketAddr) -> io::Result
 }
 
 #[test]
-fn clients_that_misbehave(rt: HostRuntime) -> Result<(), Fail> {
+fn clients_that_misbehave(rt: HostRuntime) {
     let alloc = rt.alloc();
-    let listener = listener(&rt)?;
-    let address = listener.local_addr()?;
-    let node = node(alloc)?;
+    let listener = must(&rt, listener(&rt));
+    let address = must(&rt, listener.local_addr());
+    let node = must(&rt, node(alloc));
     let (served, all) = play(&rt, alloc, listener, &node, address);
-    let all = all?;
+    let all = must(&rt, all);
     is(&rt, served, ROWS.len() as u64);
     is(&rt, all.len(), ROWS.len());
     for ((_, wanted), got) in ROWS.iter().zip(&all) {
         is(&rt, got.as_slice(), *wanted);
     }
-    Ok(())
 }
 
 /// Asks for so many answers of more than 8,000 bytes each, and leaves without reading one.
@@ -104,15 +103,14 @@ fn play_unread<R: Net + Threads + Wait + Clock + Sync>(
 }
 
 #[test]
-fn a_client_that_does_not_read(rt: HostRuntime) -> Result<(), Fail> {
+fn a_client_that_does_not_read(rt: HostRuntime) {
     let alloc = rt.alloc();
-    let listener = listener(&rt)?;
-    let address = listener.local_addr()?;
-    let node = node(alloc)?;
+    let listener = must(&rt, listener(&rt));
+    let address = must(&rt, listener.local_addr());
+    let node = must(&rt, node(alloc));
     let (served, got) = play_unread(&rt, alloc, listener, &node, address);
     is(&rt, served, 1);
-    is(&rt, got?.as_slice(), b"END\r\n".as_slice());
-    Ok(())
+    is(&rt, must(&rt, got).as_slice(), b"END\r\n".as_slice());
 }
 
 /// A client that waits in the middle of a request while another is served: what the other was answered, and what the first was.
@@ -142,13 +140,13 @@ fn play_waiting<R: Net + Threads + Wait + Clock + Sync>(
 }
 
 #[test]
-fn a_client_that_waits_holds_no_other(rt: HostRuntime) -> Result<(), Fail> {
+fn a_client_that_waits_holds_no_other(rt: HostRuntime) {
     let alloc = rt.alloc();
-    let listener = listener(&rt)?;
-    let address = listener.local_addr()?;
-    let node = node(alloc)?;
+    let listener = must(&rt, listener(&rt));
+    let address = must(&rt, listener.local_addr());
+    let node = must(&rt, node(alloc));
     let (served, got) = play_waiting(&rt, alloc, listener, &node, address);
-    let (other, waited) = got?;
+    let (other, waited) = must(&rt, got);
     is(&rt, served, 2);
     is(&rt, other.as_slice(), b"STORED\r\n".as_slice());
     is(
@@ -156,5 +154,4 @@ fn a_client_that_waits_holds_no_other(rt: HostRuntime) -> Result<(), Fail> {
         waited.as_slice(),
         b"VALUE k 0 1\r\nv\r\nEND\r\n".as_slice(),
     );
-    Ok(())
 }

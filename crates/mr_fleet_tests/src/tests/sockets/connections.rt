@@ -11,6 +11,7 @@ use mr_phases::Side;
 use mr_pools::NodeName;
 use mr_proxy::{LegId, LegSheet};
 use mr_sockets::{AcceptFault, Listener, OverListener, SocketCarrier, serve_node};
+use mr_test_parts::must;
 use mr_text::{GhostCount, Key, TextError};
 use mr_workers::{Carrier, SharedNode};
 use std::alloc::Global;
@@ -22,13 +23,12 @@ use std::time::Clock;
 use std::{io, thread};
 
 #[test]
-fn an_accepted_connection_is_without_delay(rt: HostRuntime) -> Result<(), Fail> {
-    let listener = listener(&rt)?;
-    let address = listener.local_addr()?;
-    let _client = TcpStream::connect(&rt, address)?;
-    let stream = OverListener::new(listener).accept()?;
-    is(&rt, stream.nodelay()?, true);
-    Ok(())
+fn an_accepted_connection_is_without_delay(rt: HostRuntime) {
+    let listener = must(&rt, listener(&rt));
+    let address = must(&rt, listener.local_addr());
+    let _client = must(&rt, TcpStream::connect(&rt, address));
+    let stream = must(&rt, OverListener::new(listener).accept());
+    is(&rt, must(&rt, stream.nodelay()), true);
 }
 
 /// A network, with a second handle of each connection that was made by it.
@@ -116,13 +116,13 @@ fn play<R: Net<Listener = TcpListener, Stream = TcpStream> + Threads + Wait + Cl
 }
 
 #[test]
-fn legs_share_one_connection_without_delay(rt: HostRuntime) -> Result<(), Fail> {
+fn legs_share_one_connection_without_delay(rt: HostRuntime) {
     let alloc = rt.alloc();
-    let listener = listener(&rt)?;
-    let name = name_of(alloc, &listener)?;
-    let node = node(alloc)?;
+    let listener = must(&rt, listener(&rt));
+    let name = must(&rt, name_of(alloc, &listener));
+    let node = must(&rt, node(alloc));
     let (served, carried) = play(&rt, alloc, listener, &node, &name);
-    let (replies, without_delay) = carried?;
+    let (replies, without_delay) = must(&rt, carried);
     is(&rt, served, 1);
     is(
         &rt,
@@ -130,7 +130,6 @@ fn legs_share_one_connection_without_delay(rt: HostRuntime) -> Result<(), Fail> 
         true,
     );
     is(&rt, without_delay.as_slice(), [true].as_slice());
-    Ok(())
 }
 
 /// A listener that fails so often before it accepts.
@@ -179,21 +178,20 @@ fn play_failing<R: Net<Listener = TcpListener, Stream = TcpStream> + Threads + W
 }
 
 #[test]
-fn a_client_that_cannot_be_accepted_is_waited_after(rt: HostRuntime) -> Result<(), Fail> {
+fn a_client_that_cannot_be_accepted_is_waited_after(rt: HostRuntime) {
     let alloc = rt.alloc();
-    let inner = listener(&rt)?;
-    let address = inner.local_addr()?;
+    let inner = must(&rt, listener(&rt));
+    let address = must(&rt, inner.local_addr());
     let listener = FailsFirst {
         inner: OverListener::new(inner),
         failing: 2,
         failures: GhostCount::new(),
     };
-    let node = node(alloc)?;
-    let begun = rt.monotonic()?;
+    let node = must(&rt, node(alloc));
+    let begun = must(&rt, rt.monotonic());
     let (served, got) = play_failing(&rt, alloc, listener, &node, address);
-    let taken = rt.monotonic()?.saturating_sub(begun).as_millis();
+    let taken = must(&rt, rt.monotonic()).saturating_sub(begun).as_millis();
     is(&rt, served, 1);
-    is(&rt, got?.as_slice(), b"END\r\n".as_slice());
+    is(&rt, must(&rt, got).as_slice(), b"END\r\n".as_slice());
     is(&rt, (200..10_000).contains(&taken), true);
-    Ok(())
 }

@@ -5,11 +5,11 @@ use super::{
 };
 use mr_pools::Routing;
 use mr_sockets::SocketCarrier;
+use mr_test_parts::must;
 use mr_workers::{Desk, SharedNode, SharedProxy};
 use std::alloc::{AllocError, Global};
 use std::net::{Net, SocketAddr, TcpListener, TcpStream};
 use std::sync::Wait;
-use std::test::Fail;
 use std::thread::Threads;
 use std::time::Clock;
 use std::{io, thread};
@@ -117,23 +117,25 @@ fn play<
 }
 
 #[test]
-fn several_clients_through_two_proxies(rt: HostRuntime) -> Result<(), Fail> {
+fn several_clients_through_two_proxies(rt: HostRuntime) {
     let alloc = rt.alloc();
-    let old = [listener(&rt)?];
-    let new = [listener(&rt)?];
-    let routing = routing(alloc, &old, &new)?;
+    let old = [must(&rt, listener(&rt))];
+    let new = [must(&rt, listener(&rt))];
+    let routing = must(&rt, routing(alloc, &old, &new));
     let desks = (
-        SharedProxy::new(core_of(alloc, 0, &routing)?),
-        SharedProxy::new(core_of(alloc, 1, &routing)?),
+        SharedProxy::new(must(&rt, core_of(alloc, 0, &routing))),
+        SharedProxy::new(must(&rt, core_of(alloc, 1, &routing))),
     );
-    let listeners = (listener(&rt)?, listener(&rt)?);
-    let addresses = [listeners.0.local_addr()?, listeners.1.local_addr()?];
-    let node = node(alloc)?;
+    let listeners = (must(&rt, listener(&rt)), must(&rt, listener(&rt)));
+    let addresses = [
+        must(&rt, listeners.0.local_addr()),
+        must(&rt, listeners.1.local_addr()),
+    ];
+    let node = must(&rt, node(alloc));
     let [old] = old;
     let (by_node, by_proxies, answered) = play(
         &rt, alloc, &rt, old, &node, listeners, &desks, &routing, addresses,
     );
     is(&rt, (by_node, by_proxies), (8, (4, 4)));
-    is(&rt, answered?, true);
-    Ok(())
+    is(&rt, must(&rt, answered), true);
 }

@@ -4,11 +4,11 @@ use super::{answers, core_of, is, listener, node, node_serves, proxy_serves, rou
 use mr_pools::Routing;
 use mr_proxy::ProxyCore;
 use mr_sockets::SocketCarrier;
+use mr_test_parts::must;
 use mr_workers::{Desk, SharedNode, SharedProxy};
 use std::alloc::Global;
 use std::net::{Net, SocketAddr, TcpListener, TcpStream};
 use std::sync::Wait;
-use std::test::Fail;
 use std::thread;
 use std::thread::Threads;
 use std::time::Clock;
@@ -48,15 +48,19 @@ fn play<
 }
 
 #[test]
-fn fleet_on_loopback(rt: HostRuntime) -> Result<(), Fail> {
+fn fleet_on_loopback(rt: HostRuntime) {
     let alloc = rt.alloc();
-    let old = [listener(&rt)?, listener(&rt)?];
-    let new = [listener(&rt)?, listener(&rt)?, listener(&rt)?];
-    let routing = routing(alloc, &old, &new)?;
-    let desk = SharedProxy::new(core_of(alloc, 0, &routing)?);
-    let proxy = listener(&rt)?;
-    let address = proxy.local_addr()?;
-    let node = node(alloc)?;
+    let old = [must(&rt, listener(&rt)), must(&rt, listener(&rt))];
+    let new = [
+        must(&rt, listener(&rt)),
+        must(&rt, listener(&rt)),
+        must(&rt, listener(&rt)),
+    ];
+    let routing = must(&rt, routing(alloc, &old, &new));
+    let desk = SharedProxy::new(must(&rt, core_of(alloc, 0, &routing)));
+    let proxy = must(&rt, listener(&rt));
+    let address = must(&rt, proxy.local_addr());
+    let node = must(&rt, node(alloc));
     let [first, second] = old;
     let (by_node, by_proxy, got) = play(
         &rt, alloc, &rt, second, &node, proxy, &desk, &routing, address,
@@ -67,5 +71,4 @@ fn fleet_on_loopback(rt: HostRuntime) -> Result<(), Fail> {
     for other in [first, third, fourth, fifth] {
         is(&rt, node_serves(&rt, alloc, other, &node, 0), 0);
     }
-    Ok(())
 }

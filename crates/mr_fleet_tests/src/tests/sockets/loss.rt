@@ -2,12 +2,12 @@
 use super::{answers, core_of, is, listener, node, node_serves, proxy_serves, routing};
 use mr_pools::Routing;
 use mr_sockets::SocketCarrier;
+use mr_test_parts::must;
 use mr_workers::{Desk, SharedNode, SharedProxy};
 use std::alloc::Global;
 use std::io::{Read, Write};
 use std::net::{Net, SocketAddr, TcpListener, TcpStream};
 use std::sync::Wait;
-use std::test::Fail;
 use std::thread::Threads;
 use std::time::Clock;
 use std::{io, thread};
@@ -72,15 +72,15 @@ fn play<
 }
 
 #[test]
-fn a_node_goes_away_and_comes_back(rt: HostRuntime) -> Result<(), Fail> {
+fn a_node_goes_away_and_comes_back(rt: HostRuntime) {
     let alloc = rt.alloc();
-    let old = [listener(&rt)?];
-    let new = [listener(&rt)?];
-    let routing = routing(alloc, &old, &new)?;
-    let desk = SharedProxy::new(core_of(alloc, 0, &routing)?);
-    let proxy = listener(&rt)?;
-    let address = proxy.local_addr()?;
-    let node = node(alloc)?;
+    let old = [must(&rt, listener(&rt))];
+    let new = [must(&rt, listener(&rt))];
+    let routing = must(&rt, routing(alloc, &old, &new));
+    let desk = SharedProxy::new(must(&rt, core_of(alloc, 0, &routing)));
+    let proxy = must(&rt, listener(&rt));
+    let address = must(&rt, proxy.local_addr());
+    let node = must(&rt, node(alloc));
     let [old] = old;
     let (by_node, by_proxy, got) = play(
         &rt, alloc, &rt, old, &node, proxy, &desk, &routing, address,
@@ -88,8 +88,7 @@ fn a_node_goes_away_and_comes_back(rt: HostRuntime) -> Result<(), Fail> {
     is(&rt, (by_node, by_proxy), (1, 1));
     is(
         &rt,
-        got?.as_slice(),
+        must(&rt, got).as_slice(),
         b"SERVER_ERROR leg lost\r\nSTORED\r\nVALUE k 0 1\r\nv\r\nEND\r\n".as_slice(),
     );
-    Ok(())
 }

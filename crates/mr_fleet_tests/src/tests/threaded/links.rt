@@ -10,7 +10,7 @@ use mr_node::NodeCommand;
 use mr_phases::Side;
 use mr_proxy::{LegId, LegSheet};
 use mr_sessions::NodeLink;
-use mr_test_parts::TakesHalf;
+use mr_test_parts::{TakesHalf, must};
 use mr_text::{Block, Cause, FailsAt, Key, OverReader, OverWriter, TextError};
 use mr_workers::{Carrier, WorkerError};
 use std::alloc::Global;
@@ -175,22 +175,20 @@ fn holds_at(rt: &impl Abort, input: &[u8], fact: bool) {
 }
 
 /// Asserts what comes of the legs of a row. A link is broken where its last leg is a fault.
-fn is_row(rt: &impl Abort, alloc: Global, row: &Row) -> Result<(), Fail> {
+fn is_row(rt: &impl Abort, alloc: Global, row: &Row) {
     let (legs, input, given, wanted, output, calls, left) = *row;
     let reads = Reads::of(input.len());
     let mut link = link(alloc, input, &reads, Vec::new(alloc), given);
-    holds_at(rt, input, come_so(alloc, &mut link, legs, wanted)?);
+    holds_at(rt, input, must(rt, come_so(alloc, &mut link, legs, wanted)));
     let broken = matches!(wanted.last(), Some(Came::Fault(_)));
     holds_at(rt, input, link.is_broken() == broken);
     holds_at(rt, input, wrote(link, output, calls));
     holds_at(rt, input, reads.left.get() == left);
-    Ok(())
 }
 
 /// Asserts what comes of the legs of each row.
-fn are_rows(rt: &impl Abort, alloc: Global, rows: &[Row]) -> Result<(), Fail> {
+fn are_rows(rt: &impl Abort, alloc: Global, rows: &[Row]) {
     for row in rows {
-        is_row(rt, alloc, row)?;
+        is_row(rt, alloc, row);
     }
-    Ok(())
 }

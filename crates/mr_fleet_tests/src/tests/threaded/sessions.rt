@@ -15,11 +15,11 @@ use super::{ToNode, carriers, holds, make_nodes, recorded};
 use mr_clock::{Clock, FixedClock};
 use mr_node::Ended;
 use mr_sessions::{Served, serve_client};
+use mr_test_parts::must;
 use mr_workers::{Carrier, Carriers, Desk, RecordedProxy, WorkerError};
 use std::alloc::{AllocError, Global};
 use std::process::Abort;
 use std::sync::Wait;
-use std::test::Fail;
 
 /// The nodes of the new pool.
 const NEW: [&[u8]; 3] = [b"7101", b"7102", b"7103"];
@@ -119,18 +119,19 @@ type Row<'a> = (
 );
 
 /// Asserts how the session of a client goes at 999, at a fresh proxy whose book keeps at most 20 steps.
-fn is_row(rt: &(impl Wait + Abort), alloc: Global, row: &Row) -> Result<(), Fail> {
+fn is_row(rt: &(impl Wait + Abort), alloc: Global, row: &Row) {
     let (input, given, ended, written, issued, reads) = *row;
-    let left = serve_recorded(rt, alloc, 20, &mut FixedClock(999), input, given)?;
+    let left = must(
+        rt,
+        serve_recorded(rt, alloc, 20, &mut FixedClock(999), input, given),
+    );
     went_so(rt, &left, ended, written, issued);
     holds(rt, left.reads == reads);
-    Ok(())
 }
 
 /// Asserts how the session of each client goes.
-fn are_rows(rt: &(impl Wait + Abort), alloc: Global, rows: &[Row]) -> Result<(), Fail> {
+fn are_rows(rt: &(impl Wait + Abort), alloc: Global, rows: &[Row]) {
     for row in rows {
-        is_row(rt, alloc, row)?;
+        is_row(rt, alloc, row);
     }
-    Ok(())
 }

@@ -3,13 +3,13 @@ use super::{PLACES, Ran, expect_run, is};
 use crate::tests::commands::files_at::FilesAt;
 use mr_commands::run_arguments;
 use mr_sockets::HostServers;
+use mr_test_parts::must;
 use mr_text::{OverReader, OverWriter};
 use std::alloc::Global;
 use std::env::Args;
 use std::io;
 use std::net::{Net, TcpListener, TcpStream};
 use std::sync::Wait;
-use std::test::Fail;
 use std::thread::Threads;
 use std::time::Clock;
 
@@ -38,11 +38,14 @@ fn run_with<R: Net<Listener = TcpListener, Stream = TcpStream> + Threads + Wait 
 }
 
 #[test]
-fn words_are_the_arguments_but_the_first(rt: HostRuntime) -> Result<(), Fail> {
+fn words_are_the_arguments_but_the_first(rt: HostRuntime) {
     let alloc = rt.alloc();
     let mut arguments = Vec::new(alloc);
     for argument in ["plan", "plan", "--config", "fleet.json", "--at", "1200"] {
-        arguments.push(String::from_str(alloc, argument)?)?;
+        must(
+            &rt,
+            arguments.push(must(&rt, String::from_str(alloc, argument))),
+        );
     }
     let ran = run_with(&rt, alloc, Ok(arguments.into_iter()));
     let plan: &[u8] = b"phase new-only at 1200\nleg 0 new 7103\n";
@@ -50,7 +53,6 @@ fn words_are_the_arguments_but_the_first(rt: HostRuntime) -> Result<(), Fail> {
     let none: Vec<String> = Vec::new(alloc);
     let ran = run_with(&rt, alloc, Ok(none.into_iter()));
     is(&rt, ran.status, 2);
-    Ok(())
 }
 
 #[test]

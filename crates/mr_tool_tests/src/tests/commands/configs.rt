@@ -2,12 +2,12 @@
 use super::{FLEET, Ran, expect_run, is, plan_words, run_over};
 use crate::tests::commands::files_at::FilesAt;
 use mr_commands::{MOST_CONFIG_BYTES, MOST_LOADED};
+use mr_test_parts::must;
 use mr_text::OverReader;
 use std::alloc::Global;
 use std::net::{Net, TcpListener, TcpStream};
 use std::process::Abort;
 use std::sync::Wait;
-use std::test::Fail;
 use std::thread::Threads;
 use std::time::Clock;
 
@@ -95,20 +95,19 @@ fn files_that_cannot_be_read_have_a_line(rt: HostRuntime) {
 }
 
 #[test]
-fn a_configuration_may_have_so_many_bytes(rt: HostRuntime) -> Result<(), Fail> {
+fn a_configuration_may_have_so_many_bytes(rt: HostRuntime) {
     let alloc = rt.alloc();
-    let mut config = Vec::from_slice(alloc, FLEET)?;
-    config.resize(MOST_CONFIG_BYTES, b' ')?;
+    let mut config = must(&rt, Vec::from_slice(alloc, FLEET));
+    must(&rt, config.resize(MOST_CONFIG_BYTES, b' '));
     let (plan, timeline) = run_both(&rt, alloc, config.as_slice());
     expect_run(&rt, &plan, 1, b"", b"migctl: text 7 UnknownCommand\n");
     is(&rt, timeline.status, 0);
-    config.push(b' ')?;
+    must(&rt, config.push(b' '));
     is(&rt, config.len(), MOST_LOADED);
     for _ in 0..2 {
         let (plan, timeline) = run_both(&rt, alloc, config.as_slice());
         expect_run(&rt, &plan, 1, b"", b"migctl: plan 11 TooLarge\n");
         expect_run(&rt, &timeline, 1, b"", b"migctl: plan 11 TooLarge\n");
-        config.push(b' ')?;
+        must(&rt, config.push(b' '));
     }
-    Ok(())
 }

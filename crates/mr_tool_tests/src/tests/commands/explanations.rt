@@ -9,6 +9,7 @@ use mr_plan::PlanError;
 use mr_pools::PoolError;
 use mr_proxy::ProxyError;
 use mr_sockets::HostServers;
+use mr_test_parts::must;
 use mr_text::{FailsAt, OverReader, OverWriter, TextError};
 use mr_workers::WorkerError;
 use mr_world::WorldError;
@@ -17,7 +18,6 @@ use std::fmt::Debug;
 use std::net::{Net, TcpListener, TcpStream};
 use std::process::Abort;
 use std::sync::Wait;
-use std::test::Fail;
 use std::thread::Threads;
 use std::time::Clock;
 
@@ -149,17 +149,24 @@ fn expect_named<E: Debug + Drop>(
     layer: &str,
     number: u8,
     refusal: E,
-) -> Result<(), Fail> {
-    let word = format!(in alloc; "{number}")?;
-    let heading = heading_of(alloc, layer, word.as_str(), name_of(alloc, refusal)?)?;
+) {
+    let word = must(rt, format!(in alloc; "{number}"));
+    let heading = must(
+        rt,
+        heading_of(
+            alloc,
+            layer,
+            word.as_str(),
+            must(rt, name_of(alloc, refusal)),
+        ),
+    );
     let ran = run(rt, alloc, &["explain", layer, word.as_str()], b"");
     is(rt, ran.status, 0);
     is(rt, ran.output.starts_with(heading.as_slice()), true);
-    Ok(())
 }
 
 #[test]
-fn texts_and_pools_are_named(rt: HostRuntime) -> Result<(), Fail> {
+fn texts_and_pools_are_named(rt: HostRuntime) {
     let alloc = rt.alloc();
     let texts = [
         TextError::LineTooLong,
@@ -174,7 +181,7 @@ fn texts_and_pools_are_named(rt: HostRuntime) -> Result<(), Fail> {
         TextError::OutOfMemory,
     ];
     for refusal in texts {
-        expect_named(&rt, alloc, "text", refusal.number(), refusal)?;
+        expect_named(&rt, alloc, "text", refusal.number(), refusal);
     }
     let pools = [
         PoolError::EmptyPool,
@@ -185,13 +192,12 @@ fn texts_and_pools_are_named(rt: HostRuntime) -> Result<(), Fail> {
         PoolError::OutOfMemory,
     ];
     for refusal in pools {
-        expect_named(&rt, alloc, "pools", refusal.number(), refusal)?;
+        expect_named(&rt, alloc, "pools", refusal.number(), refusal);
     }
-    Ok(())
 }
 
 #[test]
-fn clocks_phases_and_nodes_are_named(rt: HostRuntime) -> Result<(), Fail> {
+fn clocks_phases_and_nodes_are_named(rt: HostRuntime) {
     let alloc = rt.alloc();
     let clocks = [
         ClockError::ClockFault,
@@ -199,10 +205,10 @@ fn clocks_phases_and_nodes_are_named(rt: HostRuntime) -> Result<(), Fail> {
         ClockError::OutOfMemory,
     ];
     for refusal in clocks {
-        expect_named(&rt, alloc, "clock", refusal.number(), refusal)?;
+        expect_named(&rt, alloc, "clock", refusal.number(), refusal);
     }
     for refusal in [ScheduleError::ZeroInterval, ScheduleError::TooLate] {
-        expect_named(&rt, alloc, "phases", refusal.number(), refusal)?;
+        expect_named(&rt, alloc, "phases", refusal.number(), refusal);
     }
     let nodes = [
         NodeError::ZeroCapacity,
@@ -212,13 +218,12 @@ fn clocks_phases_and_nodes_are_named(rt: HostRuntime) -> Result<(), Fail> {
         NodeError::TurnsSpent,
     ];
     for refusal in nodes {
-        expect_named(&rt, alloc, "node", refusal.number(), refusal)?;
+        expect_named(&rt, alloc, "node", refusal.number(), refusal);
     }
-    Ok(())
 }
 
 #[test]
-fn proxies_and_worlds_are_named(rt: HostRuntime) -> Result<(), Fail> {
+fn proxies_and_worlds_are_named(rt: HostRuntime) {
     let alloc = rt.alloc();
     let proxies = [
         ProxyError::NoRoom,
@@ -227,7 +232,7 @@ fn proxies_and_worlds_are_named(rt: HostRuntime) -> Result<(), Fail> {
         ProxyError::NoSuchOp,
     ];
     for refusal in proxies {
-        expect_named(&rt, alloc, "proxy", refusal.number(), refusal)?;
+        expect_named(&rt, alloc, "proxy", refusal.number(), refusal);
     }
     let worlds = [
         WorldError::NoSuchProxy,
@@ -238,13 +243,12 @@ fn proxies_and_worlds_are_named(rt: HostRuntime) -> Result<(), Fail> {
         WorldError::NoSuchOp,
     ];
     for refusal in worlds {
-        expect_named(&rt, alloc, "world", refusal.number(), refusal)?;
+        expect_named(&rt, alloc, "world", refusal.number(), refusal);
     }
-    Ok(())
 }
 
 #[test]
-fn workers_are_named(rt: HostRuntime) -> Result<(), Fail> {
+fn workers_are_named(rt: HostRuntime) {
     let alloc = rt.alloc();
     let workers = [
         WorkerError::LinkBroken,
@@ -258,13 +262,12 @@ fn workers_are_named(rt: HostRuntime) -> Result<(), Fail> {
         WorkerError::NoThread,
     ];
     for refusal in workers {
-        expect_named(&rt, alloc, "workers", refusal.number(), refusal)?;
+        expect_named(&rt, alloc, "workers", refusal.number(), refusal);
     }
-    Ok(())
 }
 
 #[test]
-fn plans_are_named(rt: HostRuntime) -> Result<(), Fail> {
+fn plans_are_named(rt: HostRuntime) {
     let alloc = rt.alloc();
     let plans = [
         PlanError::NotJson,
@@ -282,9 +285,8 @@ fn plans_are_named(rt: HostRuntime) -> Result<(), Fail> {
         PlanError::OutOfMemory,
     ];
     for refusal in plans {
-        expect_named(&rt, alloc, "plan", refusal.number(), refusal)?;
+        expect_named(&rt, alloc, "plan", refusal.number(), refusal);
     }
-    Ok(())
 }
 
 /// Asserts that words have no explanation.

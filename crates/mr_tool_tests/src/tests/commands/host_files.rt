@@ -1,12 +1,12 @@
 //! The files of the system.
 use super::{Ran, expect_run, is, run_over};
 use mr_commands::{HostFiles, LoadFault, MOST_LOADED, Sources};
+use mr_test_parts::must;
 use mr_text::OverReader;
 use std::fs;
-use std::test::Fail;
 
 #[test]
-fn files_of_the_system_are_loaded(rt: HostRuntime) -> Result<(), Fail> {
+fn files_of_the_system_are_loaded(rt: HostRuntime) {
     let alloc = rt.alloc();
     let mut files = HostFiles::new(&rt);
     let empty = files.load(alloc, "/dev/null").expect(&rt, "an empty file");
@@ -19,7 +19,6 @@ fn files_of_the_system_are_loaded(rt: HostRuntime) -> Result<(), Fail> {
         let fault = files.load(alloc, path).err();
         is(&rt, fault, Some(LoadFault::Unreadable));
     }
-    Ok(())
 }
 
 #[test]
@@ -40,20 +39,19 @@ fn files_of_the_system_are_configurations(rt: HostRuntime) {
 
 /// A file holds more than one read brings, and no two neighbours are alike.
 #[test]
-fn what_a_file_holds_is_loaded(rt: HostRuntime) -> Result<(), Fail> {
+fn what_a_file_holds_is_loaded(rt: HostRuntime) {
     let alloc = rt.alloc();
     let path = "what_a_file_holds_is_loaded";
     let mut held = Vec::new(alloc);
     for index in 0..100_000_u32 {
-        held.push((index % 251) as u8)?;
+        must(&rt, held.push((index % 251) as u8));
     }
-    fs::write(&rt, path, held.as_slice())?;
+    must(&rt, fs::write(&rt, path, held.as_slice()));
     let loaded = HostFiles::new(&rt).load(alloc, path);
-    fs::remove_file(&rt, path)?;
+    must(&rt, fs::remove_file(&rt, path));
     is(
         &rt,
         loaded.is_ok_and(|bytes| bytes.as_slice() == held.as_slice()),
         true,
     );
-    Ok(())
 }

@@ -1,6 +1,7 @@
 //! Scripts that are played, and transcripts that are checked.
 use super::{Ran, byte_by_byte, expect_run, is, run, run_over};
 use crate::tests::commands::files_at::FilesAt;
+use mr_test_parts::must;
 use mr_text::{FailsAt, OverReader};
 use std::alloc::Global;
 use std::net::{Net, TcpListener, TcpStream};
@@ -95,15 +96,14 @@ fn run_by_file(
 }
 
 #[test]
-fn a_script_gives_its_transcript(rt: HostRuntime) -> Result<(), Fail> {
+fn a_script_gives_its_transcript(rt: HostRuntime) {
     let alloc = rt.alloc();
-    let mut line = Vec::from_slice(alloc, TRANSCRIPT.as_bytes())?;
-    line.push(b'\n')?;
+    let mut line = must(&rt, Vec::from_slice(alloc, TRANSCRIPT.as_bytes()));
+    must(&rt, line.push(b'\n'));
     let ran = run_on(&rt, alloc, "run", SCRIPT);
     expect_run(&rt, &ran, 0, line.as_slice(), b"");
     let ran = run_by_file(&rt, alloc, "run", SCRIPT.as_bytes());
     expect_run(&rt, &ran, 0, line.as_slice(), b"");
-    Ok(())
 }
 
 #[test]
@@ -134,7 +134,7 @@ fn changed(alloc: Global, text: &str, from: &str, to: &str) -> Result<String, Fa
 }
 
 #[test]
-fn changed_transcripts_are_not_accepted(rt: HostRuntime) -> Result<(), Fail> {
+fn changed_transcripts_are_not_accepted(rt: HostRuntime) {
     let alloc = rt.alloc();
     let cases = [
         ("\"message\":0", "\"message\":1", "event 1 refused"),
@@ -144,20 +144,25 @@ fn changed_transcripts_are_not_accepted(rt: HostRuntime) -> Result<(), Fail> {
         ("\"safe\"", "\"unsafe\"", "verdict differs"),
     ];
     for (from, to, outcome) in cases {
-        let text = changed(alloc, TRANSCRIPT, from, to)?;
+        let text = must(&rt, changed(alloc, TRANSCRIPT, from, to));
         let ran = run_on(&rt, alloc, "check", text.as_str());
-        let lines = format!(in alloc;
-            "premises same true new_empty true forward true near true\nverdict safe\nnot accepted: {outcome}\n"
-        )?;
+        let lines = must(
+            &rt,
+            format!(in alloc;
+                "premises same true new_empty true forward true near true\nverdict safe\nnot accepted: {outcome}\n"
+            ),
+        );
         expect_run(&rt, &ran, 3, lines.as_bytes(), b"");
     }
-    Ok(())
 }
 
 #[test]
-fn what_is_no_play_is_refused(rt: HostRuntime) -> Result<(), Fail> {
+fn what_is_no_play_is_refused(rt: HostRuntime) {
     let alloc = rt.alloc();
-    let early = changed(alloc, SCRIPT, "\"message\":0", "\"message\":1")?;
+    let early = must(
+        &rt,
+        changed(alloc, SCRIPT, "\"message\":0", "\"message\":1"),
+    );
     let cases: [(&str, &str, &[u8]); 5] = [
         ("run", early.as_str(), b"migctl: plan 12 EventRefused\n"),
         ("run", TRANSCRIPT, b"migctl: plan 4 UnknownKey\n"),
@@ -171,7 +176,6 @@ fn what_is_no_play_is_refused(rt: HostRuntime) -> Result<(), Fail> {
         let ran = run_by_file(&rt, alloc, command, text.as_bytes());
         expect_run(&rt, &ran, 1, b"", line);
     }
-    Ok(())
 }
 
 #[test]

@@ -1,16 +1,16 @@
 //! Requests that are refused, and the longest one.
 use super::{PLACES, byte_by_byte, expect_run, is, plan_words, run, run_over};
 use crate::tests::commands::files_at::FilesAt;
-use std::test::Fail;
+use mr_test_parts::must;
 
 #[test]
-fn requests_are_refused(rt: HostRuntime) -> Result<(), Fail> {
+fn requests_are_refused(rt: HostRuntime) {
     let alloc = rt.alloc();
     let long = [b'x'; 8194];
     let key = [b'x'; 251];
-    let mut with_key = Vec::from_slice(alloc, b"get ")?;
-    with_key.extend_from_slice(&key)?;
-    with_key.extend_from_slice(b"\r\n")?;
+    let mut with_key = must(&rt, Vec::from_slice(alloc, b"get "));
+    must(&rt, with_key.extend_from_slice(&key));
+    must(&rt, with_key.extend_from_slice(b"\r\n"));
     let cases: [(&[u8], &[u8]); 18] = [
         (&long, b"migctl: text 1 LineTooLong\n"),
         (with_key.as_slice(), b"migctl: text 2 BadKey\n"),
@@ -42,21 +42,20 @@ fn requests_are_refused(rt: HostRuntime) -> Result<(), Fail> {
         let ran = run_over(&rt, alloc, &words, &mut files, &mut byte_by_byte(input));
         expect_run(&rt, &ran, 1, b"", line);
     }
-    Ok(())
 }
 
 #[test]
-fn longest_request_is_read_byte_by_byte(rt: HostRuntime) -> Result<(), Fail> {
+fn longest_request_is_read_byte_by_byte(rt: HostRuntime) {
     let alloc = rt.alloc();
-    let mut input = Vec::from_slice(alloc, b"set k 0 0 8192")?;
+    let mut input = must(&rt, Vec::from_slice(alloc, b"set k 0 0 8192"));
     for _ in input.len()..8192 {
-        input.push(b' ')?;
+        must(&rt, input.push(b' '));
     }
-    input.extend_from_slice(b"\r\n")?;
-    input.extend_from_slice(&[b'v'; 8192])?;
-    input.extend_from_slice(b"\r\n")?;
+    must(&rt, input.extend_from_slice(b"\r\n"));
+    must(&rt, input.extend_from_slice(&[b'v'; 8192]));
+    must(&rt, input.extend_from_slice(b"\r\n"));
     is(&rt, input.len(), 16_388);
-    let mut cut = input.clone()?;
+    let mut cut = must(&rt, input.clone());
     let _ = cut.pop();
     let mut files = FilesAt::new(PLACES.as_slice());
     let words = plan_words("fleet.json", "999");
@@ -72,5 +71,4 @@ fn longest_request_is_read_byte_by_byte(rt: HostRuntime) -> Result<(), Fail> {
     let mut slow = byte_by_byte(cut.as_slice());
     let ran = run_over(&rt, alloc, &words, &mut files, &mut slow);
     expect_run(&rt, &ran, 1, b"", b"migctl: text 8 Truncated\n");
-    Ok(())
 }

@@ -1,6 +1,7 @@
 //! Transcripts that were written or changed by hand, and many that are drawn.
 use super::{Change, changed, is, is_for, is_found, padded};
 use mr_plan::{PlanError, read_events};
+use mr_test_parts::must;
 use mr_transcripts::{Outcome, write_transcript};
 use std::alloc::{AllocError, Global};
 use std::process::Abort;
@@ -82,8 +83,7 @@ fn is_found_with(
     transcript: &str,
     change: (&str, &str),
     wanted: Result<Outcome, PlanError>,
-) -> Result<(), AllocError> {
-    let text = changed(rt, alloc, transcript, change)?;
+) {
+    let text = must(rt, changed(rt, alloc, transcript, change));
     is_found(rt, alloc, text.as_str(), wanted, change.1);
-    Ok(())
 }

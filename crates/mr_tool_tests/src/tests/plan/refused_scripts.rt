@@ -17,40 +17,22 @@ fn are_refused(rt: &impl Abort, alloc: Global, rows: &[(&str, PlanError)]) {
 }
 
 /// Asserts why the script with each of these changes by itself is none.
-fn faults_are_told(
-    rt: &impl Abort,
-    alloc: Global,
-    rows: &[(&str, &str, PlanError)],
-) -> Result<(), AllocError> {
+fn faults_are_told(rt: &impl Abort, alloc: Global, rows: &[(&str, &str, PlanError)]) {
     for (part, new, wanted) in rows {
-        is_told(rt, alloc, part, new, Some(*wanted))?;
+        is_told(rt, alloc, part, new, Some(*wanted));
     }
-    Ok(())
 }
 
 /// Asserts why the script with each of these texts in the place of a part is none.
-fn texts_are_told(
-    rt: &impl Abort,
-    alloc: Global,
-    part: &str,
-    rows: &[(&str, PlanError)],
-) -> Result<(), AllocError> {
+fn texts_are_told(rt: &impl Abort, alloc: Global, part: &str, rows: &[(&str, PlanError)]) {
     for (new, wanted) in rows {
-        is_told(rt, alloc, part, new, Some(*wanted))?;
+        is_told(rt, alloc, part, new, Some(*wanted));
     }
-    Ok(())
 }
 
 /// Asserts that the script with any of these texts in the place of a part is none, for the event at this index.
-fn event_is_told(
-    rt: &impl Abort,
-    alloc: Global,
-    part: &str,
-    texts: &[&str],
-    index: usize,
-) -> Result<(), AllocError> {
+fn event_is_told(rt: &impl Abort, alloc: Global, part: &str, texts: &[&str], index: usize) {
     for new in texts {
-        is_told(rt, alloc, part, new, Some(PlanError::BadEvent(index)))?;
+        is_told(rt, alloc, part, new, Some(PlanError::BadEvent(index)));
     }
-    Ok(())
 }

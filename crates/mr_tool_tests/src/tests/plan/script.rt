@@ -1,6 +1,7 @@
 //! One script with each kind of event, and why a text is none.
 use super::{changed, is_for};
 use mr_plan::{PlanError, read_events};
+use mr_test_parts::must;
 use std::alloc::{AllocError, Global};
 use std::process::Abort;
 
@@ -44,24 +45,15 @@ pub fn refusal(alloc: Global, text: &str) -> Option<PlanError> {
 }
 
 /// Why the script with one part changed is none.
-pub fn refusal_with(
-    rt: &impl Abort,
-    alloc: Global,
-    part: &str,
-    new: &str,
-) -> Result<Option<PlanError>, AllocError> {
-    Ok(refusal(alloc, changed(rt, alloc, SCRIPT, (part, new))?.as_str()))
+pub fn refusal_with(rt: &impl Abort, alloc: Global, part: &str, new: &str) -> Option<PlanError> {
+    refusal(
+        alloc,
+        must(rt, changed(rt, alloc, SCRIPT, (part, new))).as_str(),
+    )
 }
 
 /// Asserts why the script with one part changed is none.
-pub fn is_told(
-    rt: &impl Abort,
-    alloc: Global,
-    part: &str,
-    new: &str,
-    wanted: Option<PlanError>,
-) -> Result<(), AllocError> {
-    let found = refusal_with(rt, alloc, part, new)?;
+pub fn is_told(rt: &impl Abort, alloc: Global, part: &str, new: &str, wanted: Option<PlanError>) {
+    let found = refusal_with(rt, alloc, part, new);
     is_for(rt, found, wanted, new);
-    Ok(())
 }

@@ -4,6 +4,7 @@ use super::holds;
 use super::moves::{Asked, Move, event_of, note_of};
 use super::table::Table;
 use mr_history::OpId;
+use mr_test_parts::must;
 use mr_world::World;
 use std::alloc::Global;
 use std::test::Fail;
@@ -127,10 +128,13 @@ fn both_agree(alloc: Global, dice: &mut Dice) -> Result<bool, Fail> {
 }
 
 #[test]
-fn the_world_agrees_with_the_table(rt: HostRuntime) -> Result<(), Fail> {
+fn the_world_agrees_with_the_table(rt: HostRuntime) {
     let mut dice = Dice { state: 7 };
     for _ in 0..300 {
-        holds(&rt, both_agree(rt.alloc(), &mut dice)?, "both agree");
+        holds(
+            &rt,
+            must(&rt, both_agree(rt.alloc(), &mut dice)),
+            "both agree",
+        );
     }
-    Ok(())
 }

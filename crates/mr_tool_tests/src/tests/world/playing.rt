@@ -5,10 +5,10 @@ use super::moves::{Row, first_other};
 use super::showing::{premises, verdict};
 use super::telling::{Told, says};
 use mr_history::OpId;
+use mr_test_parts::must;
 use mr_world::World;
 use std::alloc::Global;
 use std::process::Abort;
-use std::test::Fail;
 
 /// What a world shows.
 pub struct Shown {
@@ -43,16 +43,15 @@ fn sent(world: &World) -> (usize, usize) {
 }
 
 /// Asserts what the moves of a run come to, and what the world shows then.
-pub fn goes(rt: &impl Abort, alloc: Global, run: &Run) -> Result<(), Fail> {
-    goes_in(rt, alloc, &mut run.fleet.world(alloc)?, run)
+pub fn goes(rt: &impl Abort, alloc: Global, run: &Run) {
+    goes_in(rt, alloc, &mut must(rt, run.fleet.world(alloc)), run);
 }
 
 /// The same, in the world of the run's fleet.
-fn goes_in(rt: &impl Abort, alloc: Global, world: &mut World, run: &Run) -> Result<(), Fail> {
-    let other = first_other(alloc, world, run.rows)?;
+fn goes_in(rt: &impl Abort, alloc: Global, world: &mut World, run: &Run) {
+    let other = must(rt, first_other(alloc, world, run.rows));
     none_comes_to_another(rt, other);
     shows(rt, world, &run.shown);
-    Ok(())
 }
 
 /// Asserts that there is no place of a move that comes to something else.

@@ -6,10 +6,10 @@ use super::playing::{Shown, shows};
 use super::telling::{AGAIN, FIRST, OTHER_FIRST, OTHER_SECOND, SECOND, Told};
 use mr_history::Author;
 use mr_phases::Side;
+use mr_test_parts::must;
 use mr_world::World;
 use std::alloc::Global;
 use std::process::Abort;
-use std::test::Fail;
 
 /// A fleet, moves that nothing refuses, and what the world shows then.
 struct Betrayal {
@@ -20,20 +20,19 @@ struct Betrayal {
 
 /// Runs the moves, and asserts what the world shows then: its verdict is a get, and the delete that was to remove what
 /// the get hit.
-fn betrays(rt: &impl Abort, alloc: Global, betrayal: &Betrayal) -> Result<(), Fail> {
-    betrays_in(rt, alloc, &mut betrayal.fleet.world(alloc)?, betrayal)
+fn betrays(rt: &impl Abort, alloc: Global, betrayal: &Betrayal) {
+    betrays_in(
+        rt,
+        alloc,
+        &mut must(rt, betrayal.fleet.world(alloc)),
+        betrayal,
+    );
 }
 
 /// The same, in the world of its fleet.
-fn betrays_in(
-    rt: &impl Abort,
-    alloc: Global,
-    world: &mut World,
-    betrayal: &Betrayal,
-) -> Result<(), Fail> {
-    world.run(events_of(alloc, betrayal.moves)?)?;
+fn betrays_in(rt: &impl Abort, alloc: Global, world: &mut World, betrayal: &Betrayal) {
+    must(rt, world.run(must(rt, events_of(alloc, betrayal.moves))));
     shows(rt, world, &betrayal.shown);
-    Ok(())
 }
 
 /// The second proxy sets the key, the first deletes it, the second gets it.
@@ -79,8 +78,8 @@ static TWO_PLANS: Betrayal = Betrayal {
 };
 
 #[test]
-fn plans_that_differ_betray_a_delete(rt: HostRuntime) -> Result<(), Fail> {
-    betrays(&rt, rt.alloc(), &TWO_PLANS)
+fn plans_that_differ_betray_a_delete(rt: HostRuntime) {
+    betrays(&rt, rt.alloc(), &TWO_PLANS);
 }
 
 static FAR_APART: Betrayal = Betrayal {
@@ -100,8 +99,8 @@ static FAR_APART: Betrayal = Betrayal {
 };
 
 #[test]
-fn clocks_too_far_apart_betray_a_delete(rt: HostRuntime) -> Result<(), Fail> {
-    betrays(&rt, rt.alloc(), &FAR_APART)
+fn clocks_too_far_apart_betray_a_delete(rt: HostRuntime) {
+    betrays(&rt, rt.alloc(), &FAR_APART);
 }
 
 /// The proxy deletes the key from the old pool, and gets it from the new one.
@@ -137,8 +136,8 @@ static FROM_OLD_TO_NEW: Betrayal = Betrayal {
 };
 
 #[test]
-fn an_item_that_a_new_node_held_betrays_a_delete(rt: HostRuntime) -> Result<(), Fail> {
-    betrays(&rt, rt.alloc(), &FROM_OLD_TO_NEW)
+fn an_item_that_a_new_node_held_betrays_a_delete(rt: HostRuntime) {
+    betrays(&rt, rt.alloc(), &FROM_OLD_TO_NEW);
 }
 
 /// The proxy deletes the key from the new pool, and gets it from the old one: its clock goes back, and it forgets the
@@ -176,6 +175,6 @@ static FROM_NEW_TO_OLD: Betrayal = Betrayal {
 };
 
 #[test]
-fn a_clock_that_goes_back_betrays_a_delete(rt: HostRuntime) -> Result<(), Fail> {
-    betrays(&rt, rt.alloc(), &FROM_NEW_TO_OLD)
+fn a_clock_that_goes_back_betrays_a_delete(rt: HostRuntime) {
+    betrays(&rt, rt.alloc(), &FROM_NEW_TO_OLD);
 }

@@ -6,6 +6,7 @@ use super::playing::{Run, Shown, goes};
 use super::telling::{FIRST, Told, says};
 use mr_history::Author;
 use mr_proxy::ProxyError;
+use mr_test_parts::must;
 use mr_world::{Delivery, Event, Message, Note, Setup, World, WorldError};
 use std::alloc::{AllocError, Global};
 use std::process::Abort;
@@ -38,8 +39,8 @@ static NOT_THERE: Run = Run {
 };
 
 #[test]
-fn what_is_not_there_is_refused(rt: HostRuntime) -> Result<(), Fail> {
-    goes(&rt, rt.alloc(), &NOT_THERE)
+fn what_is_not_there_is_refused(rt: HostRuntime) {
+    goes(&rt, rt.alloc(), &NOT_THERE);
 }
 
 static NUMBERS: [(WorldError, u8); 6] = [
@@ -79,8 +80,8 @@ static WITHOUT_ROOM: Run = Run {
 };
 
 #[test]
-fn a_proxy_without_room_refuses(rt: HostRuntime) -> Result<(), Fail> {
-    goes(&rt, rt.alloc(), &WITHOUT_ROOM)
+fn a_proxy_without_room_refuses(rt: HostRuntime) {
+    goes(&rt, rt.alloc(), &WITHOUT_ROOM);
 }
 
 /// No proxies, and an item of the node 7004.
@@ -92,10 +93,9 @@ const STRAY: Fleet = Fleet {
 };
 
 #[test]
-fn a_setup_needs_its_nodes(rt: HostRuntime) -> Result<(), Fail> {
-    let refusal = STRAY.world_or_refusal(rt.alloc())?.err();
+fn a_setup_needs_its_nodes(rt: HostRuntime) {
+    let refusal = must(&rt, STRAY.world_or_refusal(rt.alloc())).err();
     holds(&rt, refusal == Some(WorldError::NoSuchNode), "no such node");
-    Ok(())
 }
 
 /// How many items the copy of a setup holds.
@@ -104,10 +104,9 @@ fn held_by_copy(setup: &Setup) -> Result<usize, AllocError> {
 }
 
 #[test]
-fn a_setup_is_copied(rt: HostRuntime) -> Result<(), Fail> {
-    let held = held_by_copy(&STRAY.setup(rt.alloc())?)?;
+fn a_setup_is_copied(rt: HostRuntime) {
+    let held = must(&rt, held_by_copy(&must(&rt, STRAY.setup(rt.alloc()))));
     holds(&rt, held == 1, "one item");
-    Ok(())
 }
 
 /// One proxy at 999, and nodes that hold nothing.
@@ -146,17 +145,16 @@ fn stops_so(stop: Result<(), (usize, WorldError)>) -> bool {
 }
 
 /// Asserts where a run of these events stops, and what the history says then.
-fn stops(rt: &impl Abort, alloc: Global, world: &mut World) -> Result<(), Fail> {
-    let stop = world.run(stopping_events(alloc)?);
+fn stops(rt: &impl Abort, alloc: Global, world: &mut World) {
+    let stop = world.run(must(rt, stopping_events(alloc)));
     holds(rt, stops_so(stop), "at the second event");
     let told = says(world.history(), &[Told::Deleted(FIRST, b'k')]);
     holds(rt, told, "the history");
-    Ok(())
 }
 
 #[test]
-fn a_run_stops_at_the_first_refused_event(rt: HostRuntime) -> Result<(), Fail> {
-    stops(&rt, rt.alloc(), &mut FLEET.world(rt.alloc())?)
+fn a_run_stops_at_the_first_refused_event(rt: HostRuntime) {
+    stops(&rt, rt.alloc(), &mut must(&rt, FLEET.world(rt.alloc())));
 }
 
 /// A delete whose answer is not wanted is given up.
@@ -187,8 +185,8 @@ static SILENT: Run = Run {
 };
 
 #[test]
-fn a_noreply_delete_is_not_answered(rt: HostRuntime) -> Result<(), Fail> {
-    goes(&rt, rt.alloc(), &SILENT)
+fn a_noreply_delete_is_not_answered(rt: HostRuntime) {
+    goes(&rt, rt.alloc(), &SILENT);
 }
 
 /// The node that holds the key loses it.
@@ -225,8 +223,8 @@ static FORGETS: Run = Run {
 };
 
 #[test]
-fn a_restarted_node_forgets(rt: HostRuntime) -> Result<(), Fail> {
-    goes(&rt, rt.alloc(), &FORGETS)
+fn a_restarted_node_forgets(rt: HostRuntime) {
+    goes(&rt, rt.alloc(), &FORGETS);
 }
 
 /// A get, which a node has answered.
@@ -254,25 +252,24 @@ fn copied_message(delivery: &Delivery) -> Result<usize, AllocError> {
 }
 
 /// Asserts the node of a copy of the only message, and the message of a copy of the only delivery.
-fn are_copied(rt: &impl Abort, world: &World) -> Result<(), Fail> {
+fn are_copied(rt: &impl Abort, world: &World) {
     let ([message], [delivery]) = (world.sent(), world.replies()) else {
-        return Err(Fail::from("one message and one delivery"));
+        rt.panic("one message and one delivery");
     };
-    holds(rt, copied_node(message)? == 1, "its node");
-    holds(rt, copied_message(delivery)? == 0, "its message");
-    Ok(())
+    holds(rt, must(rt, copied_node(message)) == 1, "its node");
+    holds(rt, must(rt, copied_message(delivery)) == 0, "its message");
 }
 
 /// The same, behind the get.
-fn are_copied_behind_get(rt: &impl Abort, alloc: Global, world: &mut World) -> Result<(), Fail> {
-    let other = first_other(alloc, world, &ANSWERED)?;
+fn are_copied_behind_get(rt: &impl Abort, alloc: Global, world: &mut World) {
+    let other = must(rt, first_other(alloc, world, &ANSWERED));
     holds(rt, other.is_none(), "a get that is answered");
-    are_copied(rt, world)
+    are_copied(rt, world);
 }
 
 #[test]
-fn messages_and_deliveries_are_copied(rt: HostRuntime) -> Result<(), Fail> {
-    are_copied_behind_get(&rt, rt.alloc(), &mut FLEET.world(rt.alloc())?)
+fn messages_and_deliveries_are_copied(rt: HostRuntime) {
+    are_copied_behind_get(&rt, rt.alloc(), &mut must(&rt, FLEET.world(rt.alloc())));
 }
 
 /// What becomes of a get that is issued first.
@@ -281,8 +278,7 @@ fn first_note(alloc: Global) -> Result<Result<Note, WorldError>, Fail> {
 }
 
 #[test]
-fn a_note_is_copied(rt: HostRuntime) -> Result<(), Fail> {
-    let note = first_note(rt.alloc())??;
+fn a_note_is_copied(rt: HostRuntime) {
+    let note = must(&rt, must(&rt, first_note(rt.alloc())));
     holds(&rt, note.copy() == note, "the same note");
-    Ok(())
 }

@@ -6,7 +6,6 @@ use super::telling::{AGAIN, FIRST, OTHER_FIRST, OTHER_SECOND, SECOND, THIRD, Tol
 use mr_history::Author;
 use mr_phases::Side;
 use mr_world::Note;
-use std::test::Fail;
 
 /// The second proxy sets the key, the first deletes it from both pools, the second gets it.
 static NEAR_CLOCKS: Run = Run {
@@ -69,8 +68,8 @@ static NEAR_CLOCKS: Run = Run {
 };
 
 #[test]
-fn near_clocks_keep_an_acknowledged_delete(rt: HostRuntime) -> Result<(), Fail> {
-    goes(&rt, rt.alloc(), &NEAR_CLOCKS)
+fn near_clocks_keep_an_acknowledged_delete(rt: HostRuntime) {
+    goes(&rt, rt.alloc(), &NEAR_CLOCKS);
 }
 
 /// The message of the set is delivered again behind the delete.
@@ -133,8 +132,8 @@ static DELIVERED_TWICE: Run = Run {
 };
 
 #[test]
-fn a_set_that_is_delivered_twice_is_performed_twice(rt: HostRuntime) -> Result<(), Fail> {
-    goes(&rt, rt.alloc(), &DELIVERED_TWICE)
+fn a_set_that_is_delivered_twice_is_performed_twice(rt: HostRuntime) {
+    goes(&rt, rt.alloc(), &DELIVERED_TWICE);
 }
 
 /// The replies to a delete come once its proxy has begun again.
@@ -182,8 +181,8 @@ static RESTARTED: Run = Run {
 };
 
 #[test]
-fn a_restarted_proxy_knows_no_reply(rt: HostRuntime) -> Result<(), Fail> {
-    goes(&rt, rt.alloc(), &RESTARTED)
+fn a_restarted_proxy_knows_no_reply(rt: HostRuntime) {
+    goes(&rt, rt.alloc(), &RESTARTED);
 }
 
 /// The clock goes back behind a get; the delete behind that still goes to both pools.
@@ -228,8 +227,8 @@ static GONE_BACK: Run = Run {
 };
 
 #[test]
-fn a_clock_that_goes_back_is_not_followed(rt: HostRuntime) -> Result<(), Fail> {
-    goes(&rt, rt.alloc(), &GONE_BACK)
+fn a_clock_that_goes_back_is_not_followed(rt: HostRuntime) {
+    goes(&rt, rt.alloc(), &GONE_BACK);
 }
 
 /// The get is issued first; the delete, which one new node performs, is answered before it.
@@ -279,8 +278,8 @@ static EARLIER_GET: Run = Run {
 };
 
 #[test]
-fn a_get_that_was_issued_earlier_may_hit(rt: HostRuntime) -> Result<(), Fail> {
-    goes(&rt, rt.alloc(), &EARLIER_GET)
+fn a_get_that_was_issued_earlier_may_hit(rt: HostRuntime) {
+    goes(&rt, rt.alloc(), &EARLIER_GET);
 }
 
 /// The new pool performs the delete; its leg to the old one is lost, and it is given up. Then a get goes to the old one.
@@ -330,6 +329,6 @@ static GIVEN_UP: Run = Run {
 };
 
 #[test]
-fn a_delete_that_was_given_up_binds_nobody(rt: HostRuntime) -> Result<(), Fail> {
-    goes(&rt, rt.alloc(), &GIVEN_UP)
+fn a_delete_that_was_given_up_binds_nobody(rt: HostRuntime) {
+    goes(&rt, rt.alloc(), &GIVEN_UP);
 }

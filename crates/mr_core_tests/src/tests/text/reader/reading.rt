@@ -1,9 +1,8 @@
 //! Asserts what the readers answer to a text.
 use super::are_answers;
-use mr_test_parts::{Texts, answers_in_two, first_cell};
+use mr_test_parts::{Texts, answers_in_two, first_cell, must};
 use std::alloc::Global;
 use std::process::Abort;
-use std::test::Fail;
 
 /// Asserts what a reader answers to a text in two pieces.
 pub(super) fn gives_in_two(
@@ -12,21 +11,14 @@ pub(super) fn gives_in_two(
     texts: Texts,
     pieces: (&[u8], &[u8]),
     wanted: &[u8],
-) -> Result<(), Fail> {
-    let answers = answers_in_two(alloc, texts, pieces, false)?;
+) {
+    let answers = must(rt, answers_in_two(alloc, texts, pieces, false));
     are_answers(rt, &answers, wanted, pieces);
-    Ok(())
 }
 
 /// Asserts what a reader answers to a text.
-pub(super) fn gives(
-    rt: &impl Abort,
-    alloc: Global,
-    texts: Texts,
-    text: &[u8],
-    wanted: &[u8],
-) -> Result<(), Fail> {
-    gives_in_two(rt, alloc, texts, (text, b""), wanted)
+pub(super) fn gives(rt: &impl Abort, alloc: Global, texts: Texts, text: &[u8], wanted: &[u8]) {
+    gives_in_two(rt, alloc, texts, (text, b""), wanted);
 }
 
 /// Asserts what a reader answers to a text in two pieces and then the end of the input.
@@ -36,10 +28,9 @@ pub(super) fn gives_in_two_at_end(
     texts: Texts,
     pieces: (&[u8], &[u8]),
     wanted: &[u8],
-) -> Result<(), Fail> {
-    let answers = answers_in_two(alloc, texts, pieces, true)?;
+) {
+    let answers = must(rt, answers_in_two(alloc, texts, pieces, true));
     are_answers(rt, &answers, wanted, pieces);
-    Ok(())
 }
 
 /// Asserts what a reader answers to a text and then the end of the input.
@@ -49,28 +40,22 @@ pub(super) fn gives_at_end(
     texts: Texts,
     text: &[u8],
     wanted: &[u8],
-) -> Result<(), Fail> {
-    gives_in_two_at_end(rt, alloc, texts, (text, b""), wanted)
+) {
+    gives_in_two_at_end(rt, alloc, texts, (text, b""), wanted);
 }
 
 /// Asserts a table of texts and answers, with a `|` behind each.
-pub(super) fn gives_all(
-    rt: &impl Abort,
-    alloc: Global,
-    texts: Texts,
-    table: &[u8],
-) -> Result<(), Fail> {
+pub(super) fn gives_all(rt: &impl Abort, alloc: Global, texts: Texts, table: &[u8]) {
     let mut rest = table;
     for _ in 0..table.len() {
         let (text, behind) = first_cell(rest);
         let (wanted, behind) = first_cell(behind);
-        gives(rt, alloc, texts, text, wanted)?;
+        gives(rt, alloc, texts, text, wanted);
         rest = behind;
         if rest.is_empty() {
             break;
         }
     }
-    Ok(())
 }
 
 /// Asserts what a reader answers to a text in any two pieces, and that the text cut anywhere is truncated.
@@ -80,12 +65,11 @@ pub(super) fn gives_in_any_two(
     texts: Texts,
     text: &[u8],
     wanted: &[u8],
-) -> Result<(), Fail> {
-    gives(rt, alloc, texts, text, wanted)?;
+) {
+    gives(rt, alloc, texts, text, wanted);
     for place in 1..text.len() {
         let pieces = text.split_at(place);
-        gives_in_two(rt, alloc, texts, pieces, wanted)?;
-        gives_at_end(rt, alloc, texts, pieces.0, b"<8><9>")?;
+        gives_in_two(rt, alloc, texts, pieces, wanted);
+        gives_at_end(rt, alloc, texts, pieces.0, b"<8><9>");
     }
-    Ok(())
 }

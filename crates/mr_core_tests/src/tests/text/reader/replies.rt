@@ -1,19 +1,19 @@
 //! Which replies lines and blocks say, and how others are refused.
 use super::reading::{gives_all, gives_at_end, gives_in_any_two};
 use super::{are, count_is, reading};
-use mr_test_parts::{Texts, add_repeated, answers_in_two};
+use mr_test_parts::{Texts, add_repeated, answers_in_two, must};
 use mr_text::{Cause, Reply, ReplyReader};
 use std::alloc::Global;
 use std::process::Abort;
 use std::test::Fail;
 
 /// Asserts what a reader answers to a text.
-fn gives(rt: &impl Abort, alloc: Global, text: &[u8], wanted: &[u8]) -> Result<(), Fail> {
-    reading::gives(rt, alloc, Texts::Replies, text, wanted)
+fn gives(rt: &impl Abort, alloc: Global, text: &[u8], wanted: &[u8]) {
+    reading::gives(rt, alloc, Texts::Replies, text, wanted);
 }
 
 #[test]
-fn lines_say_replies(rt: HostRuntime) -> Result<(), Fail> {
+fn lines_say_replies(rt: HostRuntime) {
     let table = b"STORED\r\n|STORED\r\n;|\
         DELETED\r\n|DELETED\r\n;|\
         NOT_FOUND\n|NOT_FOUND\r\n;|\
@@ -28,20 +28,20 @@ fn lines_say_replies(rt: HostRuntime) -> Result<(), Fail> {
         SERVER_ERROR\r\n|SERVER_ERROR \r\n;|\
         CLIENT_ERROR \r\n|CLIENT_ERROR \r\n;|\
         SERVER_ERROR a\r\r\n|SERVER_ERROR a\r\r\n;|";
-    gives_all(&rt, rt.alloc(), Texts::Replies, table)
+    gives_all(&rt, rt.alloc(), Texts::Replies, table);
 }
 
 #[test]
-fn items_come_before_the_end(rt: HostRuntime) -> Result<(), Fail> {
+fn items_come_before_the_end(rt: HostRuntime) {
     let table = b"VALUE k 0 1\r\nv\r\nEND\r\n|VALUE k 0 1\r\nv\r\nEND\r\n;|\
         VALUE k 007 04\na\r\nb\r\nVALUE k 1 0\r\n\r\n END \nEND\n|VALUE k 7 4\r\na\r\nb\r\nVALUE k 1 0\r\n\r\nEND\r\nEND\r\n;|\
         VALUE k 4294967295 1\r\nv\r\nEND\r\n|VALUE k 4294967295 1\r\nv\r\nEND\r\n;|\
         VALUE k 0 5\r\nEND\r\n\r\n|;|";
-    gives_all(&rt, rt.alloc(), Texts::Replies, table)
+    gives_all(&rt, rt.alloc(), Texts::Replies, table);
 }
 
 #[test]
-fn other_lines_are_refused_in_order(rt: HostRuntime) -> Result<(), Fail> {
+fn other_lines_are_refused_in_order(rt: HostRuntime) {
     let table = b"\r\nSTORED\r\n|<7 closes><9>|\
         stored\r\n|<7 closes><9>|\
         HELLO 1\r\n|<7 closes><9>|\
@@ -68,7 +68,7 @@ fn other_lines_are_refused_in_order(rt: HostRuntime) -> Result<(), Fail> {
         VALUE k 0 1\r\nv\r\nHELLO\r\n|<4><9>|\
         VALUE k 0 1\r\nv\r\nSERVER_ERROR busy\r\n|<4><9>|\
         VALUE k 0 1\r\nv\r\nEND x\r\n|<4><9>|";
-    gives_all(&rt, rt.alloc(), Texts::Replies, table)
+    gives_all(&rt, rt.alloc(), Texts::Replies, table);
 }
 
 /// A word for some causes.
@@ -91,33 +91,30 @@ fn error_words(reply: Option<Reply>) -> (&'static [u8], &'static [u8]) {
 }
 
 /// Asserts which error the reader gives next.
-fn gives_error(
-    rt: &impl Abort,
-    reader: &mut ReplyReader,
-    error: &[u8],
-    cause: &[u8],
-) -> Result<(), Fail> {
-    let (error_word, cause_word) = error_words(reader.next()?);
+fn gives_error(rt: &impl Abort, reader: &mut ReplyReader, error: &[u8], cause: &[u8]) {
+    let (error_word, cause_word) = error_words(must(rt, reader.next()));
     are(rt, error_word, error);
     are(rt, cause_word, cause);
-    Ok(())
 }
 
 /// Asserts the four errors that a reader gives.
-fn gives_errors(rt: &impl Abort, reader: &mut ReplyReader) -> Result<(), Fail> {
-    gives_error(rt, reader, b"ClientError", b"BadKey")?;
-    gives_error(rt, reader, b"ServerError", b"BadKey")?;
-    gives_error(rt, reader, b"ClientError", b"Busy")?;
-    gives_error(rt, reader, b"ServerError", b"Other")
+fn gives_errors(rt: &impl Abort, reader: &mut ReplyReader) {
+    gives_error(rt, reader, b"ClientError", b"BadKey");
+    gives_error(rt, reader, b"ServerError", b"BadKey");
+    gives_error(rt, reader, b"ClientError", b"Busy");
+    gives_error(rt, reader, b"ServerError", b"Other");
 }
 
 #[test]
-fn named_texts_are_causes(rt: HostRuntime) -> Result<(), Fail> {
+fn named_texts_are_causes(rt: HostRuntime) {
     let mut reader = ReplyReader::new(rt.alloc());
-    reader.feed(
-        b"CLIENT_ERROR bad key\nSERVER_ERROR bad key\nCLIENT_ERROR busy\nSERVER_ERROR later\n",
-    )?;
-    gives_errors(&rt, &mut reader)
+    must(
+        &rt,
+        reader.feed(
+            b"CLIENT_ERROR bad key\nSERVER_ERROR bad key\nCLIENT_ERROR busy\nSERVER_ERROR later\n",
+        ),
+    );
+    gives_errors(&rt, &mut reader);
 }
 
 /// An error with so many bytes of text.
@@ -129,31 +126,32 @@ fn error_line(alloc: Global, count: usize, end: &[u8]) -> Result<Vec<u8>, Fail> 
 }
 
 /// Asserts how many bytes the answers to a text are shown in.
-fn gives_bytes(rt: &impl Abort, alloc: Global, text: &[u8], count: usize) -> Result<(), Fail> {
-    let answers = answers_in_two(alloc, Texts::Replies, (text, b""), false)?;
+fn gives_bytes(rt: &impl Abort, alloc: Global, text: &[u8], count: usize) {
+    let answers = must(
+        rt,
+        answers_in_two(alloc, Texts::Replies, (text, b""), false),
+    );
     count_is(rt, answers.len(), count);
-    Ok(())
 }
 
 /// Asserts what a reader answers to an error with so many bytes of text.
-fn gives_text(
-    rt: &impl Abort,
-    alloc: Global,
-    count: usize,
-    end: &[u8],
-    wanted: &[u8],
-) -> Result<(), Fail> {
-    let line = error_line(alloc, count, end)?;
-    gives(rt, alloc, &line, wanted)
+fn gives_text(rt: &impl Abort, alloc: Global, count: usize, end: &[u8], wanted: &[u8]) {
+    let line = must(rt, error_line(alloc, count, end));
+    gives(rt, alloc, &line, wanted);
 }
 
 #[test]
-fn error_text_has_8179_bytes(rt: HostRuntime) -> Result<(), Fail> {
+fn error_text_has_8179_bytes(rt: HostRuntime) {
     let alloc = rt.alloc();
-    gives_bytes(&rt, alloc, &error_line(alloc, 8179, b"\r\n")?, 8195)?;
-    gives_text(&rt, alloc, 8180, b"\n", b"<1><9>")?;
-    gives_text(&rt, alloc, 8180, b"", b";")?;
-    gives_text(&rt, alloc, 8181, b"", b"<1><9>")
+    gives_bytes(
+        &rt,
+        alloc,
+        &must(&rt, error_line(alloc, 8179, b"\r\n")),
+        8195,
+    );
+    gives_text(&rt, alloc, 8180, b"\n", b"<1><9>");
+    gives_text(&rt, alloc, 8180, b"", b";");
+    gives_text(&rt, alloc, 8181, b"", b"<1><9>");
 }
 
 /// 4,094 items, and then a text.
@@ -167,31 +165,26 @@ fn items_and(alloc: Global, last: &[u8]) -> Result<Vec<u8>, Fail> {
 }
 
 /// Asserts what a reader answers to 4,094 items and then a text.
-fn gives_behind_items(
-    rt: &impl Abort,
-    alloc: Global,
-    last: &[u8],
-    wanted: &[u8],
-) -> Result<(), Fail> {
-    let text = items_and(alloc, last)?;
-    gives(rt, alloc, &text, wanted)
+fn gives_behind_items(rt: &impl Abort, alloc: Global, last: &[u8], wanted: &[u8]) {
+    let text = must(rt, items_and(alloc, last));
+    gives(rt, alloc, &text, wanted);
 }
 
 #[test]
-fn reply_has_4094_items(rt: HostRuntime) -> Result<(), Fail> {
+fn reply_has_4094_items(rt: HostRuntime) {
     let alloc = rt.alloc();
     // Each item is written in 15 bytes, and a `;` follows where the reader waits.
-    gives_bytes(&rt, alloc, &items_and(alloc, b"END\r\n")?, 61_416)?;
-    gives_behind_items(&rt, alloc, b"VALUE k 0 0\r\n", b"<4><9>")?;
-    gives_behind_items(&rt, alloc, b"VALUE \x01 x y\r\n", b"<4><9>")?;
-    gives_behind_items(&rt, alloc, b"VALUE k 0 0", b";")
+    gives_bytes(&rt, alloc, &must(&rt, items_and(alloc, b"END\r\n")), 61_416);
+    gives_behind_items(&rt, alloc, b"VALUE k 0 0\r\n", b"<4><9>");
+    gives_behind_items(&rt, alloc, b"VALUE \x01 x y\r\n", b"<4><9>");
+    gives_behind_items(&rt, alloc, b"VALUE k 0 0", b";");
 }
 
 #[test]
-fn item_is_read_in_any_pieces(rt: HostRuntime) -> Result<(), Fail> {
+fn item_is_read_in_any_pieces(rt: HostRuntime) {
     let alloc = rt.alloc();
     let text = b"VALUE k 5 4\r\na\r\nb\r\nEND\r\n";
     let wanted = b"VALUE k 5 4\r\na\r\nb\r\nEND\r\n;";
-    gives_in_any_two(&rt, alloc, Texts::Replies, text, wanted)?;
-    gives_at_end(&rt, alloc, Texts::Replies, b"", b";")
+    gives_in_any_two(&rt, alloc, Texts::Replies, text, wanted);
+    gives_at_end(&rt, alloc, Texts::Replies, b"", b";");
 }

@@ -1,7 +1,7 @@
 //! Requests in any pieces, the end of the input, and closed readers.
 use super::reading::{gives_at_end, gives_in_any_two, gives_in_two};
 use super::{are, count_is, holds, is_refused};
-use mr_test_parts::{Reader, Texts, add_answers};
+use mr_test_parts::{Reader, Texts, add_answers, must};
 use mr_text::{Request, RequestReader, TextError};
 use std::alloc::Global;
 use std::process::Abort;
@@ -11,47 +11,40 @@ use std::test::Fail;
 const SET: &[u8] = b"set k 5 0 4\r\na\r\nb\r\n";
 
 #[test]
-fn set_is_read_in_any_two_pieces(rt: HostRuntime) -> Result<(), Fail> {
+fn set_is_read_in_any_two_pieces(rt: HostRuntime) {
     count_is(&rt, SET.len(), 19);
     let wanted = b"set k 5 0 4\r\na\r\nb\r\n;";
-    gives_in_any_two(&rt, rt.alloc(), Texts::Requests, SET, wanted)
+    gives_in_any_two(&rt, rt.alloc(), Texts::Requests, SET, wanted);
 }
 
 /// Feeds a set byte by byte, and adds the answers.
-fn feed_bytes(
-    rt: &impl Abort,
-    alloc: Global,
-    reader: &mut Reader,
-    answers: &mut Vec<u8>,
-) -> Result<(), Fail> {
+fn feed_bytes(rt: &impl Abort, alloc: Global, reader: &mut Reader, answers: &mut Vec<u8>) {
     for byte in SET {
-        reader.feed(&[*byte])?;
-        holds(rt, add_answers(alloc, reader, answers)?);
+        must(rt, reader.feed(&[*byte]));
+        holds(rt, must(rt, add_answers(alloc, reader, answers)));
     }
-    Ok(())
 }
 
 #[test]
-fn set_is_read_byte_by_byte(rt: HostRuntime) -> Result<(), Fail> {
+fn set_is_read_byte_by_byte(rt: HostRuntime) {
     let mut reader = Reader::new(rt.alloc(), Texts::Requests);
     let mut answers = Vec::new(rt.alloc());
-    feed_bytes(&rt, rt.alloc(), &mut reader, &mut answers)?;
+    feed_bytes(&rt, rt.alloc(), &mut reader, &mut answers);
     are(&rt, &answers, SET);
-    Ok(())
 }
 
 #[test]
-fn cut_set_is_truncated(rt: HostRuntime) -> Result<(), Fail> {
+fn cut_set_is_truncated(rt: HostRuntime) {
     let alloc = rt.alloc();
-    gives_at_end(&rt, alloc, Texts::Requests, b"", b";")?;
+    gives_at_end(&rt, alloc, Texts::Requests, b"", b";");
     for place in 1..SET.len() {
         let (front, _) = SET.split_at(place);
-        gives_at_end(&rt, alloc, Texts::Requests, front, b"<8><9>")?;
+        gives_at_end(&rt, alloc, Texts::Requests, front, b"<8><9>");
     }
     let cut = b"set k 0 0 3\r\nab";
-    gives_at_end(&rt, alloc, Texts::Requests, cut, b"<8><9>")?;
+    gives_at_end(&rt, alloc, Texts::Requests, cut, b"<8><9>");
     let pieces = (b"set k 0 0 1\r\nv\r".as_slice(), b"X".as_slice());
-    gives_in_two(&rt, alloc, Texts::Requests, pieces, b"<6><9>")
+    gives_in_two(&rt, alloc, Texts::Requests, pieces, b"<6><9>");
 }
 
 /// Asserts that a reader takes and gives nothing more.
@@ -68,56 +61,48 @@ fn quits(reader: &mut RequestReader) -> Result<bool, Fail> {
 }
 
 #[test]
-fn quit_closes(rt: HostRuntime) -> Result<(), Fail> {
+fn quit_closes(rt: HostRuntime) {
     let mut reader = RequestReader::new(rt.alloc());
-    reader.feed(b"quit\r\nget k\r\n")?;
-    holds(&rt, quits(&mut reader)?);
+    must(&rt, reader.feed(b"quit\r\nget k\r\n"));
+    holds(&rt, must(&rt, quits(&mut reader)));
     is_closed(&rt, &mut reader);
-    Ok(())
 }
 
 #[test]
-fn refusal_closes(rt: HostRuntime) -> Result<(), Fail> {
+fn refusal_closes(rt: HostRuntime) {
     let mut reader = RequestReader::new(rt.alloc());
     for _ in 0..1000 {
-        reader.feed(b"xxxxxxxxxx")?;
+        must(&rt, reader.feed(b"xxxxxxxxxx"));
     }
     reader.end();
     is_refused(&rt, reader.next().err(), TextError::LineTooLong);
     is_closed(&rt, &mut reader);
-    Ok(())
 }
 
 /// A reader of an ended input, which refused what came behind its end.
-fn ended_reader(rt: &impl Abort, alloc: Global) -> Result<RequestReader, Fail> {
+fn ended_reader(rt: &impl Abort, alloc: Global) -> RequestReader {
     let mut reader = RequestReader::new(alloc);
     for piece in [b"get a\r\n".as_slice(), b"", b"\r\nget b\r\nge"] {
-        reader.feed(piece)?;
+        must(rt, reader.feed(piece));
     }
     reader.end();
     is_refused(rt, reader.feed(b"t c\r\n").err(), TextError::Closed);
-    Ok(reader)
+    reader
 }
 
 /// Asserts the answers of a reader that is closed then.
-fn gives_and_closes(
-    rt: &impl Abort,
-    alloc: Global,
-    reader: &mut Reader,
-    wanted: &[u8],
-) -> Result<(), Fail> {
+fn gives_and_closes(rt: &impl Abort, alloc: Global, reader: &mut Reader, wanted: &[u8]) {
     let mut answers = Vec::new(alloc);
-    holds(rt, !add_answers(alloc, reader, &mut answers)?);
+    holds(rt, !must(rt, add_answers(alloc, reader, &mut answers)));
     are(rt, &answers, wanted);
     if let Reader::OfRequests(reader) = reader {
         is_closed(rt, reader);
     }
-    Ok(())
 }
 
 #[test]
-fn ended_reader_goes_on_reading(rt: HostRuntime) -> Result<(), Fail> {
-    let mut reader = Reader::OfRequests(ended_reader(&rt, rt.alloc())?);
+fn ended_reader_goes_on_reading(rt: HostRuntime) {
+    let mut reader = Reader::OfRequests(ended_reader(&rt, rt.alloc()));
     let wanted = b"get a\r\n<7>get b\r\n<8><9>";
-    gives_and_closes(&rt, rt.alloc(), &mut reader, wanted)
+    gives_and_closes(&rt, rt.alloc(), &mut reader, wanted);
 }

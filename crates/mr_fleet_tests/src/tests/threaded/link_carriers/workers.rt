@@ -4,13 +4,13 @@ use crate::tests::threaded::holds;
 use mr_join::LegReply;
 use mr_link_carriers::{LinkCarriers, carry_loads};
 use mr_proxy::{Leg, LegSheet};
+use mr_test_parts::must;
 use mr_text::Cause;
 use mr_workers::{Carried, Carriers, Gate};
 use std::alloc::Global;
 use std::process::Abort;
 use std::sync::Wait;
 use std::sync::atomic::{AtomicU64, Ordering};
-use std::test::Fail;
 use std::thread;
 use std::thread::Threads;
 
@@ -31,23 +31,20 @@ fn is_from_other(carried: Option<Carried<Refuses>>) -> bool {
 }
 
 #[test]
-fn replies_come_in_the_order_of_their_legs(rt: HostRuntime) -> Result<(), Fail> {
+fn replies_come_in_the_order_of_their_legs(rt: HostRuntime) {
     let alloc = rt.alloc();
-    let (to_old, at_old) = link(alloc)?;
-    let (to_new, at_new) = link(alloc)?;
-    let mut carriers = LinkCarriers::new(&rt, alloc, links(alloc, to_old, to_new)?);
-    for leg in legs_of(&rt, alloc)? {
+    let (to_old, at_old) = must(&rt, link(alloc));
+    let (to_new, at_new) = must(&rt, link(alloc));
+    let mut carriers = LinkCarriers::new(&rt, alloc, must(&rt, links(alloc, to_old, to_new)));
+    for leg in must(&rt, legs_of(&rt, alloc)) {
         holds(&rt, carriers.send(leg).is_none());
     }
     // the later leg is carried first
-    at_new
-        .recv(&rt)?
-        .carry(&rt, &mut Refuses { is_full: false });
-    at_old.recv(&rt)?.carry(&rt, &mut Refuses { is_full: true });
+    must(&rt, at_new.recv(&rt)).carry(&rt, &mut Refuses { is_full: false });
+    must(&rt, at_old.recv(&rt)).carry(&rt, &mut Refuses { is_full: true });
     holds(&rt, is_from_full(carriers.receive()));
     holds(&rt, is_from_other(carriers.receive()));
     holds(&rt, carriers.receive().is_none());
-    Ok(())
 }
 
 /// A gate that counts how often it is called.
@@ -68,11 +65,11 @@ fn play<G: Gate + Sync, R: Threads + Wait + Abort + Sync>(
     alloc: Global,
     requests: Vec<Vec<Leg>>,
     gate: &G,
-) -> Result<(), Fail> {
-    let (to_old, at_old) = link(alloc)?;
-    let (to_new, at_new) = link(alloc)?;
-    let first = links(alloc, to_old, to_new)?;
-    let copied = first.copy(alloc)?;
+) {
+    let (to_old, at_old) = must(rt, link(alloc));
+    let (to_new, at_new) = must(rt, link(alloc));
+    let first = must(rt, links(alloc, to_old, to_new));
+    let copied = must(rt, first.copy(alloc));
     drop(first);
     thread::scope(thread::scope_env(), rt, move |scope| {
         let full = scope.spawn(move || carry_loads(rt, Refuses { is_full: true }, at_old, gate));
@@ -89,19 +86,17 @@ fn play<G: Gate + Sync, R: Threads + Wait + Abort + Sync>(
             holds(rt, carriers.receive().is_none());
         }
     });
-    Ok(())
 }
 
 #[test]
-fn threads_carry_each_leg_once_and_end_with_their_links(rt: HostRuntime) -> Result<(), Fail> {
+fn threads_carry_each_leg_once_and_end_with_their_links(rt: HostRuntime) {
     let alloc = rt.alloc();
     let mut requests = Vec::new(alloc);
-    requests.push(legs_of(&rt, alloc)?)?;
-    requests.push(legs_of(&rt, alloc)?)?;
+    must(&rt, requests.push(must(&rt, legs_of(&rt, alloc))));
+    must(&rt, requests.push(must(&rt, legs_of(&rt, alloc))));
     let gate = Counting {
         calls: AtomicU64::new(0),
     };
-    play(&rt, alloc, requests, &gate)?;
+    play(&rt, alloc, requests, &gate);
     holds(&rt, gate.calls.load(Ordering::SeqCst) == 4);
-    Ok(())
 }

@@ -6,6 +6,7 @@ use crate::tests::threaded::{carriers, get_of, holds, make_nodes, recorded};
 use mr_clock::{Clock, FixedClock};
 use mr_history::OpId;
 use mr_proxy::{Answer, Issued, Taken};
+use mr_test_parts::must;
 use mr_text::Request;
 use mr_workers::{Carried, Carrier, Carriers, Desk, DeskError, RecordedProxy, Share, WorkerError};
 use std::alloc::{AllocError, Global};
@@ -107,18 +108,19 @@ fn serve_torn<R: Wait>(
 }
 
 #[test]
-fn a_request_that_is_not_under_way_differs(rt: HostRuntime) -> Result<(), Fail> {
-    let left = serve_torn(&rt, rt.alloc(), &[], b"get k\r\nget k\r\n")?;
+fn a_request_that_is_not_under_way_differs(rt: HostRuntime) {
+    let left = must(&rt, serve_torn(&rt, rt.alloc(), &[], b"get k\r\nget k\r\n"));
     differs(&rt, &left, b"", 0);
-    Ok(())
 }
 
 /// At the other proxy a get of another key has the request's name.
 #[test]
-fn the_answer_of_another_request_that_is_given_up_differs(rt: HostRuntime) -> Result<(), Fail> {
-    let left = serve_torn(&rt, rt.alloc(), &[&[b"b"]], b"get k\r\nget k\r\n")?;
+fn the_answer_of_another_request_that_is_given_up_differs(rt: HostRuntime) {
+    let left = must(
+        &rt,
+        serve_torn(&rt, rt.alloc(), &[&[b"b"]], b"get k\r\nget k\r\n"),
+    );
     differs(&rt, &left, b"", 0);
-    Ok(())
 }
 
 /// Carries the last leg of what was issued, and hands what came back to the proxy, which awaits another leg.
@@ -127,73 +129,75 @@ fn take_last<C: Carrier, L: Carriers<C>, R: Wait + Abort>(
     proxy: &RecordedProxy<C>,
     carriers: &mut L,
     mut issued: Issued,
-) -> Result<(), Fail> {
+) {
     let Some(leg) = issued.legs.pop() else {
-        return Err(Fail::from("no leg"));
+        rt.panic("no leg");
     };
     holds(rt, carriers.send(leg).is_none());
     let Some(mut carried) = carriers.receive() else {
-        return Err(Fail::from("no leg came back"));
+        rt.panic("no leg came back");
     };
-    let taken = proxy.take(rt, &mut carried)?;
+    let taken = must(rt, proxy.take(rt, &mut carried));
     holds(rt, matches!(taken, Taken::Waiting));
-    Ok(())
 }
 
 /// At the other proxy a get of two keys has the request's name. One of its legs is the request's own, and it is the last one.
 #[test]
-fn the_answer_of_another_request_that_is_taken_differs(rt: HostRuntime) -> Result<(), Fail> {
+fn the_answer_of_another_request_that_is_taken_differs(rt: HostRuntime) {
     let alloc = rt.alloc();
-    let nodes = make_nodes(alloc, 3)?;
-    let mut carriers = carriers(&rt, alloc, 999, &[&nodes.old, &nodes.new])?;
-    let desk = two_proxies(alloc)?;
-    let issued = issue(&rt, alloc, &desk.takes, &[b"k", b"b"])?;
-    take_last(&rt, &desk.takes, &mut carriers, issued)?;
-    let left = serve(
+    let nodes = must(&rt, make_nodes(alloc, 3));
+    let mut carriers = must(&rt, carriers(&rt, alloc, 999, &[&nodes.old, &nodes.new]));
+    let desk = must(&rt, two_proxies(alloc));
+    let issued = must(&rt, issue(&rt, alloc, &desk.takes, &[b"k", b"b"]));
+    take_last(&rt, &desk.takes, &mut carriers, issued);
+    let left = must(
         &rt,
-        alloc,
-        &desk,
-        &mut FixedClock(999),
-        &mut carriers,
-        b"get k\r\nget k\r\n",
-        WHOLE,
-    )?;
+        serve(
+            &rt,
+            alloc,
+            &desk,
+            &mut FixedClock(999),
+            &mut carriers,
+            b"get k\r\nget k\r\n",
+            WHOLE,
+        ),
+    );
     differs(&rt, &left, b"", 0);
-    Ok(())
 }
 
 /// A leg that was sent before the session began comes back in it, and answers its own request, which isn't the session's.
 #[test]
-fn the_answer_of_a_leg_that_the_session_did_not_send_differs(rt: HostRuntime) -> Result<(), Fail> {
+fn the_answer_of_a_leg_that_the_session_did_not_send_differs(rt: HostRuntime) {
     let alloc = rt.alloc();
-    let nodes = make_nodes(alloc, 3)?;
-    let mut carriers = carriers(&rt, alloc, 999, &[&nodes.old, &nodes.new])?;
-    let desk = recorded(alloc, &NEW, 20)?;
-    for leg in issue(&rt, alloc, &desk, &[b"k"])?.legs {
+    let nodes = must(&rt, make_nodes(alloc, 3));
+    let mut carriers = must(&rt, carriers(&rt, alloc, 999, &[&nodes.old, &nodes.new]));
+    let desk = must(&rt, recorded(alloc, &NEW, 20));
+    for leg in must(&rt, issue(&rt, alloc, &desk, &[b"k"])).legs {
         holds(&rt, carriers.send(leg).is_none());
     }
-    let left = serve(
+    let left = must(
         &rt,
-        alloc,
-        &desk,
-        &mut FixedClock(999),
-        &mut carriers,
-        b"get k\r\nget k\r\n",
-        WHOLE,
-    )?;
+        serve(
+            &rt,
+            alloc,
+            &desk,
+            &mut FixedClock(999),
+            &mut carriers,
+            b"get k\r\nget k\r\n",
+            WHOLE,
+        ),
+    );
     differs(&rt, &left, b"", 0);
-    Ok(())
 }
 
 /// What was answered before stays told and kept.
 #[test]
-fn what_was_answered_before_is_kept(rt: HostRuntime) -> Result<(), Fail> {
+fn what_was_answered_before_is_kept(rt: HostRuntime) {
     let input = b"get k\r\nset k 0 0 1 noreply\r\nv\r\nget k\r\n";
-    let left = serve_torn(&rt, rt.alloc(), &[&[b"k"]], input)?;
+    let left = must(&rt, serve_torn(&rt, rt.alloc(), &[&[b"k"]], input));
     differs(&rt, &left, b"END\r\n", 1);
     holds(
         &rt,
         left.served.answers.iter().all(|answer| !answer.given_up()),
     );
-    Ok(())
 }

@@ -2,11 +2,11 @@
 use super::{WHOLE, is_row, serve_recorded, went_so};
 use crate::tests::threaded::devices::Given;
 use mr_clock::FixedClock;
+use mr_test_parts::must;
 use mr_workers::WorkerError;
 use std::alloc::Global;
 use std::process::Abort;
 use std::sync::Wait;
-use std::test::Fail;
 
 /// Two sets, the second without an answer, a line that is no request, and a get.
 const CLIENT: &[u8] =
@@ -23,13 +23,13 @@ fn fails_so(
     fault: WorkerError,
     failed: Failed,
     reads: u64,
-) -> Result<(), Fail> {
+) {
     let (written, issued) = failed;
     is_row(
         rt,
         alloc,
         &(CLIENT, given, Err(fault), written, issued, reads),
-    )
+    );
 }
 
 /// Where the first read fails, the second, and so on.
@@ -42,7 +42,7 @@ const READS: [Failed; 4] = [
 
 /// The read that fails doesn't come to the device.
 #[test]
-fn a_failed_read_ends_the_session(rt: HostRuntime) -> Result<(), Fail> {
+fn a_failed_read_ends_the_session(rt: HostRuntime) {
     let mut reads = 0_u64;
     for failed in &READS {
         let given = Given {
@@ -57,10 +57,9 @@ fn a_failed_read_ends_the_session(rt: HostRuntime) -> Result<(), Fail> {
             WorkerError::ReadFault,
             *failed,
             reads,
-        )?;
+        );
         reads = reads.wrapping_add(1);
     }
-    Ok(())
 }
 
 /// Where the first write fails, the second, and so on.
@@ -68,7 +67,7 @@ const WRITES: [Failed; 3] = [(b"", 1), (b"STORED\r\n", 2), (b"STORED\r\nERROR\r\
 
 /// A request whose answer can't be written was issued, and its answer is kept. Nothing is read or issued behind it.
 #[test]
-fn a_failed_write_ends_the_session(rt: HostRuntime) -> Result<(), Fail> {
+fn a_failed_write_ends_the_session(rt: HostRuntime) {
     let mut call = 0_u64;
     for failed in &WRITES {
         call = call.wrapping_add(1);
@@ -76,9 +75,8 @@ fn a_failed_write_ends_the_session(rt: HostRuntime) -> Result<(), Fail> {
             write_fails: call,
             ..WHOLE
         };
-        fails_so(&rt, rt.alloc(), given, WorkerError::WriteFault, *failed, 1)?;
+        fails_so(&rt, rt.alloc(), given, WorkerError::WriteFault, *failed, 1);
     }
-    Ok(())
 }
 
 /// Where the first write takes half of its piece, the second, and so on.
@@ -89,7 +87,7 @@ const HALVES: [Failed; 3] = [
 ];
 
 #[test]
-fn a_beginning_of_an_answer_may_be_written(rt: HostRuntime) -> Result<(), Fail> {
+fn a_beginning_of_an_answer_may_be_written(rt: HostRuntime) {
     let mut call = 0_usize;
     for failed in &HALVES {
         call = call.wrapping_add(1);
@@ -97,20 +95,21 @@ fn a_beginning_of_an_answer_may_be_written(rt: HostRuntime) -> Result<(), Fail> 
             half_at: call,
             ..WHOLE
         };
-        fails_so(&rt, rt.alloc(), given, WorkerError::WriteFault, *failed, 1)?;
+        fails_so(&rt, rt.alloc(), given, WorkerError::WriteFault, *failed, 1);
     }
-    Ok(())
 }
 
 /// The client isn't told why its issue was refused either.
 #[test]
-fn the_answer_to_a_refused_issue_may_not_be_written(rt: HostRuntime) -> Result<(), Fail> {
+fn the_answer_to_a_refused_issue_may_not_be_written(rt: HostRuntime) {
     let given = Given {
         write_fails: 1,
         ..WHOLE
     };
     let input = b"get k\r\nget k\r\n";
-    let left = serve_recorded(&rt, rt.alloc(), 0, &mut FixedClock(999), input, given)?;
+    let left = must(
+        &rt,
+        serve_recorded(&rt, rt.alloc(), 0, &mut FixedClock(999), input, given),
+    );
     went_so(&rt, &left, Err(WorkerError::WriteFault), b"", 0);
-    Ok(())
 }

@@ -6,9 +6,9 @@ use crate::tests::threaded::{carriers, make_nodes, recorded};
 use mr_clock::FixedClock;
 use mr_node::Ended;
 use mr_proxy::Leg;
+use mr_test_parts::must;
 use mr_text::GhostCount;
 use mr_workers::{Carried, Carrier, Carriers, DirectCarriers};
-use std::test::Fail;
 
 /// Carriers that bring nothing the first time they are asked, and from then on what came, the leg that was late first.
 struct Late<C: Carrier> {
@@ -47,27 +47,29 @@ impl<C: Carrier> Carriers<C> for Late<C> {
 }
 
 #[test]
-fn a_late_leg_is_dropped(rt: HostRuntime) -> Result<(), Fail> {
+fn a_late_leg_is_dropped(rt: HostRuntime) {
     let alloc = rt.alloc();
-    let nodes = make_nodes(alloc, 3)?;
+    let nodes = must(&rt, make_nodes(alloc, 3));
     let mut carriers = Late {
-        inner: carriers(&rt, alloc, 999, &[&nodes.old, &nodes.new])?,
+        inner: must(&rt, carriers(&rt, alloc, 999, &[&nodes.old, &nodes.new])),
         was_asked: false,
         withheld: GhostCount::new(),
     };
-    let desk = recorded(alloc, &NEW, 20)?;
-    let left = serve(
+    let desk = must(&rt, recorded(alloc, &NEW, 20));
+    let left = must(
         &rt,
-        alloc,
-        &desk,
-        &mut FixedClock(999),
-        &mut carriers,
-        b"set k 7 0 1\r\nv\r\nget k\r\nget k\r\n",
-        WHOLE,
-    )?;
+        serve(
+            &rt,
+            alloc,
+            &desk,
+            &mut FixedClock(999),
+            &mut carriers,
+            b"set k 7 0 1\r\nv\r\nget k\r\nget k\r\n",
+            WHOLE,
+        ),
+    );
     // The set was performed, but nothing of it came back in time.
     let told = b"SERVER_ERROR leg lost\r\nVALUE k 7 1\r\nv\r\nEND\r\nVALUE k 7 1\r\nv\r\nEND\r\n";
     went_so(&rt, &left, Ok(Ended::Ended), told, 3);
     were_given_up(&rt, &left, &[true, false, false]);
-    Ok(())
 }

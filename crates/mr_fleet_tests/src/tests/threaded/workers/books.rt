@@ -8,6 +8,7 @@ use crate::tests::threaded::{core_of, delete_of, get_of, holds};
 use mr_clock::FixedClock;
 use mr_history::OpId;
 use mr_proxy::{Issued, Leg, Taken};
+use mr_test_parts::must;
 use mr_text::Request;
 use mr_workers::{Carried, Desk, DeskError, RecordedProxy, RecordedState, Share};
 use std::alloc::{AllocError, Global};
@@ -29,15 +30,10 @@ fn is_refused(
 }
 
 /// Asserts that a get is refused, since the book is full, and that the share stays.
-fn is_full(
-    rt: &(impl Abort + Wait),
-    alloc: Global,
-    desk: &RecordedProxy<Broken>,
-) -> Result<(), Fail> {
+fn is_full(rt: &(impl Abort + Wait), alloc: Global, desk: &RecordedProxy<Broken>) {
     let mut share = desk.share();
-    is_refused(rt, desk, &mut share, get_of(alloc, &[b"k"])?);
+    is_refused(rt, desk, &mut share, must(rt, get_of(alloc, &[b"k"])));
     holds(rt, share.count() == 0);
-    Ok(())
 }
 
 /// Asserts that a request is given up.
@@ -47,36 +43,47 @@ fn is_given_up(rt: &(impl Abort + Wait), desk: &RecordedProxy<Broken>, op: OpId)
 }
 
 #[test]
-fn room_that_a_request_did_not_use_is_free_again(rt: HostRuntime) -> Result<(), Fail> {
+fn room_that_a_request_did_not_use_is_free_again(rt: HostRuntime) {
     let alloc = rt.alloc();
-    let desk = desk_of(alloc, 4)?;
+    let desk = must(&rt, desk_of(alloc, 4));
     let mut share = desk.share();
-    let op = issue_op(&rt, &desk, &mut share, delete_of(alloc, b"k")?)?;
-    is_full(&rt, alloc, &desk)?;
+    let op = must(
+        &rt,
+        issue_op(&rt, &desk, &mut share, must(&rt, delete_of(alloc, b"k"))),
+    );
+    is_full(&rt, alloc, &desk);
     is_given_up(&rt, &desk, op);
-    issue_op(&rt, &desk, &mut share, get_of(alloc, &[b"k"])?)?;
-    is_full(&rt, alloc, &desk)?;
+    must(
+        &rt,
+        issue_op(&rt, &desk, &mut share, must(&rt, get_of(alloc, &[b"k"]))),
+    );
+    is_full(&rt, alloc, &desk);
     holds(&rt, share.count() == 2);
-    Ok(())
 }
 
 #[test]
-fn a_request_may_fill_the_book(rt: HostRuntime) -> Result<(), Fail> {
+fn a_request_may_fill_the_book(rt: HostRuntime) {
     let alloc = rt.alloc();
-    let desk = desk_of(alloc, 3)?;
+    let desk = must(&rt, desk_of(alloc, 3));
     let mut share = desk.share();
-    issue_op(&rt, &desk, &mut share, delete_of(alloc, b"k")?)?;
-    is_full(&rt, alloc, &desk)
+    must(
+        &rt,
+        issue_op(&rt, &desk, &mut share, must(&rt, delete_of(alloc, b"k"))),
+    );
+    is_full(&rt, alloc, &desk);
 }
 
 #[test]
-fn one_get_fills_a_book_of_two_steps(rt: HostRuntime) -> Result<(), Fail> {
+fn one_get_fills_a_book_of_two_steps(rt: HostRuntime) {
     let alloc = rt.alloc();
-    let desk = desk_of(alloc, 2)?;
+    let desk = must(&rt, desk_of(alloc, 2));
     let mut share = desk.share();
-    is_refused(&rt, &desk, &mut share, delete_of(alloc, b"k")?);
-    issue_op(&rt, &desk, &mut share, get_of(alloc, &[b"k"])?)?;
-    is_full(&rt, alloc, &desk)
+    is_refused(&rt, &desk, &mut share, must(&rt, delete_of(alloc, b"k")));
+    must(
+        &rt,
+        issue_op(&rt, &desk, &mut share, must(&rt, get_of(alloc, &[b"k"]))),
+    );
+    is_full(&rt, alloc, &desk);
 }
 
 /// Whether what came back is the answer to its request.
@@ -98,33 +105,22 @@ fn is_stranger(
 }
 
 /// Takes what came of the legs of a get, each twice: the second is a stranger.
-fn take_twice(
-    rt: &impl Abort,
-    state: &mut RecordedState<Broken>,
-    legs: Vec<Leg>,
-) -> Result<(), AllocError> {
+fn take_twice(rt: &impl Abort, state: &mut RecordedState<Broken>, legs: Vec<Leg>) {
     for leg in legs {
         let carried = Carried::of(&mut Broken::new(), leg);
-        holds(rt, is_answer(state, &carried)?);
-        holds(rt, is_stranger(state, &carried)?);
+        holds(rt, must(rt, is_answer(state, &carried)));
+        holds(rt, must(rt, is_stranger(state, &carried)));
     }
-    Ok(())
 }
 
 /// Asserts that a book has the one answer of its one request, in two steps.
-fn has_one_answer(
-    rt: &impl Abort,
-    alloc: Global,
-    state: RecordedState<Broken>,
-    op: OpId,
-) -> Result<(), AllocError> {
-    let answers = state.answers(alloc)?;
+fn has_one_answer(rt: &impl Abort, alloc: Global, state: RecordedState<Broken>, op: OpId) {
+    let answers = must(rt, state.answers(alloc));
     holds(rt, answers.len() == 1);
     holds(rt, answers.iter().all(|answer| answer.op() == op));
     let book = state.into_book();
     holds(rt, book.steps.len() == 2);
     holds(rt, book.core.next() == 1);
-    Ok(())
 }
 
 /// Issues the get of `k`.
@@ -135,11 +131,10 @@ fn issue_get(alloc: Global, state: &mut RecordedState<Broken>) -> Result<Issued,
 }
 
 #[test]
-fn a_book_gives_its_answers_again(rt: HostRuntime) -> Result<(), Fail> {
+fn a_book_gives_its_answers_again(rt: HostRuntime) {
     let alloc = rt.alloc();
-    let mut state = RecordedState::new(alloc, core_of(alloc, &NEW)?, 4);
-    let Issued { op, legs } = issue_get(alloc, &mut state)?;
-    take_twice(&rt, &mut state, legs)?;
-    has_one_answer(&rt, alloc, state, op)?;
-    Ok(())
+    let mut state = RecordedState::new(alloc, must(&rt, core_of(alloc, &NEW)), 4);
+    let Issued { op, legs } = must(&rt, issue_get(alloc, &mut state));
+    take_twice(&rt, &mut state, legs);
+    has_one_answer(&rt, alloc, state, op);
 }

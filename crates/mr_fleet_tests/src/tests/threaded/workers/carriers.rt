@@ -12,6 +12,7 @@ use mr_history::OpId;
 use mr_join::LegReply;
 use mr_node::{CacheNode, NodeCommand, Perform};
 use mr_proxy::{Answer, Issued, Leg, LegSheet, Taken};
+use mr_test_parts::must;
 use mr_text::{Block, Cause, Key, Reply, Request};
 use mr_workers::{
     Carrier, Carriers, Desk, Gate, LocalCarrier, OpenGate, SharedNode, SharedProxy, WorkerError,
@@ -130,21 +131,25 @@ fn hits_until_deleted<C: Carrier, D: Desk<C>, L: Carriers<C>, R: Wait + Abort>(
     alloc: Global,
     desk: &D,
     carriers: &mut L,
-) -> Result<(), Fail> {
-    holds(rt, is_found(rt, alloc, desk, carriers)?);
-    holds(rt, is_deleted(rt, alloc, desk, carriers)?);
-    holds(rt, !is_found(rt, alloc, desk, carriers)?);
-    Ok(())
+) {
+    holds(rt, must(rt, is_found(rt, alloc, desk, carriers)));
+    holds(rt, must(rt, is_deleted(rt, alloc, desk, carriers)));
+    holds(rt, !must(rt, is_found(rt, alloc, desk, carriers)));
 }
 
 /// The same over these caches, through either desk. The sum of the bytes of `k` is odd.
-fn play<'x, R: Wait + Abort>(rt: &'x R, alloc: Global, nodes: &'x Nodes) -> Result<(), Fail> {
-    let mut carriers = carriers(rt, alloc, 0, &[&nodes.old, &nodes.new])?;
-    set_second(rt, alloc, &nodes.old)?;
-    hits_until_deleted(rt, alloc, &recorded(alloc, &NEW, 20)?, &mut carriers)?;
-    set_second(rt, alloc, &nodes.old)?;
-    let shared = SharedProxy::new(core_of(alloc, &NEW)?);
-    hits_until_deleted(rt, alloc, &shared, &mut carriers)
+fn play<'x, R: Wait + Abort>(rt: &'x R, alloc: Global, nodes: &'x Nodes) {
+    let mut carriers = must(rt, carriers(rt, alloc, 0, &[&nodes.old, &nodes.new]));
+    must(rt, set_second(rt, alloc, &nodes.old));
+    hits_until_deleted(
+        rt,
+        alloc,
+        &must(rt, recorded(alloc, &NEW, 20)),
+        &mut carriers,
+    );
+    must(rt, set_second(rt, alloc, &nodes.old));
+    let shared = SharedProxy::new(must(rt, core_of(alloc, &NEW)));
+    hits_until_deleted(rt, alloc, &shared, &mut carriers);
 }
 
 /// What a get finds on a shared node.
@@ -159,23 +164,22 @@ fn found_on(
 }
 
 #[test]
-fn a_shared_node_keeps_what_it_held(rt: HostRuntime) -> Result<(), Fail> {
+fn a_shared_node_keeps_what_it_held(rt: HostRuntime) {
     let alloc = rt.alloc();
-    let mut node = CacheNode::new(alloc, 4)?;
-    let _ = node.perform(0, set_of(alloc)?)?;
+    let mut node = must(&rt, CacheNode::new(alloc, 4));
+    let _ = must(&rt, node.perform(0, must(&rt, set_of(alloc))));
     let shared = SharedNode::new(node);
-    let found = found_on(&rt, alloc, &shared, b"k")?;
+    let found = must(&rt, found_on(&rt, alloc, &shared, b"k"));
     holds(&rt, matches!(found, LegReply::Hit { flags: 7, .. }));
-    let missed = found_on(&rt, alloc, &shared, b"a")?;
+    let missed = must(&rt, found_on(&rt, alloc, &shared, b"a"));
     holds(&rt, matches!(missed, LegReply::Miss));
-    Ok(())
 }
 
 #[test]
-fn legs_are_performed_on_the_nodes_that_they_name(rt: HostRuntime) -> Result<(), Fail> {
+fn legs_are_performed_on_the_nodes_that_they_name(rt: HostRuntime) {
     let alloc = rt.alloc();
-    let nodes = make_nodes(alloc, 1)?;
-    play(&rt, alloc, &nodes)
+    let nodes = must(&rt, make_nodes(alloc, 1));
+    play(&rt, alloc, &nodes);
 }
 
 /// Whether a request was answered that a leg of it is lost.
@@ -184,25 +188,29 @@ fn is_lost(answer: Answer) -> bool {
 }
 
 #[test]
-fn a_leg_whose_link_is_broken_is_lost(rt: HostRuntime) -> Result<(), Fail> {
+fn a_leg_whose_link_is_broken_is_lost(rt: HostRuntime) {
     let alloc = rt.alloc();
-    let delete = delete_of(alloc, b"k")?;
-    let mut carriers = broken_carriers(alloc, &[2, 1])?;
-    let answer = answer_to(&rt, &desk_of(alloc, 9)?, &mut carriers, &delete)?;
+    let delete = must(&rt, delete_of(alloc, b"k"));
+    let mut carriers = must(&rt, broken_carriers(alloc, &[2, 1]));
+    let answer = must(
+        &rt,
+        answer_to(&rt, &must(&rt, desk_of(alloc, 9)), &mut carriers, &delete),
+    );
     holds(&rt, is_lost(answer));
     holds(&rt, carriers.receive().is_none());
-    Ok(())
 }
 
 #[test]
-fn a_leg_without_a_carrier_is_handed_back(rt: HostRuntime) -> Result<(), Fail> {
+fn a_leg_without_a_carrier_is_handed_back(rt: HostRuntime) {
     let alloc = rt.alloc();
-    let get = get_of(alloc, &[b"k"])?;
-    let mut carriers = broken_carriers(alloc, &[])?;
-    let answer = answer_to(&rt, &desk_of(alloc, 9)?, &mut carriers, &get)?;
+    let get = must(&rt, get_of(alloc, &[b"k"]));
+    let mut carriers = must(&rt, broken_carriers(alloc, &[]));
+    let answer = must(
+        &rt,
+        answer_to(&rt, &must(&rt, desk_of(alloc, 9)), &mut carriers, &get),
+    );
     holds(&rt, answer.given_up());
     holds(&rt, carriers.receive().is_none());
-    Ok(())
 }
 
 /// The one leg of a get of `k`.
@@ -224,12 +232,11 @@ fn says<'x, R: Wait>(
 }
 
 #[test]
-fn a_carrier_whose_clock_fails_says_so(rt: HostRuntime) -> Result<(), Fail> {
+fn a_carrier_whose_clock_fails_says_so(rt: HostRuntime) {
     let alloc = rt.alloc();
-    let leg = one_leg(&rt, alloc)?;
+    let leg = must(&rt, one_leg(&rt, alloc));
     OpenGate.before_carry(leg.sheet());
-    let node = SharedNode::new(CacheNode::new(alloc, 4)?);
-    let reply = says(&rt, alloc, &node, leg.sheet())?;
+    let node = SharedNode::new(must(&rt, CacheNode::new(alloc, 4)));
+    let reply = must(&rt, says(&rt, alloc, &node, leg.sheet()));
     holds(&rt, matches!(reply, LegReply::Failed(Cause::ClockFault)));
-    Ok(())
 }

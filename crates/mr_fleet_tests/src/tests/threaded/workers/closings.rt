@@ -6,6 +6,7 @@ use super::{desk_of, issue, issue_op};
 use crate::tests::threaded::broken::Broken;
 use crate::tests::threaded::{delete_of, get_of, holds};
 use mr_proxy::{Answer, Leg, Taken};
+use mr_test_parts::must;
 use mr_text::Request;
 use mr_workers::{Carried, Closed, Desk, RecordedProxy, Share, close};
 use std::alloc::{AllocError, Global};
@@ -97,15 +98,14 @@ fn two_sessions(rt: &impl Wait, alloc: Global) -> Result<Sessions, Fail> {
 }
 
 #[test]
-fn a_book_stands_with_its_sessions(rt: HostRuntime) -> Result<(), Fail> {
+fn a_book_stands_with_its_sessions(rt: HostRuntime) {
     let alloc = rt.alloc();
-    let sessions = two_sessions(&rt, alloc)?;
+    let sessions = must(&rt, two_sessions(&rt, alloc));
     holds(
         &rt,
         sessions.answers.iter().all(|session| session.len() == 2),
     );
-    holds(&rt, stands(alloc, sessions)?);
-    Ok(())
+    holds(&rt, must(&rt, stands(alloc, sessions)));
 }
 
 /// The share of a session of another proxy.
@@ -117,21 +117,22 @@ fn foreign_share(rt: &impl Wait, alloc: Global) -> Result<Share, Fail> {
 }
 
 #[test]
-fn a_share_of_another_proxy_differs(rt: HostRuntime) -> Result<(), Fail> {
+fn a_share_of_another_proxy_differs(rt: HostRuntime) {
     let alloc = rt.alloc();
-    let mut sessions = two_sessions(&rt, alloc)?;
-    sessions.shares.push(foreign_share(&rt, alloc)?)?;
-    holds(&rt, !stands(alloc, sessions)?);
-    Ok(())
+    let mut sessions = must(&rt, two_sessions(&rt, alloc));
+    must(
+        &rt,
+        sessions.shares.push(must(&rt, foreign_share(&rt, alloc))),
+    );
+    holds(&rt, !must(&rt, stands(alloc, sessions)));
 }
 
 #[test]
-fn a_share_that_is_missing_differs(rt: HostRuntime) -> Result<(), Fail> {
+fn a_share_that_is_missing_differs(rt: HostRuntime) {
     let alloc = rt.alloc();
-    let mut sessions = two_sessions(&rt, alloc)?;
+    let mut sessions = must(&rt, two_sessions(&rt, alloc));
     holds(&rt, sessions.shares.pop().is_some());
-    holds(&rt, !stands(alloc, sessions)?);
-    Ok(())
+    holds(&rt, !must(&rt, stands(alloc, sessions)));
 }
 
 /// A copy of the first answer of each session.
@@ -146,13 +147,12 @@ fn copies(alloc: Global, sessions: &[Vec<Answer>]) -> Result<Vec<Answer>, AllocE
 }
 
 #[test]
-fn an_answer_and_its_copy_differ(rt: HostRuntime) -> Result<(), Fail> {
+fn an_answer_and_its_copy_differ(rt: HostRuntime) {
     let alloc = rt.alloc();
-    let mut sessions = two_sessions(&rt, alloc)?;
-    let copies = copies(alloc, &sessions.answers)?;
-    sessions.answers.push(copies)?;
-    holds(&rt, !stands(alloc, sessions)?);
-    Ok(())
+    let mut sessions = must(&rt, two_sessions(&rt, alloc));
+    let copies = must(&rt, copies(alloc, &sessions.answers));
+    must(&rt, sessions.answers.push(copies));
+    holds(&rt, !must(&rt, stands(alloc, sessions)));
 }
 
 /// The answer to the third request of another proxy, which has the name of one here, and another key.
@@ -167,13 +167,12 @@ fn foreign_answers(rt: &impl Wait, alloc: Global) -> Result<Vec<Answer>, Fail> {
 }
 
 #[test]
-fn an_answer_of_another_proxy_differs(rt: HostRuntime) -> Result<(), Fail> {
+fn an_answer_of_another_proxy_differs(rt: HostRuntime) {
     let alloc = rt.alloc();
-    let mut sessions = two_sessions(&rt, alloc)?;
-    let alone = foreign_answers(&rt, alloc)?;
+    let mut sessions = must(&rt, two_sessions(&rt, alloc));
+    let alone = must(&rt, foreign_answers(&rt, alloc));
     holds(&rt, alone.len() == 1);
     sessions.answers.clear();
-    sessions.answers.push(alone)?;
-    holds(&rt, !stands(alloc, sessions)?);
-    Ok(())
+    must(&rt, sessions.answers.push(alone));
+    holds(&rt, !must(&rt, stands(alloc, sessions)));
 }

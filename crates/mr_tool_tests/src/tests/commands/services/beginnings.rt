@@ -1,8 +1,8 @@
 //! Services that can't begin, and those that serve no one.
 use super::{expect_run, is, run, word_of};
 use crate::tests::commands::files_at::Place;
+use mr_test_parts::must;
 use std::net::TcpListener;
-use std::test::Fail;
 
 /// A configuration whose migration is long over.
 const FLEET: &[u8] =
@@ -75,11 +75,11 @@ fn services_that_cannot_begin_have_a_line(rt: HostRuntime) {
 }
 
 #[test]
-fn a_port_in_use_has_a_line(rt: HostRuntime) -> Result<(), Fail> {
+fn a_port_in_use_has_a_line(rt: HostRuntime) {
     let alloc = rt.alloc();
-    let taken = TcpListener::bind(&rt, "127.0.0.1:0")?;
-    let address = word_of(alloc, taken.local_addr()?)?;
-    let line = format!(in alloc; "migctl: net {address}\n")?;
+    let taken = must(&rt, TcpListener::bind(&rt, "127.0.0.1:0"));
+    let address = must(&rt, word_of(alloc, must(&rt, taken.local_addr())));
+    let line = must(&rt, format!(in alloc; "migctl: net {address}\n"));
     let words = ["node", "--listen", address.as_str()];
     let ran = run(&rt, alloc, &[], &words);
     expect_run(&rt, &ran, 1, b"", line.as_bytes());
@@ -92,7 +92,6 @@ fn a_port_in_use_has_a_line(rt: HostRuntime) -> Result<(), Fail> {
     ];
     let ran = run(&rt, alloc, PLACES.as_slice(), &words);
     expect_run(&rt, &ran, 1, b"", line.as_bytes());
-    Ok(())
 }
 
 #[test]

@@ -1,10 +1,10 @@
 //! Nodes as commands.
 use super::{Ran, answers, expect_run, free_address, is, run, word_of};
+use mr_test_parts::must;
 use std::alloc::Global;
 use std::net::{Net, SocketAddr, TcpListener, TcpStream};
 use std::process::Abort;
 use std::sync::Wait;
-use std::test::Fail;
 use std::thread::Threads;
 use std::time::Clock;
 use std::{io, thread};
@@ -52,9 +52,9 @@ fn expect_node(
     wanted: &[&[u8]],
     status: u8,
     output: &[u8],
-) -> Result<(), Fail> {
-    let address = free_address(rt, "127.0.0.2")?;
-    let word = word_of(alloc, address)?;
+) {
+    let address = must(rt, free_address(rt, "127.0.0.2"));
+    let word = must(rt, word_of(alloc, address));
     let [first, value, second, other] = options;
     let words = [
         "node",
@@ -67,17 +67,16 @@ fn expect_node(
     ];
     let (ran, got) = play(rt, alloc, &words, address, clients);
     expect_run(rt, &ran, status, output, b"");
-    let got = got?;
+    let got = must(rt, got);
     is(rt, got.len(), wanted.len());
     for (got, wanted) in got.iter().zip(wanted) {
         is(rt, got.as_slice(), *wanted);
     }
-    Ok(())
 }
 
 /// The node serves one client unless it is said how many.
 #[test]
-fn one_client_is_served(rt: HostRuntime) -> Result<(), Fail> {
+fn one_client_is_served(rt: HostRuntime) {
     expect_node(
         &rt,
         rt.alloc(),
@@ -86,12 +85,12 @@ fn one_client_is_served(rt: HostRuntime) -> Result<(), Fail> {
         &[b"STORED\r\nVALUE k 7 1\r\nv\r\nEND\r\nDELETED\r\nEND\r\n"],
         0,
         b"served 1\n",
-    )
+    );
 }
 
 /// All clients share one cache, whose capacity is a number of items.
 #[test]
-fn clients_share_one_cache(rt: HostRuntime) -> Result<(), Fail> {
+fn clients_share_one_cache(rt: HostRuntime) {
     expect_node(
         &rt,
         rt.alloc(),
@@ -108,12 +107,12 @@ fn clients_share_one_cache(rt: HostRuntime) -> Result<(), Fail> {
         ],
         0,
         b"served 3\n",
-    )
+    );
 }
 
 /// Its reads are counted for each connection; one whose reads are spent ends with a fault and stops no other.
 #[test]
-fn turns_are_those_of_one_connection(rt: HostRuntime) -> Result<(), Fail> {
+fn turns_are_those_of_one_connection(rt: HostRuntime) {
     expect_node(
         &rt,
         rt.alloc(),
@@ -122,12 +121,12 @@ fn turns_are_those_of_one_connection(rt: HostRuntime) -> Result<(), Fail> {
         &[b"END\r\n", b"END\r\nEND\r\n", b"END\r\n"],
         1,
         b"served 2\n",
-    )
+    );
 }
 
 /// It goes by the machine's time: an item whose time ended in 1970 is gone at once, one that has until 2096 is kept.
 #[test]
-fn a_node_goes_by_the_time_of_the_machine(rt: HostRuntime) -> Result<(), Fail> {
+fn a_node_goes_by_the_time_of_the_machine(rt: HostRuntime) {
     expect_node(
         &rt,
         rt.alloc(),
@@ -136,5 +135,5 @@ fn a_node_goes_by_the_time_of_the_machine(rt: HostRuntime) -> Result<(), Fail> {
         &[b"STORED\r\nSTORED\r\nVALUE b 0 1\r\n2\r\nEND\r\n"],
         0,
         b"served 1\n",
-    )
+    );
 }

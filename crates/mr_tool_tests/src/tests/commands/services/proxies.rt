@@ -1,11 +1,11 @@
 //! Proxies as commands, each with the nodes of its configuration.
 use super::{Ran, answers, expect_run, free_address, is, run, word_of};
 use crate::tests::commands::files_at::Place;
+use mr_test_parts::must;
 use std::alloc::{AllocError, Global};
 use std::net::{Net, SocketAddr, TcpListener, TcpStream};
 use std::process::Abort;
 use std::sync::Wait;
-use std::test::Fail;
 use std::thread::Threads;
 use std::time::Clock;
 use std::{io, thread};
@@ -59,17 +59,17 @@ fn expect_proxy(
     alloc: Global,
     start: u64,
     is_new: bool,
-) -> Result<(), Fail> {
-    let node = word_of(alloc, free_address(rt, "127.0.0.2")?)?;
-    let address = free_address(rt, "127.0.0.1")?;
-    let proxy = word_of(alloc, address)?;
+) {
+    let node = must(rt, word_of(alloc, must(rt, free_address(rt, "127.0.0.2"))));
+    let address = must(rt, free_address(rt, "127.0.0.1"));
+    let proxy = must(rt, word_of(alloc, address));
     let other = "127.0.0.1:1";
     let (old, new) = if is_new {
         (other, node.as_str())
     } else {
         (node.as_str(), other)
     };
-    let text = config(alloc, old, new, start)?;
+    let text = must(rt, config(alloc, old, new, start));
     let places = [("fleet.json", text.as_bytes())];
     let (by_node, by_proxy, got) = play(
         rt,
@@ -87,20 +87,19 @@ fn expect_proxy(
     );
     expect_run(rt, &by_proxy, 0, b"served 1\n", b"");
     expect_run(rt, &by_node, 0, b"served 1\n", b"");
-    is(rt, got?.as_slice(), ANSWERS);
-    Ok(())
+    is(rt, must(rt, got).as_slice(), ANSWERS);
 }
 
 /// The migration is long over.
 #[test]
-fn a_proxy_serves_by_the_new_pool(rt: HostRuntime) -> Result<(), Fail> {
-    expect_proxy(&rt, rt.alloc(), 0, true)
+fn a_proxy_serves_by_the_new_pool(rt: HostRuntime) {
+    expect_proxy(&rt, rt.alloc(), 0, true);
 }
 
 /// The migration is some thousand years away.
 #[test]
-fn a_proxy_serves_by_the_old_pool(rt: HostRuntime) -> Result<(), Fail> {
-    expect_proxy(&rt, rt.alloc(), 99_999_999_999, false)
+fn a_proxy_serves_by_the_old_pool(rt: HostRuntime) {
+    expect_proxy(&rt, rt.alloc(), 99_999_999_999, false);
 }
 
 /// A proxy and its client at once: what it left, and what the client was answered.
@@ -133,10 +132,10 @@ fn expect_alone(
     wanted: &[u8],
     status: u8,
     output: &[u8],
-) -> Result<(), Fail> {
-    let address = free_address(rt, "127.0.0.1")?;
-    let proxy = word_of(alloc, address)?;
-    let text = config(alloc, "127.0.0.1:1", "127.0.0.1:2", 0)?;
+) {
+    let address = must(rt, free_address(rt, "127.0.0.1"));
+    let proxy = must(rt, word_of(alloc, address));
+    let text = must(rt, config(alloc, "127.0.0.1:1", "127.0.0.1:2", 0));
     let places = [("fleet.json", text.as_bytes())];
     let [option, value] = options;
     let words = [
@@ -150,13 +149,12 @@ fn expect_alone(
     ];
     let (ran, got) = play_alone(rt, alloc, places.as_slice(), &words, address, bytes);
     expect_run(rt, &ran, status, output, b"");
-    is(rt, got?.as_slice(), wanted);
-    Ok(())
+    is(rt, must(rt, got).as_slice(), wanted);
 }
 
 /// A proxy without room is busy at each request, and one whose nodes are away loses each leg.
 #[test]
-fn a_proxy_has_room_for_so_many_requests(rt: HostRuntime) -> Result<(), Fail> {
+fn a_proxy_has_room_for_so_many_requests(rt: HostRuntime) {
     let requests = b"get k\r\nget k\r\n";
     let busy = b"SERVER_ERROR busy\r\nSERVER_ERROR busy\r\n";
     let lost = b"SERVER_ERROR leg lost\r\nSERVER_ERROR leg lost\r\n";
@@ -168,7 +166,7 @@ fn a_proxy_has_room_for_so_many_requests(rt: HostRuntime) -> Result<(), Fail> {
         busy,
         0,
         b"served 1\n",
-    )?;
+    );
     expect_alone(
         &rt,
         rt.alloc(),
@@ -177,12 +175,12 @@ fn a_proxy_has_room_for_so_many_requests(rt: HostRuntime) -> Result<(), Fail> {
         lost,
         0,
         b"served 1\n",
-    )
+    );
 }
 
 /// Its reads are counted for each connection; one whose reads are spent ends with a fault.
 #[test]
-fn a_proxy_reads_so_often(rt: HostRuntime) -> Result<(), Fail> {
+fn a_proxy_reads_so_often(rt: HostRuntime) {
     let requests = b"get k\r\nget k\r\nget k\r\n";
     let lost = b"SERVER_ERROR leg lost\r\nSERVER_ERROR leg lost\r\n";
     expect_alone(
@@ -193,5 +191,5 @@ fn a_proxy_reads_so_often(rt: HostRuntime) -> Result<(), Fail> {
         lost,
         1,
         b"served 0\n",
-    )
+    );
 }

@@ -1,5 +1,6 @@
 //! Which texts are configurations, and why others are none.
 use super::*;
+use mr_test_parts::must;
 
 /// Each refusal, and the first where two hold at once, in the order of the checks.
 const REFUSED: [(&str, PlanError); 45] = [
@@ -158,18 +159,17 @@ fn is_worked(rt: &impl Abort, config: &Config) {
 }
 
 /// Asserts that a copy says the same.
-fn is_copied(rt: &impl Abort, config: &Config) -> Result<(), Fail> {
-    let copied = config.copy()?;
+fn is_copied(rt: &impl Abort, config: &Config) {
+    let copied = must(rt, config.copy());
     is(rt, copied.routing().same_as(config.routing()), true);
     is(rt, copied.schedule().start(), 1000);
-    Ok(())
 }
 
 #[test]
-fn a_configuration_is_read(rt: HostRuntime) -> Result<(), Fail> {
-    let config = config(rt.alloc(), FLEET)?;
+fn a_configuration_is_read(rt: HostRuntime) {
+    let config = must(&rt, config(rt.alloc(), FLEET));
     is_worked(&rt, &config);
-    is_copied(&rt, &config)
+    is_copied(&rt, &config);
 }
 
 /// The pool that the route leaves has its last value, another pool repeats a node of a used one, and neither interval
@@ -178,10 +178,9 @@ const DEFAULTS: &str =
     " { \"route\": {\"start_time\": 18446744073709544415, \"to\": \"PoolRoute|b\", \"from\": \"PoolRoute|\", \"type\": \"MigrateRoute\"}, \"pools\": {\"\": {\"servers\": 1}, \"c\": {\"servers\": [\"y\"]}, \"b\": {\"servers\": [\"y\"]}, \"\": {\"servers\": [\"x\"]}} } ";
 
 #[test]
-fn what_is_not_said_has_defaults(rt: HostRuntime) -> Result<(), Fail> {
-    let config = config(rt.alloc(), DEFAULTS)?;
+fn what_is_not_said_has_defaults(rt: HostRuntime) {
+    let config = must(&rt, config(rt.alloc(), DEFAULTS));
     is(&rt, config.schedule().interval(), 3600);
     is(&rt, config.routing().hash() == NamedHash::Fnv, true);
     names_are(&rt, config.routing().old_pool(), &["x"]);
-    Ok(())
 }

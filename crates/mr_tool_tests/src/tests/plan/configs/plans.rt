@@ -1,6 +1,7 @@
 //! Plans, timelines and advice over the configuration of the worked examples.
 use super::*;
 use mr_proxy::LegSheet;
+use mr_test_parts::must;
 
 /// One request that is planned.
 #[derive(Clone, Copy)]
@@ -128,7 +129,7 @@ fn plan_is(rt: &impl Abort, plan: &RequestPlan, row: Row) {
 
 /// Plans a request, and asserts what the plan says.
 fn goes(rt: &impl Abort, alloc: Global, config: &Config, row: Row) -> Result<(), Fail> {
-    let request = request(alloc, row.0)?;
+    let request = must(rt, request(alloc, row.0));
     match plan(alloc, config, row.1, request) {
         Ok(plan) => {
             plan_is(rt, &plan, row);
@@ -139,12 +140,11 @@ fn goes(rt: &impl Abort, alloc: Global, config: &Config, row: Row) -> Result<(),
 }
 
 #[test]
-fn requests_go_where_the_phase_says(rt: HostRuntime) -> Result<(), Fail> {
-    let config = config(rt.alloc(), FLEET)?;
+fn requests_go_where_the_phase_says(rt: HostRuntime) {
+    let config = must(&rt, config(rt.alloc(), FLEET));
     for row in &ROWS {
-        goes(&rt, rt.alloc(), &config, *row)?;
+        must(&rt, goes(&rt, rt.alloc(), &config, *row));
     }
-    Ok(())
 }
 
 /// The first and the last second of a span.
@@ -158,10 +158,10 @@ fn timeline_is(rt: &impl Abort, config: &Config, wanted: PhaseTimes) {
 }
 
 #[test]
-fn the_timeline_has_four_spans(rt: HostRuntime) -> Result<(), Fail> {
+fn the_timeline_has_four_spans(rt: HostRuntime) {
     timeline_is(
         &rt,
-        &config(rt.alloc(), FLEET)?,
+        &must(&rt, config(rt.alloc(), FLEET)),
         PhaseTimes {
             old_only: Some(span(0, 999)),
             both_read_old: span(1000, 1099),
@@ -169,7 +169,6 @@ fn the_timeline_has_four_spans(rt: HostRuntime) -> Result<(), Fail> {
             new_only: 1200,
         },
     );
-    Ok(())
 }
 
 /// A migration from second 0 on.
@@ -177,10 +176,10 @@ const AT_ONCE: &str =
     "{\"pools\":{\"a\":{\"servers\":[\"x\"]},\"b\":{\"servers\":[\"y\"]}},\"route\":{\"type\":\"MigrateRoute\",\"from\":\"PoolRoute|a\",\"to\":\"PoolRoute|b\",\"start_time\":0,\"interval\":1}}";
 
 #[test]
-fn a_migration_at_once_has_no_old_only(rt: HostRuntime) -> Result<(), Fail> {
+fn a_migration_at_once_has_no_old_only(rt: HostRuntime) {
     timeline_is(
         &rt,
-        &config(rt.alloc(), AT_ONCE)?,
+        &must(&rt, config(rt.alloc(), AT_ONCE)),
         PhaseTimes {
             old_only: None,
             both_read_old: span(0, 0),
@@ -188,7 +187,6 @@ fn a_migration_at_once_has_no_old_only(rt: HostRuntime) -> Result<(), Fail> {
             new_only: 2,
         },
     );
-    Ok(())
 }
 
 /// The advice for clocks with these readings.
@@ -214,11 +212,10 @@ fn far_is_told(rt: &impl Abort, advice: &Advice) {
 }
 
 #[test]
-fn advice_tells_phases_and_spread(rt: HostRuntime) -> Result<(), Fail> {
-    let config = config(rt.alloc(), FLEET)?;
-    far_is_told(&rt, &advice(rt.alloc(), &config, &[999, 1100])?);
-    let near = advice(rt.alloc(), &config, &[1000, 1100, 1050])?;
+fn advice_tells_phases_and_spread(rt: HostRuntime) {
+    let config = must(&rt, config(rt.alloc(), FLEET));
+    far_is_told(&rt, &must(&rt, advice(rt.alloc(), &config, &[999, 1100])));
+    let near = must(&rt, advice(rt.alloc(), &config, &[1000, 1100, 1050]));
     spread_is(&rt, &near, 100, true);
-    spread_is(&rt, &advice(rt.alloc(), &config, &[])?, 0, true);
-    Ok(())
+    spread_is(&rt, &must(&rt, advice(rt.alloc(), &config, &[])), 0, true);
 }

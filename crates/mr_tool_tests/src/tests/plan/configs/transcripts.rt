@@ -1,6 +1,7 @@
 //! Transcripts: written by a play, and held against a play of their own events.
 use super::*;
 use mr_plan::read_events;
+use mr_test_parts::must;
 use mr_transcripts::{Checked, Outcome, check_transcript, write_transcript};
 
 /// One proxy at 999 gets a key that no node has.
@@ -170,9 +171,8 @@ fn goes(rt: &impl Abort, alloc: Global, played: &Played) -> Result<(), Fail> {
 }
 
 #[test]
-fn written_transcripts_are_checked(rt: HostRuntime) -> Result<(), Fail> {
+fn written_transcripts_are_checked(rt: HostRuntime) {
     for played in &PLAYED {
-        goes(&rt, rt.alloc(), played)?;
+        must(&rt, goes(&rt, rt.alloc(), played));
     }
-    Ok(())
 }

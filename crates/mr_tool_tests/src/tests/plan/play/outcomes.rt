@@ -3,18 +3,13 @@
 //! That a hit is bad where all premises hold is found of no transcript: by the theorem over the fleet no play comes to
 //! that. So the outcome for it can't be shown here, and a verdict that tells of a bad hit differs from the play's.
 use super::*;
+use mr_test_parts::must;
 
 /// Holds the transcript with each change by itself against its play.
-fn all_find(
-    rt: &impl Abort,
-    alloc: Global,
-    changes: &[(&str, &str)],
-    wanted: Outcome,
-) -> Result<(), Fail> {
+fn all_find(rt: &impl Abort, alloc: Global, changes: &[(&str, &str)], wanted: Outcome) {
     for change in changes {
-        is_found_with(rt, alloc, TRANSCRIPT, *change, Ok(wanted))?;
+        is_found_with(rt, alloc, TRANSCRIPT, *change, Ok(wanted));
     }
-    Ok(())
 }
 
 #[test]
@@ -45,8 +40,8 @@ const SAME: [Change; 14] = [
 ];
 
 #[test]
-fn what_says_the_same_is_accepted(rt: HostRuntime) -> Result<(), Fail> {
-    all_find(&rt, rt.alloc(), &SAME, Outcome::Accepted)
+fn what_says_the_same_is_accepted(rt: HostRuntime) {
+    all_find(&rt, rt.alloc(), &SAME, Outcome::Accepted);
 }
 
 /// Notes that are not those of the play.
@@ -80,8 +75,8 @@ const OTHER_NOTES: [Change; 20] = [
 ];
 
 #[test]
-fn other_notes_differ(rt: HostRuntime) -> Result<(), Fail> {
-    all_find(&rt, rt.alloc(), &OTHER_NOTES, Outcome::NotesDiffer)
+fn other_notes_differ(rt: HostRuntime) {
+    all_find(&rt, rt.alloc(), &OTHER_NOTES, Outcome::NotesDiffer);
 }
 
 /// Histories that are not that of the play.
@@ -134,8 +129,8 @@ const OTHER_HISTORIES: [Change; 24] = [
 ];
 
 #[test]
-fn another_history_differs(rt: HostRuntime) -> Result<(), Fail> {
-    all_find(&rt, rt.alloc(), &OTHER_HISTORIES, Outcome::HistoryDiffers)
+fn another_history_differs(rt: HostRuntime) {
+    all_find(&rt, rt.alloc(), &OTHER_HISTORIES, Outcome::HistoryDiffers);
 }
 
 /// Premises that are not those of the play.
@@ -157,8 +152,8 @@ const OTHER_PREMISES: [Change; 11] = [
 ];
 
 #[test]
-fn other_premises_differ(rt: HostRuntime) -> Result<(), Fail> {
-    all_find(&rt, rt.alloc(), &OTHER_PREMISES, Outcome::PremisesDiffer)
+fn other_premises_differ(rt: HostRuntime) {
+    all_find(&rt, rt.alloc(), &OTHER_PREMISES, Outcome::PremisesDiffer);
 }
 
 /// Verdicts that are not that of the play.
@@ -180,8 +175,8 @@ const OTHER_VERDICTS: [Change; 8] = [
 ];
 
 #[test]
-fn another_verdict_differs(rt: HostRuntime) -> Result<(), Fail> {
-    all_find(&rt, rt.alloc(), &OTHER_VERDICTS, Outcome::VerdictDiffers)
+fn another_verdict_differs(rt: HostRuntime) {
+    all_find(&rt, rt.alloc(), &OTHER_VERDICTS, Outcome::VerdictDiffers);
 }
 
 /// What the fleet refuses, by the event's index.
@@ -241,12 +236,11 @@ const REFUSED: [(Change, usize); 10] = [
 ];
 
 #[test]
-fn a_refused_event_is_found(rt: HostRuntime) -> Result<(), Fail> {
+fn a_refused_event_is_found(rt: HostRuntime) {
     for (change, index) in &REFUSED {
         let wanted = Ok(Outcome::EventRefused(*index));
-        is_found_with(&rt, rt.alloc(), TRANSCRIPT, *change, wanted)?;
+        is_found_with(&rt, rt.alloc(), TRANSCRIPT, *change, wanted);
     }
-    Ok(())
 }
 
 /// A reply that the fleet never sent is returned at the end.
@@ -279,21 +273,14 @@ const PAIRS: [(Change, Change, Outcome); 11] = [
 ];
 
 /// Asserts what is found of the transcript with two changes.
-fn pair_is_found(
-    rt: &impl Abort,
-    alloc: Global,
-    change: Change,
-    other: Change,
-    wanted: Outcome,
-) -> Result<(), AllocError> {
-    let once = changed(rt, alloc, TRANSCRIPT, change)?;
-    is_found_with(rt, alloc, once.as_str(), other, Ok(wanted))
+fn pair_is_found(rt: &impl Abort, alloc: Global, change: Change, other: Change, wanted: Outcome) {
+    let once = must(rt, changed(rt, alloc, TRANSCRIPT, change));
+    is_found_with(rt, alloc, once.as_str(), other, Ok(wanted));
 }
 
 #[test]
-fn the_first_of_two_is_found(rt: HostRuntime) -> Result<(), Fail> {
+fn the_first_of_two_is_found(rt: HostRuntime) {
     for (change, other, wanted) in &PAIRS {
-        pair_is_found(&rt, rt.alloc(), *change, *other, *wanted)?;
+        pair_is_found(&rt, rt.alloc(), *change, *other, *wanted);
     }
-    Ok(())
 }

@@ -4,6 +4,7 @@ use super::changing::{Kinds, changed_character, changed_value};
 use super::drawing::below;
 use super::parts::{PARTS, Part, Parts, Told};
 use super::*;
+use mr_test_parts::must;
 use rand_pcg::Pcg32;
 
 /// How many scripts are drawn.
@@ -71,43 +72,24 @@ fn wanted(told: &Told, play: &Result<Told, PlanError>) -> Result<Outcome, PlanEr
 }
 
 /// Looks whether this is found of the transcript.
-fn finds(
-    rt: &impl Abort,
-    alloc: Global,
-    parts: &Parts,
-    wanted: Result<Outcome, PlanError>,
-) -> Result<(), AllocError> {
-    let text = parts.transcript(alloc)?;
+fn finds(rt: &impl Abort, alloc: Global, parts: &Parts, wanted: Result<Outcome, PlanError>) {
+    let text = must(rt, parts.transcript(alloc));
     is_found(rt, alloc, text.as_str(), wanted, text.as_str());
-    Ok(())
 }
 
 /// Looks at the transcript with this one of its values changed in one place.
-fn finds_change(
-    rt: &impl Abort,
-    alloc: Global,
-    rng: &mut Pcg32,
-    parts: &mut Parts,
-    part: Part,
-) -> Result<(), Fail> {
-    let other = changed_value(alloc, rng, parts.told.text(part))?;
+fn finds_change(rt: &impl Abort, alloc: Global, rng: &mut Pcg32, parts: &mut Parts, part: Part) {
+    let other = must(rt, changed_value(alloc, rng, parts.told.text(part)));
     let kept = parts.told.put(part, other);
-    finds(rt, alloc, parts, Ok(part.differing()))?;
+    finds(rt, alloc, parts, Ok(part.differing()));
     parts.told.put(part, kept);
-    Ok(())
 }
 
 /// Looks at the transcript with each of its four values changed in one place.
-fn finds_each_change(
-    rt: &impl Abort,
-    alloc: Global,
-    rng: &mut Pcg32,
-    parts: &mut Parts,
-) -> Result<(), Fail> {
+fn finds_each_change(rt: &impl Abort, alloc: Global, rng: &mut Pcg32, parts: &mut Parts) {
     for part in &PARTS {
-        finds_change(rt, alloc, rng, parts, *part)?;
+        finds_change(rt, alloc, rng, parts, *part);
     }
-    Ok(())
 }
 
 /// Which characters of a script are changed.
@@ -144,28 +126,21 @@ fn finds_another_script(
     rng: &mut Pcg32,
     parts: &mut Parts,
     tally: &mut Tally,
-) -> Result<(), Fail> {
-    change_script(alloc, rng, parts)?;
-    let (wanted, is_played) = wanted_of(alloc, parts)?;
-    finds(rt, alloc, parts, wanted)?;
+) {
+    must(rt, change_script(alloc, rng, parts));
+    let (wanted, is_played) = must(rt, wanted_of(alloc, parts));
+    finds(rt, alloc, parts, wanted);
     let is_kept = wanted == Ok(Outcome::Accepted);
     count(&mut tally.kept, is_kept);
     count(&mut tally.differing, is_played && !is_kept);
-    Ok(())
 }
 
 /// Looks at a transcript that tells nothing of its script, whose play has none for this reason.
-fn finds_no_play(
-    rt: &impl Abort,
-    alloc: Global,
-    parts: &Parts,
-    refusal: PlanError,
-) -> Result<(), Fail> {
+fn finds_no_play(rt: &impl Abort, alloc: Global, parts: &Parts, refusal: PlanError) {
     let PlanError::EventRefused(index, _) = refusal else {
-        return Err(Fail::from("no script"));
+        rt.panic("no script");
     };
-    finds(rt, alloc, parts, Ok(Outcome::EventRefused(index)))?;
-    Ok(())
+    finds(rt, alloc, parts, Ok(Outcome::EventRefused(index)));
 }
 
 /// Looks at the transcript of a play as it was written and as it is changed.
@@ -175,14 +150,14 @@ fn finds_the_play(
     rng: &mut Pcg32,
     parts: &mut Parts,
     tally: &mut Tally,
-) -> Result<(), Fail> {
+) {
     let wanted = parts.told.outcome_beside(&parts.told);
-    finds(rt, alloc, parts, Ok(wanted))?;
+    finds(rt, alloc, parts, Ok(wanted));
     count(&mut tally.accepted, wanted == Outcome::Accepted);
     let hits = parts.told.history.as_str().contains("\"items\":[{");
     count(&mut tally.hits, hits);
-    finds_each_change(rt, alloc, rng, parts)?;
-    finds_another_script(rt, alloc, rng, parts, tally)
+    finds_each_change(rt, alloc, rng, parts);
+    finds_another_script(rt, alloc, rng, parts, tally);
 }
 
 /// Looks whether the premises are told as they were drawn.
@@ -196,14 +171,8 @@ fn premises_hold(rt: &impl Abort, parts: &Parts) {
 }
 
 /// Plays a script that was drawn, and looks at its transcript.
-fn goes(
-    rt: &impl Abort,
-    alloc: Global,
-    parts: &mut Parts,
-    rng: &mut Pcg32,
-    tally: &mut Tally,
-) -> Result<(), Fail> {
-    match play_of(alloc, parts)? {
+fn goes(rt: &impl Abort, alloc: Global, parts: &mut Parts, rng: &mut Pcg32, tally: &mut Tally) {
+    match must(rt, play_of(alloc, parts)) {
         Ok(told) => {
             parts.told = told;
             premises_hold(rt, parts);
@@ -218,13 +187,14 @@ fn goes(
 }
 
 /// Draws a script, plays it, and looks at its transcript.
-fn one_goes(
-    rt: &impl Abort,
-    alloc: Global,
-    rng: &mut Pcg32,
-    tally: &mut Tally,
-) -> Result<(), Fail> {
-    goes(rt, alloc, &mut Parts::draw(alloc, rng)?, rng, tally)
+fn one_goes(rt: &impl Abort, alloc: Global, rng: &mut Pcg32, tally: &mut Tally) {
+    goes(
+        rt,
+        alloc,
+        &mut must(rt, Parts::draw(alloc, rng)),
+        rng,
+        tally,
+    );
 }
 
 /// Looks whether everything came about often.
@@ -240,12 +210,11 @@ fn is_enough(rt: &impl Abort, tally: &Tally) {
 }
 
 #[test]
-fn each_play_gets_its_own_outcome(rt: HostRuntime) -> Result<(), Fail> {
+fn each_play_gets_its_own_outcome(rt: HostRuntime) {
     let mut rng = Pcg32::new(42, 54);
     let mut tally = NOTHING;
     for _ in 0..SCRIPTS {
-        one_goes(&rt, rt.alloc(), &mut rng, &mut tally)?;
+        one_goes(&rt, rt.alloc(), &mut rng, &mut tally);
     }
     is_enough(&rt, &tally);
-    Ok(())
 }

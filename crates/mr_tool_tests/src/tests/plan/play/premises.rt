@@ -1,5 +1,6 @@
 //! Plays in which a premise is false.
 use super::*;
+use mr_test_parts::must;
 
 /// Two proxies, the clock of one of which goes on; all premises hold.
 const IDLE: &str = r#"{
@@ -126,18 +127,14 @@ const FALSE: [([Change; 2], Change); 7] = [
 ];
 
 /// The idle play with two changes.
-fn idle_with(
-    rt: &impl Abort,
-    alloc: Global,
-    [change, other]: [Change; 2],
-) -> Result<String, AllocError> {
-    let once = changed(rt, alloc, IDLE, change)?;
-    changed(rt, alloc, once.as_str(), other)
+fn idle_with(rt: &impl Abort, alloc: Global, [change, other]: [Change; 2]) -> String {
+    let once = must(rt, changed(rt, alloc, IDLE, change));
+    must(rt, changed(rt, alloc, once.as_str(), other))
 }
 
 /// Asserts that the idle play with two changes is accepted.
-fn is_accepted(rt: &impl Abort, alloc: Global, changes: [Change; 2]) -> Result<(), AllocError> {
-    let text = idle_with(rt, alloc, changes)?;
+fn is_accepted(rt: &impl Abort, alloc: Global, changes: [Change; 2]) {
+    let text = idle_with(rt, alloc, changes);
     is_found(
         rt,
         alloc,
@@ -145,55 +142,41 @@ fn is_accepted(rt: &impl Abort, alloc: Global, changes: [Change; 2]) -> Result<(
         Ok(Outcome::Accepted),
         changes[0].1,
     );
-    Ok(())
 }
 
 #[test]
-fn true_premises_are_accepted(rt: HostRuntime) -> Result<(), Fail> {
+fn true_premises_are_accepted(rt: HostRuntime) {
     for changes in &TRUE {
-        is_accepted(&rt, rt.alloc(), *changes)?;
+        is_accepted(&rt, rt.alloc(), *changes);
     }
-    Ok(())
 }
 
 /// Another verdict.
 const VERDICT: Change = (r#""safe""#, r#""stale""#);
 
 /// Asserts what is found of a play with a false premise that is told, with its verdict and with another one.
-fn told_is_found(
-    rt: &impl Abort,
-    alloc: Global,
-    hidden: &str,
-    told: Change,
-    case: &str,
-) -> Result<(), AllocError> {
-    let honest = changed(rt, alloc, hidden, told)?;
+fn told_is_found(rt: &impl Abort, alloc: Global, hidden: &str, told: Change, case: &str) {
+    let honest = must(rt, changed(rt, alloc, hidden, told));
     let wanted = Ok(Outcome::PremiseFalse);
     is_found(rt, alloc, honest.as_str(), wanted, case);
     let wanted = Ok(Outcome::VerdictDiffers);
-    is_found_with(rt, alloc, honest.as_str(), VERDICT, wanted)
+    is_found_with(rt, alloc, honest.as_str(), VERDICT, wanted);
 }
 
 /// Asserts what is found of the idle play with two changes, which make a premise false, before that is told and then.
-fn false_is_found(
-    rt: &impl Abort,
-    alloc: Global,
-    changes: [Change; 2],
-    told: Change,
-) -> Result<(), AllocError> {
-    let hidden = idle_with(rt, alloc, changes)?;
+fn false_is_found(rt: &impl Abort, alloc: Global, changes: [Change; 2], told: Change) {
+    let hidden = idle_with(rt, alloc, changes);
     let case = changes[0].1;
     let wanted = Ok(Outcome::PremisesDiffer);
     is_found(rt, alloc, hidden.as_str(), wanted, case);
-    told_is_found(rt, alloc, hidden.as_str(), told, case)
+    told_is_found(rt, alloc, hidden.as_str(), told, case);
 }
 
 #[test]
-fn a_false_premise_is_found_behind_what_differs(rt: HostRuntime) -> Result<(), Fail> {
+fn a_false_premise_is_found_behind_what_differs(rt: HostRuntime) {
     for (changes, told) in &FALSE {
-        false_is_found(&rt, rt.alloc(), *changes, *told)?;
+        false_is_found(&rt, rt.alloc(), *changes, *told);
     }
-    Ok(())
 }
 
 /// The clocks are too far apart: a set and a get go to the new pool, and the delete between them to the old one alone.
@@ -288,9 +271,8 @@ const OF_STALE: [(Change, Outcome); 8] = [
 ];
 
 #[test]
-fn a_bad_hit_comes_with_a_false_premise(rt: HostRuntime) -> Result<(), Fail> {
+fn a_bad_hit_comes_with_a_false_premise(rt: HostRuntime) {
     for (change, wanted) in &OF_STALE {
-        is_found_with(&rt, rt.alloc(), STALE, *change, Ok(*wanted))?;
+        is_found_with(&rt, rt.alloc(), STALE, *change, Ok(*wanted));
     }
-    Ok(())
 }

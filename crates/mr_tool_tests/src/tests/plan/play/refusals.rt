@@ -88,11 +88,10 @@ const FAULTS: [(Change, PlanError); 12] = [
 ];
 
 #[test]
-fn a_faulty_script_has_no_play(rt: HostRuntime) -> Result<(), Fail> {
+fn a_faulty_script_has_no_play(rt: HostRuntime) {
     for (change, wanted) in &FAULTS {
-        is_found_with(&rt, rt.alloc(), TRANSCRIPT, *change, Err(*wanted))?;
+        is_found_with(&rt, rt.alloc(), TRANSCRIPT, *change, Err(*wanted));
     }
-    Ok(())
 }
 
 #[test]

@@ -2,6 +2,7 @@
 use super::super::filling::{Slot, filled};
 use super::super::outcome;
 use super::*;
+use mr_test_parts::must;
 
 /// Asserts what is found of the transcript between as many spaces as make it so long.
 fn long_is_found(
@@ -9,23 +10,20 @@ fn long_is_found(
     alloc: Global,
     length: usize,
     wanted: Result<Outcome, PlanError>,
-) -> Result<(), AllocError> {
-    let text = padded(alloc, TRANSCRIPT, length)?;
+) {
+    let text = must(rt, padded(alloc, TRANSCRIPT, length));
     is(rt, text.len(), length);
     is_found(rt, alloc, text.as_str(), wanted, "a long transcript");
-    Ok(())
 }
 
 #[test]
-fn a_transcript_of_16777216_bytes_is_read(rt: HostRuntime) -> Result<(), Fail> {
-    long_is_found(&rt, rt.alloc(), 16_777_216, Ok(Outcome::Accepted))?;
-    Ok(())
+fn a_transcript_of_16777216_bytes_is_read(rt: HostRuntime) {
+    long_is_found(&rt, rt.alloc(), 16_777_216, Ok(Outcome::Accepted));
 }
 
 #[test]
-fn a_transcript_of_16777217_bytes_is_too_large(rt: HostRuntime) -> Result<(), Fail> {
-    long_is_found(&rt, rt.alloc(), 16_777_217, Err(PlanError::TooLarge))?;
-    Ok(())
+fn a_transcript_of_16777217_bytes_is_too_large(rt: HostRuntime) {
+    long_is_found(&rt, rt.alloc(), 16_777_217, Err(PlanError::TooLarge));
 }
 
 /// A set's event, without its data.
@@ -74,26 +72,23 @@ fn large_transcript(alloc: Global, reading: &str) -> Result<Result<Vec<u8>, Plan
 }
 
 /// Asserts how long the transcript is, and that it is accepted with the end of a line.
-fn is_accepted(rt: &impl Abort, alloc: Global, transcript: &mut Vec<u8>) -> Result<(), AllocError> {
+fn is_accepted(rt: &impl Abort, alloc: Global, transcript: &mut Vec<u8>) {
     is(rt, transcript.len(), 16_777_215);
-    transcript.push(b'\n')?;
+    must(rt, transcript.push(b'\n'));
     let found = outcome(alloc, transcript.as_slice());
     is(rt, found, Ok(Outcome::Accepted));
-    Ok(())
 }
 
 #[test]
-fn a_transcript_of_16777215_bytes_is_written(rt: HostRuntime) -> Result<(), Fail> {
-    let Ok(mut text) = large_transcript(rt.alloc(), "1000000000000")? else {
-        return Err(Fail::from("refused"));
+fn a_transcript_of_16777215_bytes_is_written(rt: HostRuntime) {
+    let Ok(mut text) = must(&rt, large_transcript(rt.alloc(), "1000000000000")) else {
+        rt.panic("refused");
     };
-    is_accepted(&rt, rt.alloc(), &mut text)?;
-    Ok(())
+    is_accepted(&rt, rt.alloc(), &mut text);
 }
 
 #[test]
-fn a_longer_transcript_is_too_large(rt: HostRuntime) -> Result<(), Fail> {
-    let refusal = large_transcript(rt.alloc(), "10000000000000")?.err();
+fn a_longer_transcript_is_too_large(rt: HostRuntime) {
+    let refusal = must(&rt, large_transcript(rt.alloc(), "10000000000000")).err();
     is(&rt, refusal, Some(PlanError::TooLarge));
-    Ok(())
 }

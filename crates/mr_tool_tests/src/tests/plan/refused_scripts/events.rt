@@ -1,6 +1,6 @@
 //! Events that can't be made. Each is refused by its index.
 use super::*;
-use std::test::Fail;
+use mr_test_parts::must;
 
 /// What is changed in one event, by the event's index.
 const BAD_PARTS: [(usize, &str, &str); 47] = [
@@ -54,12 +54,11 @@ const BAD_PARTS: [(usize, &str, &str); 47] = [
 ];
 
 #[test]
-fn a_faulty_event_is_refused(rt: HostRuntime) -> Result<(), Fail> {
+fn a_faulty_event_is_refused(rt: HostRuntime) {
     for (index, part, new) in &BAD_PARTS {
         let wanted = Some(PlanError::BadEvent(*index));
-        is_told(&rt, rt.alloc(), part, new, wanted)?;
+        is_told(&rt, rt.alloc(), part, new, wanted);
     }
-    Ok(())
 }
 
 /// The requests of the script: a get, a set and a delete.
@@ -95,9 +94,8 @@ const BAD_GETS: [&str; 20] = [
 ];
 
 #[test]
-fn a_faulty_get_is_refused(rt: HostRuntime) -> Result<(), Fail> {
-    event_is_told(&rt, rt.alloc(), GET, &BAD_GETS, 1)?;
-    Ok(())
+fn a_faulty_get_is_refused(rt: HostRuntime) {
+    event_is_told(&rt, rt.alloc(), GET, &BAD_GETS, 1);
 }
 
 /// What is changed in the script's set.
@@ -129,17 +127,16 @@ const BAD_SETS: [Change; 24] = [
 ];
 
 /// Asserts that the script is none for its set with one part changed.
-fn set_is_told(rt: &impl Abort, alloc: Global, change: Change) -> Result<(), AllocError> {
-    let set = changed(rt, alloc, SET, change)?;
-    is_told(rt, alloc, SET, set.as_str(), Some(PlanError::BadEvent(2)))
+fn set_is_told(rt: &impl Abort, alloc: Global, change: Change) {
+    let set = must(rt, changed(rt, alloc, SET, change));
+    is_told(rt, alloc, SET, set.as_str(), Some(PlanError::BadEvent(2)));
 }
 
 #[test]
-fn a_faulty_set_is_refused(rt: HostRuntime) -> Result<(), Fail> {
+fn a_faulty_set_is_refused(rt: HostRuntime) {
     for change in &BAD_SETS {
-        set_is_told(&rt, rt.alloc(), *change)?;
+        set_is_told(&rt, rt.alloc(), *change);
     }
-    Ok(())
 }
 
 /// Requests that can't be made in the place of the script's delete.
@@ -154,9 +151,8 @@ const BAD_DELETES: [&str; 7] = [
 ];
 
 #[test]
-fn a_faulty_delete_is_refused(rt: HostRuntime) -> Result<(), Fail> {
-    event_is_told(&rt, rt.alloc(), DELETE, &BAD_DELETES, 3)?;
-    Ok(())
+fn a_faulty_delete_is_refused(rt: HostRuntime) {
+    event_is_told(&rt, rt.alloc(), DELETE, &BAD_DELETES, 3);
 }
 
 /// The script's first event, and values in its place.
@@ -165,7 +161,6 @@ const EVENT: &str = r#"{"do": "clock", "proxy": 1, "reading": 10}"#;
 const BAD_EVENTS: [&str; 4] = ["1", "null", "[]", "{}"];
 
 #[test]
-fn an_event_is_an_object(rt: HostRuntime) -> Result<(), Fail> {
-    event_is_told(&rt, rt.alloc(), EVENT, &BAD_EVENTS, 0)?;
-    Ok(())
+fn an_event_is_an_object(rt: HostRuntime) {
+    event_is_told(&rt, rt.alloc(), EVENT, &BAD_EVENTS, 0);
 }

@@ -1,7 +1,7 @@
 //! Where two faults hold at once, the one that is looked for first is told.
 use super::*;
+use mr_test_parts::must;
 use mr_world::WorldError;
-use std::test::Fail;
 
 /// A script that lacks keys or has values of the wrong kind in several places, and what is told of it.
 const WHOLES: [(&str, PlanError); 12] = [
@@ -146,25 +146,17 @@ const PAIRS: [(Change, Change, PlanError); 22] = [
 ];
 
 /// Asserts why the script with two changes is none.
-fn pair_is_told(
-    rt: &impl Abort,
-    alloc: Global,
-    change: Change,
-    other: Change,
-    wanted: PlanError,
-) -> Result<(), AllocError> {
-    let once = changed(rt, alloc, SCRIPT, change)?;
-    let twice = changed(rt, alloc, once.as_str(), other)?;
+fn pair_is_told(rt: &impl Abort, alloc: Global, change: Change, other: Change, wanted: PlanError) {
+    let once = must(rt, changed(rt, alloc, SCRIPT, change));
+    let twice = must(rt, changed(rt, alloc, once.as_str(), other));
     is_for(rt, refusal(alloc, twice.as_str()), Some(wanted), other.1);
-    Ok(())
 }
 
 #[test]
-fn the_first_of_two_faults_is_told(rt: HostRuntime) -> Result<(), Fail> {
+fn the_first_of_two_faults_is_told(rt: HostRuntime) {
     for (change, other, wanted) in &PAIRS {
-        pair_is_told(&rt, rt.alloc(), *change, *other, *wanted)?;
+        pair_is_told(&rt, rt.alloc(), *change, *other, *wanted);
     }
-    Ok(())
 }
 
 /// Lists of which two members are faulty, what stands in the script, and what is told.
@@ -192,7 +184,6 @@ const LISTS: [(&str, &str, PlanError); 4] = [
 ];
 
 #[test]
-fn the_first_faulty_member_is_told(rt: HostRuntime) -> Result<(), Fail> {
-    faults_are_told(&rt, rt.alloc(), &LISTS)?;
-    Ok(())
+fn the_first_faulty_member_is_told(rt: HostRuntime) {
+    faults_are_told(&rt, rt.alloc(), &LISTS);
 }

@@ -3,7 +3,6 @@ use super::*;
 use mr_phases::ScheduleError;
 use mr_pools::PoolError;
 use mr_world::WorldError;
-use std::test::Fail;
 
 /// Texts that are no script with the three keys.
 const WHOLES: [(&str, PlanError); 12] = [
@@ -139,9 +138,8 @@ const FAULTS: [(&str, &str, PlanError); 29] = [
 ];
 
 #[test]
-fn a_faulty_setup_is_refused(rt: HostRuntime) -> Result<(), Fail> {
-    faults_are_told(&rt, rt.alloc(), &FAULTS)?;
-    Ok(())
+fn a_faulty_setup_is_refused(rt: HostRuntime) {
+    faults_are_told(&rt, rt.alloc(), &FAULTS);
 }
 
 /// The items that are held in the script.
@@ -251,9 +249,8 @@ const BAD_HELD: [(&str, PlanError); 27] = [
 ];
 
 #[test]
-fn a_faulty_item_is_refused(rt: HostRuntime) -> Result<(), Fail> {
-    texts_are_told(&rt, rt.alloc(), HELD, &BAD_HELD)?;
-    Ok(())
+fn a_faulty_item_is_refused(rt: HostRuntime) {
+    texts_are_told(&rt, rt.alloc(), HELD, &BAD_HELD);
 }
 
 /// The proxies of the script.
@@ -293,7 +290,6 @@ const BAD_PROXIES: [(&str, PlanError); 14] = [
 ];
 
 #[test]
-fn a_faulty_proxy_is_refused(rt: HostRuntime) -> Result<(), Fail> {
-    texts_are_told(&rt, rt.alloc(), PROXIES, &BAD_PROXIES)?;
-    Ok(())
+fn a_faulty_proxy_is_refused(rt: HostRuntime) {
+    texts_are_told(&rt, rt.alloc(), PROXIES, &BAD_PROXIES);
 }

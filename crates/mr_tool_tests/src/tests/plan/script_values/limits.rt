@@ -1,7 +1,7 @@
 //! The lengths of keys, blocks, names and lists, on both sides of each limit.
 use super::*;
+use mr_test_parts::must;
 use mr_world::WorldError;
-use std::test::Fail;
 
 /// A text in the script, what comes before and behind so many characters `x` in its place, and what is told.
 type Long = (
@@ -102,43 +102,34 @@ fn many_are_told(
     part: &str,
     many: Many<'_>,
     (count, wanted): Limit,
-) -> Result<(), AllocError> {
-    let text = many.text(alloc, count)?;
-    is(rt, refusal_with(rt, alloc, part, text.as_str())?, wanted);
-    Ok(())
+) {
+    let text = must(rt, many.text(alloc, count));
+    is(rt, refusal_with(rt, alloc, part, text.as_str()), wanted);
 }
 
 /// Asserts the same of each of these numbers.
-fn has_limit(
-    rt: &impl Abort,
-    alloc: Global,
-    part: &str,
-    many: Many<'_>,
-    limits: &[Limit],
-) -> Result<(), AllocError> {
+fn has_limit(rt: &impl Abort, alloc: Global, part: &str, many: Many<'_>, limits: &[Limit]) {
     for limit in limits {
-        many_are_told(rt, alloc, part, many, *limit)?;
+        many_are_told(rt, alloc, part, many, *limit);
     }
-    Ok(())
 }
 
 /// Asserts what is told of a text that is long.
-fn long_is_told(rt: &impl Abort, alloc: Global, row: &Long) -> Result<(), AllocError> {
+fn long_is_told(rt: &impl Abort, alloc: Global, row: &Long) {
     let (part, before, count, after, wanted) = row;
     let many = Many {
         before,
         each: "x",
         after,
     };
-    many_are_told(rt, alloc, part, many, (*count, *wanted))
+    many_are_told(rt, alloc, part, many, (*count, *wanted));
 }
 
 #[test]
-fn keys_blocks_and_names_have_limits(rt: HostRuntime) -> Result<(), Fail> {
+fn keys_blocks_and_names_have_limits(rt: HostRuntime) {
     for row in &LONG {
-        long_is_told(&rt, rt.alloc(), row)?;
+        long_is_told(&rt, rt.alloc(), row);
     }
-    Ok(())
 }
 
 /// A key and a block of characters above 127. These count as one byte each, though they have two in the text.
@@ -155,12 +146,11 @@ const WIDE_BLOCK: Many<'static> = Many {
 };
 
 #[test]
-fn a_character_is_one_byte(rt: HostRuntime) -> Result<(), Fail> {
+fn a_character_is_one_byte(rt: HostRuntime) {
     let keys = [(250, None), (251, Some(PlanError::BadEvent(2)))];
-    has_limit(&rt, rt.alloc(), r#""key": "b""#, WIDE_KEY, &keys)?;
+    has_limit(&rt, rt.alloc(), r#""key": "b""#, WIDE_KEY, &keys);
     let blocks = [(8192, None), (8193, Some(PlanError::WrongKind))];
-    has_limit(&rt, rt.alloc(), r#""data": "d""#, WIDE_BLOCK, &blocks)?;
-    Ok(())
+    has_limit(&rt, rt.alloc(), r#""data": "d""#, WIDE_BLOCK, &blocks);
 }
 
 /// How many keys of one byte follow these of two, and what is told of the get of them. The line of a get has three bytes
@@ -173,26 +163,20 @@ const KEYS: [(&str, usize, Option<PlanError>); 4] = [
 ];
 
 /// Asserts what is told of a get of these keys and so many of one byte.
-fn keys_are_told(
-    rt: &impl Abort,
-    alloc: Global,
-    first: &str,
-    limit: Limit,
-) -> Result<(), AllocError> {
+fn keys_are_told(rt: &impl Abort, alloc: Global, first: &str, limit: Limit) {
     let many = Many {
         before: first,
         each: ",\"k\"",
         after: "",
     };
-    many_are_told(rt, alloc, r#""a", "k""#, many, limit)
+    many_are_told(rt, alloc, r#""a", "k""#, many, limit);
 }
 
 #[test]
-fn the_keys_of_a_get_fit_a_line(rt: HostRuntime) -> Result<(), Fail> {
+fn the_keys_of_a_get_fit_a_line(rt: HostRuntime) {
     for (first, count, wanted) in &KEYS {
-        keys_are_told(&rt, rt.alloc(), first, (*count, *wanted))?;
+        keys_are_told(&rt, rt.alloc(), first, (*count, *wanted));
     }
-    Ok(())
 }
 
 /// One proxy, and the same behind a comma.
@@ -205,10 +189,9 @@ const PROXIES: Many<'static> = Many {
 };
 
 #[test]
-fn a_script_has_up_to_64_proxies(rt: HostRuntime) -> Result<(), Fail> {
+fn a_script_has_up_to_64_proxies(rt: HostRuntime) {
     let limits = [(63, None), (64, Some(PlanError::TooLarge))];
-    has_limit(&rt, rt.alloc(), PROXY, PROXIES, &limits)?;
-    Ok(())
+    has_limit(&rt, rt.alloc(), PROXY, PROXIES, &limits);
 }
 
 /// One item that is held, and the same behind a comma.
@@ -221,10 +204,9 @@ const ITEMS: Many<'static> = Many {
 };
 
 #[test]
-fn a_script_has_up_to_65536_items(rt: HostRuntime) -> Result<(), Fail> {
+fn a_script_has_up_to_65536_items(rt: HostRuntime) {
     let limits = [(65_535, None), (65_536, Some(PlanError::TooLarge))];
-    has_limit(&rt, rt.alloc(), ITEM, ITEMS, &limits)?;
-    Ok(())
+    has_limit(&rt, rt.alloc(), ITEM, ITEMS, &limits);
 }
 
 /// The script's first event, and one more behind a comma.
@@ -238,24 +220,17 @@ const EVENTS: Many<'static> = Many {
 
 /// The script has eight events beside the first.
 #[test]
-fn a_script_has_up_to_65536_events(rt: HostRuntime) -> Result<(), Fail> {
+fn a_script_has_up_to_65536_events(rt: HostRuntime) {
     let limits = [(65_527, None), (65_528, Some(PlanError::TooLarge))];
-    has_limit(&rt, rt.alloc(), EVENT, EVENTS, &limits)?;
-    Ok(())
+    has_limit(&rt, rt.alloc(), EVENT, EVENTS, &limits);
 }
 
 /// Asserts why the script with a part changed and with 65 proxies is none.
-fn is_told_beside_proxies(
-    rt: &impl Abort,
-    alloc: Global,
-    change: (&str, &str),
-    wanted: PlanError,
-) -> Result<(), AllocError> {
-    let proxies = PROXIES.text(alloc, 64)?;
-    let script = changed(rt, alloc, SCRIPT, (PROXY, proxies.as_str()))?;
-    let script = changed(rt, alloc, script.as_str(), change)?;
+fn is_told_beside_proxies(rt: &impl Abort, alloc: Global, change: (&str, &str), wanted: PlanError) {
+    let proxies = must(rt, PROXIES.text(alloc, 64));
+    let script = must(rt, changed(rt, alloc, SCRIPT, (PROXY, proxies.as_str())));
+    let script = must(rt, changed(rt, alloc, script.as_str(), change));
     is_for(rt, refusal(alloc, script.as_str()), Some(wanted), change.1);
-    Ok(())
 }
 
 /// Another fault of a script that has too many proxies, and what is told.
@@ -276,9 +251,8 @@ const BESIDE_PROXIES: [(&str, &str, PlanError); 5] = [
 ];
 
 #[test]
-fn lists_are_counted_behind_the_setup(rt: HostRuntime) -> Result<(), Fail> {
+fn lists_are_counted_behind_the_setup(rt: HostRuntime) {
     for (part, new, wanted) in &BESIDE_PROXIES {
-        is_told_beside_proxies(&rt, rt.alloc(), (*part, *new), *wanted)?;
+        is_told_beside_proxies(&rt, rt.alloc(), (*part, *new), *wanted);
     }
-    Ok(())
 }

@@ -1,8 +1,8 @@
 //! Bytes that are no JSON, and what of JSON is no matter: the same for configurations, scripts and transcripts.
 use super::*;
 use mr_plan::Config;
+use mr_test_parts::must;
 use mr_transcripts::check_transcript;
-use std::test::Fail;
 
 /// Asserts what a configuration of these bytes is refused for, and what a script and a transcript are refused for.
 fn are_refused(
@@ -111,19 +111,17 @@ const NESTED: [Nested; 4] = [
 ];
 
 /// Asserts what all three are refused for where a value stands within others.
-fn nested_is_refused(rt: &impl Abort, alloc: Global, row: Nested) -> Result<(), AllocError> {
+fn nested_is_refused(rt: &impl Abort, alloc: Global, row: Nested) {
     let (open, depth, close, wanted) = row;
-    let text = nested(alloc, open, depth, close)?;
+    let text = must(rt, nested(alloc, open, depth, close));
     are_refused(rt, alloc, text.as_bytes(), wanted, wanted);
-    Ok(())
 }
 
 #[test]
-fn json_nests_up_to_127(rt: HostRuntime) -> Result<(), Fail> {
+fn json_nests_up_to_127(rt: HostRuntime) {
     for row in &NESTED {
-        nested_is_refused(&rt, rt.alloc(), *row)?;
+        nested_is_refused(&rt, rt.alloc(), *row);
     }
-    Ok(())
 }
 
 /// How deep a value stands below `capacity`, which is within two objects, and what is told.
@@ -133,23 +131,20 @@ const NESTED_WITHIN: [(usize, PlanError); 2] = [
 ];
 
 /// Asserts what is told of a script with a value that deep below `capacity`.
-fn nested_is_told(
-    rt: &impl Abort,
-    alloc: Global,
-    depth: usize,
-    wanted: PlanError,
-) -> Result<(), AllocError> {
-    let mut new = String::from_str(alloc, "\"capacity\": ")?;
-    new.push_str(nested(alloc, "[", depth, "]")?.as_str())?;
-    is_told(rt, alloc, r#""capacity": 4"#, new.as_str(), Some(wanted))
+fn nested_is_told(rt: &impl Abort, alloc: Global, depth: usize, wanted: PlanError) {
+    let mut new = must(rt, String::from_str(alloc, "\"capacity\": "));
+    must(
+        rt,
+        new.push_str(must(rt, nested(alloc, "[", depth, "]")).as_str()),
+    );
+    is_told(rt, alloc, r#""capacity": 4"#, new.as_str(), Some(wanted));
 }
 
 #[test]
-fn a_script_nests_as_a_whole(rt: HostRuntime) -> Result<(), Fail> {
+fn a_script_nests_as_a_whole(rt: HostRuntime) {
     for (depth, wanted) in &NESTED_WITHIN {
-        nested_is_told(&rt, rt.alloc(), *depth, *wanted)?;
+        nested_is_told(&rt, rt.alloc(), *depth, *wanted);
     }
-    Ok(())
 }
 
 /// A key that stands twice, and what is told of its last value.
@@ -201,46 +196,32 @@ const REPEATED: [(&str, &str, Option<PlanError>); 12] = [
 ];
 
 #[test]
-fn the_last_value_of_a_key_counts(rt: HostRuntime) -> Result<(), Fail> {
+fn the_last_value_of_a_key_counts(rt: HostRuntime) {
     for (part, new, wanted) in &REPEATED {
-        is_told(&rt, rt.alloc(), part, new, *wanted)?;
+        is_told(&rt, rt.alloc(), part, new, *wanted);
     }
-    Ok(())
 }
 
 /// Asserts what is told of the script between as many spaces as make it so long.
-fn long_is_told(
-    rt: &impl Abort,
-    alloc: Global,
-    length: usize,
-    wanted: Option<PlanError>,
-) -> Result<(), AllocError> {
-    let text = padded(alloc, SCRIPT, length)?;
+fn long_is_told(rt: &impl Abort, alloc: Global, length: usize, wanted: Option<PlanError>) {
+    let text = must(rt, padded(alloc, SCRIPT, length));
     is(rt, text.len(), length);
     is(rt, refusal(alloc, text.as_str()), wanted);
-    Ok(())
 }
 
 #[test]
-fn a_script_of_16777216_bytes_is_read(rt: HostRuntime) -> Result<(), Fail> {
-    long_is_told(&rt, rt.alloc(), 16_777_216, None)?;
-    Ok(())
+fn a_script_of_16777216_bytes_is_read(rt: HostRuntime) {
+    long_is_told(&rt, rt.alloc(), 16_777_216, None);
 }
 
 #[test]
-fn a_script_of_16777217_bytes_is_too_large(rt: HostRuntime) -> Result<(), Fail> {
-    long_is_told(&rt, rt.alloc(), 16_777_217, Some(PlanError::TooLarge))?;
-    Ok(())
+fn a_script_of_16777217_bytes_is_too_large(rt: HostRuntime) {
+    long_is_told(&rt, rt.alloc(), 16_777_217, Some(PlanError::TooLarge));
 }
 
 /// Asserts what a configuration of so many braces is refused for, and what a script and a transcript are refused for.
-fn braces_are_refused(
-    rt: &impl Abort,
-    alloc: Global,
-    length: usize,
-    wanted_of_scripts: PlanError,
-) -> Result<(), AllocError> {
-    let text = "{".repeat(alloc, length)?;
+fn braces_are_refused(rt: &impl Abort, alloc: Global, length: usize, wanted_of_scripts: PlanError) {
+    let text = must(rt, "{".repeat(alloc, length));
     are_refused(
         rt,
         alloc,
@@ -248,12 +229,10 @@ fn braces_are_refused(
         PlanError::NotJson,
         wanted_of_scripts,
     );
-    Ok(())
 }
 
 #[test]
-fn the_size_is_looked_at_before_the_text(rt: HostRuntime) -> Result<(), Fail> {
-    braces_are_refused(&rt, rt.alloc(), 16_777_216, PlanError::NotJson)?;
-    braces_are_refused(&rt, rt.alloc(), 16_777_217, PlanError::TooLarge)?;
-    Ok(())
+fn the_size_is_looked_at_before_the_text(rt: HostRuntime) {
+    braces_are_refused(&rt, rt.alloc(), 16_777_216, PlanError::NotJson);
+    braces_are_refused(&rt, rt.alloc(), 16_777_217, PlanError::TooLarge);
 }

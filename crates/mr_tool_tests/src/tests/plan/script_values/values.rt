@@ -5,6 +5,7 @@ use super::*;
 use mr_history::OpId;
 use mr_phases::Schedule;
 use mr_pools::NamedHash;
+use mr_test_parts::must;
 use mr_text::{Key, Request};
 use mr_world::{Event, HeldItem, ProxySetup, Setup};
 use std::test::Fail;
@@ -21,14 +22,14 @@ fn read(rt: &impl Abort, alloc: Global, text: &str, case: &str) -> Result<Script
 }
 
 /// The script with one part changed, read.
-fn read_with(rt: &impl Abort, alloc: Global, part: &str, new: &str) -> Result<Script, Fail> {
-    let text = changed(rt, alloc, SCRIPT, (part, new))?;
-    read(rt, alloc, text.as_str(), new)
+fn read_with(rt: &impl Abort, alloc: Global, part: &str, new: &str) -> Script {
+    let text = must(rt, changed(rt, alloc, SCRIPT, (part, new)));
+    must(rt, read(rt, alloc, text.as_str(), new))
 }
 
 /// The script as it stands, read.
-fn read_whole(rt: &impl Abort, alloc: Global) -> Result<Script, Fail> {
-    read(rt, alloc, SCRIPT, "the script")
+fn read_whole(rt: &impl Abort, alloc: Global) -> Script {
+    must(rt, read(rt, alloc, SCRIPT, "the script"))
 }
 
 /// Whether an item is the one that is held in the script.
@@ -53,23 +54,22 @@ fn is_common(rt: &impl Abort, proxy: &ProxySetup) {
 }
 
 /// Asserts what the script says of its setup.
-fn setup_is_so(rt: &impl Abort, setup: &Setup) -> Result<(), Fail> {
+fn setup_is_so(rt: &impl Abort, setup: &Setup) {
     is(rt, setup.capacity(), 4);
     let [item] = setup.held() else {
-        return Err(Fail::from("no item"));
+        rt.panic("no item");
     };
     is(rt, is_held(item), true);
     let [proxy] = setup.proxies() else {
-        return Err(Fail::from("no proxy"));
+        rt.panic("no proxy");
     };
     is(rt, (proxy.reading, proxy.room) == (999, 3), true);
     is_common(rt, proxy);
-    Ok(())
 }
 
 #[test]
-fn a_setup_is_read(rt: HostRuntime) -> Result<(), Fail> {
-    setup_is_so(&rt, read_whole(&rt, rt.alloc())?.setup())
+fn a_setup_is_read(rt: HostRuntime) {
+    setup_is_so(&rt, read_whole(&rt, rt.alloc()).setup());
 }
 
 /// Asserts that a proxy has the configuration of its own that the script below gives it.
@@ -85,21 +85,20 @@ const TWO: &str =
     r#"{"reading": 1, "room": 2}, {"reading": 3, "room": 4, "config": {"pools": {"a": {"servers": ["x"]}, "b": {"servers": ["7101"]}}, "route": {"type": "MigrateRoute", "from": "PoolRoute|a", "to": "PoolRoute|b", "start_time": 7}}}"#;
 
 /// Asserts what is said of the two.
-fn proxies_are_so(rt: &impl Abort, proxies: &[ProxySetup]) -> Result<(), Fail> {
+fn proxies_are_so(rt: &impl Abort, proxies: &[ProxySetup]) {
     let [first, second] = proxies else {
-        return Err(Fail::from("no two proxies"));
+        rt.panic("no two proxies");
     };
     is(rt, (first.reading, first.room) == (1, 2), true);
     is_common(rt, first);
     is(rt, (second.reading, second.room) == (3, 4), true);
     is_own(rt, second);
-    Ok(())
 }
 
 #[test]
-fn a_proxy_may_have_its_own_configuration(rt: HostRuntime) -> Result<(), Fail> {
-    let script = read_with(&rt, rt.alloc(), r#"{"reading": 999, "room": 3}"#, TWO)?;
-    proxies_are_so(&rt, script.setup().proxies())
+fn a_proxy_may_have_its_own_configuration(rt: HostRuntime) {
+    let script = read_with(&rt, rt.alloc(), r#"{"reading": 999, "room": 3}"#, TWO);
+    proxies_are_so(&rt, script.setup().proxies());
 }
 
 /// An event of a script as plain values.
@@ -164,9 +163,8 @@ fn events_are_so(rt: &impl Abort, events: &[Event]) {
 }
 
 #[test]
-fn events_are_read_in_order(rt: HostRuntime) -> Result<(), Fail> {
-    events_are_so(&rt, read_whole(&rt, rt.alloc())?.events());
-    Ok(())
+fn events_are_read_in_order(rt: HostRuntime) {
+    events_are_so(&rt, read_whole(&rt, rt.alloc()).events());
 }
 
 /// The request of the event at this index.
@@ -196,24 +194,16 @@ const SET_NUMBERS: [(&str, &str, (u32, i64)); 6] = [
 ];
 
 /// Asserts the numbers of the script's set with one part changed.
-fn numbers_are(
-    rt: &impl Abort,
-    alloc: Global,
-    part: &str,
-    new: &str,
-    wanted: (u32, i64),
-) -> Result<(), Fail> {
-    let script = read_with(rt, alloc, part, new)?;
+fn numbers_are(rt: &impl Abort, alloc: Global, part: &str, new: &str, wanted: (u32, i64)) {
+    let script = read_with(rt, alloc, part, new);
     is_for(rt, numbers_of_set(&script) == Some(wanted), true, new);
-    Ok(())
 }
 
 #[test]
-fn a_set_has_numbers_in_their_range(rt: HostRuntime) -> Result<(), Fail> {
+fn a_set_has_numbers_in_their_range(rt: HostRuntime) {
     for (part, new, wanted) in &SET_NUMBERS {
-        numbers_are(&rt, rt.alloc(), part, new, *wanted)?;
+        numbers_are(&rt, rt.alloc(), part, new, *wanted);
     }
-    Ok(())
 }
 
 /// Numbers at the end of their range, and names that the fleet will not know: both can be read.
@@ -238,11 +228,10 @@ const READ: [(&str, &str); 14] = [
 ];
 
 #[test]
-fn numbers_reach_the_ends_of_their_range(rt: HostRuntime) -> Result<(), Fail> {
+fn numbers_reach_the_ends_of_their_range(rt: HostRuntime) {
     for (part, new) in &READ {
-        read_with(&rt, rt.alloc(), part, new)?;
+        read_with(&rt, rt.alloc(), part, new);
     }
-    Ok(())
 }
 
 /// Whether the client of the event at this index wants no answer.
@@ -254,21 +243,15 @@ fn noreply_at(script: &Script, index: usize) -> Option<bool> {
 }
 
 /// Asserts that the event at this index wants an answer where a part is left out.
-fn wants_answer_without(
-    rt: &impl Abort,
-    alloc: Global,
-    part: &str,
-    index: usize,
-) -> Result<(), Fail> {
-    let script = read_with(rt, alloc, part, "")?;
+fn wants_answer_without(rt: &impl Abort, alloc: Global, part: &str, index: usize) {
+    let script = read_with(rt, alloc, part, "");
     is(rt, noreply_at(&script, index) == Some(false), true);
-    Ok(())
 }
 
 #[test]
-fn noreply_is_false_where_it_is_absent(rt: HostRuntime) -> Result<(), Fail> {
-    wants_answer_without(&rt, rt.alloc(), r#", "noreply": true"#, 2)?;
-    wants_answer_without(&rt, rt.alloc(), r#", "noreply": false"#, 3)
+fn noreply_is_false_where_it_is_absent(rt: HostRuntime) {
+    wants_answer_without(&rt, rt.alloc(), r#", "noreply": true"#, 2);
+    wants_answer_without(&rt, rt.alloc(), r#", "noreply": false"#, 3);
 }
 
 /// A character as a script may write it, and the byte that it is.
@@ -293,25 +276,19 @@ fn quoted(alloc: Global, text: &str) -> Result<String, AllocError> {
 }
 
 /// The text with another one in the place of a text within it.
-fn with_text(
-    rt: &impl Abort,
-    alloc: Global,
-    text: &str,
-    old: &str,
-    new: &str,
-) -> Result<String, AllocError> {
-    let old = quoted(alloc, old)?;
-    let new = quoted(alloc, new)?;
-    changed(rt, alloc, text, (old.as_str(), new.as_str()))
+fn with_text(rt: &impl Abort, alloc: Global, text: &str, old: &str, new: &str) -> String {
+    let old = must(rt, quoted(alloc, old));
+    let new = must(rt, quoted(alloc, new));
+    must(rt, changed(rt, alloc, text, (old.as_str(), new.as_str())))
 }
 
 /// The script with this character as each key and each block.
-fn script_of_one(rt: &impl Abort, alloc: Global, character: &str) -> Result<String, AllocError> {
-    let mut text = String::from_str(alloc, SCRIPT)?;
+fn script_of_one(rt: &impl Abort, alloc: Global, character: &str) -> String {
+    let mut text = must(rt, String::from_str(alloc, SCRIPT));
     for part in &["a", "b", "c", "d", "h", "v"] {
-        text = with_text(rt, alloc, text.as_str(), part, character)?;
+        text = with_text(rt, alloc, text.as_str(), part, character);
     }
-    Ok(text)
+    text
 }
 
 /// Whether these are this one byte.
@@ -359,19 +336,17 @@ fn is_script_of_one(script: &Script, byte: u8) -> bool {
 }
 
 /// Asserts that a character is this byte.
-fn is_byte(rt: &impl Abort, alloc: Global, character: &str, byte: u8) -> Result<(), Fail> {
-    let text = script_of_one(rt, alloc, character)?;
-    let script = read(rt, alloc, text.as_str(), character)?;
+fn is_byte(rt: &impl Abort, alloc: Global, character: &str, byte: u8) {
+    let text = script_of_one(rt, alloc, character);
+    let script = must(rt, read(rt, alloc, text.as_str(), character));
     is_for(rt, is_script_of_one(&script, byte), true, character);
-    Ok(())
 }
 
 #[test]
-fn a_character_is_the_byte_of_its_code_point(rt: HostRuntime) -> Result<(), Fail> {
+fn a_character_is_the_byte_of_its_code_point(rt: HostRuntime) {
     for (character, byte) in &CHARACTERS {
-        is_byte(&rt, rt.alloc(), character, *byte)?;
+        is_byte(&rt, rt.alloc(), character, *byte);
     }
-    Ok(())
 }
 
 /// A setup without proxies has no nodes, whose capacity is then no matter.
