@@ -14,6 +14,14 @@ use std::alloc::Global;
 use std::process::Abort;
 use std::test::Fail;
 
+/// What a call gave that has to go well. A test ends here where it failed.
+fn must<T, E>(rt: &impl Abort, called: Result<T, E>) -> T {
+    match called {
+        Ok(value) => value,
+        Err(_) => rt.panic("a call failed that has to go well"),
+    }
+}
+
 /// Asserts that something holds.
 fn holds(rt: &impl Abort, fact: bool) {
     assert!(rt; fact);

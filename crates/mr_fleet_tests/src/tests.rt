@@ -7,6 +7,14 @@ use mr_pools::{NodeName, Pool};
 use std::alloc::{AllocError, Global};
 use std::process::Abort;
 
+/// What a call gave that has to go well. A test ends here where it failed.
+fn must<T, E>(rt: &impl Abort, called: Result<T, E>) -> T {
+    match called {
+        Ok(value) => value,
+        Err(_) => rt.panic("a call failed that has to go well"),
+    }
+}
+
 /// Asserts that something holds.
 fn holds(rt: &impl Abort, fact: bool) {
     assert!(rt; fact);

@@ -1,13 +1,11 @@
 //! What the tests of several crates are made of: values and texts, a reader of either stream, and a writer that fails in
-//! the middle of a piece. Nothing here asserts but that a call goes well.
+//! the middle of a piece. Nothing here asserts.
 #![tactic(auto)]
 
 mod making;
 mod reading;
 mod takes_half;
-mod well;
 
 pub use making::{add_repeated, first_cell, repeated_keys, reply_text, request_text};
 pub use reading::{Reader, Texts, add_answers, answers_in_two};
 pub use takes_half::TakesHalf;
-pub use well::must;

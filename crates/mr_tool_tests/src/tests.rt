@@ -6,6 +6,14 @@ mod world;
 use std::fmt::Debug;
 use std::process::Abort;
 
+/// What a call gave that has to go well. A test ends here where it failed.
+fn must<T, E>(rt: &impl Abort, called: Result<T, E>) -> T {
+    match called {
+        Ok(value) => value,
+        Err(_) => rt.panic("a call failed that has to go well"),
+    }
+}
+
 /// Asserts which value there is.
 fn is<T: PartialEq + Debug + Drop>(rt: &impl Abort, value: T, wanted: T) {
     assert_eq!(rt; value, wanted);

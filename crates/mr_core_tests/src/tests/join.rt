@@ -1,8 +1,8 @@
 //! Replies joined in either order, and the worse of two.
 use super::{are, holds};
+use crate::tests::must;
 use mr_join::{Joined, Joining, LegReply, worse};
 use mr_phases::Side;
-use mr_test_parts::must;
 use mr_text::{Block, Cause};
 use std::process::Abort;
 use std::test::Fail;

@@ -1,9 +1,9 @@
 //! A migration that starts at 1000 with an interval of 100 seconds.
 use super::{are, count_is, holds, number_is};
+use crate::tests::must;
 use mr_phases::{
     Judged, PhaseName, RequestKind, Schedule, ScheduleError, Side, Sides, judge, laws,
 };
-use mr_test_parts::must;
 use std::alloc::Global;
 use std::fmt::Display;
 use std::process::Abort;

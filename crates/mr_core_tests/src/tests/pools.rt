@@ -1,7 +1,7 @@
 //! Worked values of names, hashes, pools and routings.
 use super::{are, count_is, holds, pool, routing};
+use crate::tests::must;
 use mr_pools::{Fnv1a32, KeyHash, NamedHash, NodeName, Pool, PoolError, Routing, SumHash, laws};
-use mr_test_parts::must;
 use mr_text::Key;
 use std::alloc::Global;
 use std::process::Abort;

@@ -6,7 +6,8 @@ mod values;
 mod writer;
 
 use super::{are, count_is, holds, repeated};
-use mr_test_parts::{must, reply_text, request_text};
+use crate::tests::must;
+use mr_test_parts::{reply_text, request_text};
 use mr_text::{Block, Item, Key, Reply, Request, TextError};
 use std::alloc::Global;
 use std::process::Abort;

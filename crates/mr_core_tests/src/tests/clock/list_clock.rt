@@ -1,7 +1,7 @@
 //! Clocks whose readings are given.
 use super::shows;
+use crate::tests::must;
 use mr_clock::{FixedClock, ListClock};
-use mr_test_parts::must;
 use std::process::Abort;
 
 /// Asserts what a clock shows, one reading after the other.

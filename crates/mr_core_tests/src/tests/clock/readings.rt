@@ -1,7 +1,7 @@
 //! The readings of a fleet.
 use super::{holds, number_is};
+use crate::tests::must;
 use mr_clock::{ClockError, ClockFault, Readings};
-use mr_test_parts::must;
 use std::process::Abort;
 
 /// Asserts the greatest difference that there was, and whether a reading went back.

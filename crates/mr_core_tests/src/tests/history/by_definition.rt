@@ -1,7 +1,7 @@
 //! The judge beside the definition's own words: every hit, every Stored entry, every delete.
 use super::making::*;
 use super::*;
-use mr_test_parts::must;
+use crate::tests::must;
 
 /// A small generator of numbers.
 #[derive(Clone, Copy)]

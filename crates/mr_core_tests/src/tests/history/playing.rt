@@ -1,7 +1,7 @@
 //! Histories as plain values, and what is asserted of each.
 use super::making::*;
 use super::*;
-use mr_test_parts::must;
+use crate::tests::must;
 
 /// The first request of the first proxy.
 pub const FIRST: OpId = OpId {

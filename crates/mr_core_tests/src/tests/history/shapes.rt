@@ -1,7 +1,7 @@
 //! Which entries fit, room and copies.
 use super::playing::*;
 use super::*;
-use mr_test_parts::must;
+use crate::tests::must;
 
 /// Entries of an op that was never issued, an item that is held from the beginning, and a request of another proxy.
 static UNKNOWN: Run = Run {

@@ -1,7 +1,7 @@
 //! What a cache answers and keeps.
 use super::{Came, Told, count_is, expiry, holds, key};
+use crate::tests::must;
 use mr_node::{CacheNode, NodeCommand, NodeError, Perform};
-use mr_test_parts::must;
 use std::alloc::Global;
 use std::process::Abort;
 use std::test::Fail;

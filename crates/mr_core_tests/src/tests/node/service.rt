@@ -1,9 +1,10 @@
 //! What a service answers to texts, and what it leaves where a device fails.
 use super::devices::{AMPLE, Given, Left, Shown, serve_input};
 use super::{are, count_is, expiry, holds, key};
+use crate::tests::must;
 use mr_clock::{Clock, FixedClock, ListClock};
 use mr_node::{CacheNode, Ended, NodeError};
-use mr_test_parts::{add_repeated, must};
+use mr_test_parts::add_repeated;
 use std::alloc::Global;
 use std::cell::Cell;
 use std::process::Abort;

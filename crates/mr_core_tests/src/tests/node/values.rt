@@ -1,7 +1,7 @@
 //! Copies of items, and the numbers of errors.
 use super::{Told, holds, key};
+use crate::tests::must;
 use mr_node::{CacheNode, CachedItem, NodeError, Perform};
-use mr_test_parts::must;
 use std::alloc::Global;
 use std::process::Abort;
 use std::test::Fail;

@@ -1,7 +1,8 @@
 //! What a client reads of an answer, in how many calls it goes out, and what is left where one of them fails.
 use super::{Asked, Came, answer_to, are, count_is, holds};
+use crate::tests::must;
 use mr_proxy::Answer;
-use mr_test_parts::{TakesHalf, add_repeated, must, reply_text};
+use mr_test_parts::{TakesHalf, add_repeated, reply_text};
 use mr_text::OverWriter;
 use std::alloc::Global;
 use std::process::Abort;

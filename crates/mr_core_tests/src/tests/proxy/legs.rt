@@ -1,9 +1,9 @@
 //! Which nodes the legs of a request go to.
 use super::{Asked, core_of, count_is, holds, issue, number_is, request_of};
+use crate::tests::must;
 use mr_join::LegReply;
 use mr_phases::Side;
 use mr_proxy::{Leg, LegBack, LegSheet, ProxyCore, Taken};
-use mr_test_parts::must;
 use std::alloc::Global;
 use std::process::Abort;
 use std::test::Fail;

@@ -1,8 +1,8 @@
 //! What becomes of requests and replies, one after the other.
 use super::{Asked, Came, core_of, is_asked, op_of, reply_of, request_of};
+use crate::tests::must;
 use mr_history::OpId;
 use mr_proxy::{LegId, ProxyCore, ProxyError, Taken};
-use mr_test_parts::must;
 use std::alloc::Global;
 use std::process::Abort;
 use std::test::Fail;

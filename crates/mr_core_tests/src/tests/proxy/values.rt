@@ -1,7 +1,7 @@
 //! What a proxy and an answer tell of themselves.
 use super::{Asked, answer_to, core_of, count_is, holds, is_asked, number_is, op_of};
+use crate::tests::must;
 use mr_proxy::{Answer, ProxyCore, ProxyError};
-use mr_test_parts::must;
 use std::alloc::Global;
 use std::process::Abort;
 

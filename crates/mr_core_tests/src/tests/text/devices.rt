@@ -1,6 +1,6 @@
 //! What goes through to a device, and a device that fails.
 use super::{are, count_is, holds, repeated};
-use mr_test_parts::must;
+use crate::tests::must;
 use mr_text::{FailsAt, OverReader, OverWriter, ReadFault, Sink, Source};
 use std::alloc::Global;
 use std::io;

@@ -1,6 +1,7 @@
 //! Which bytes make a value, and copies of each.
 use super::{are, count_is, is_refused, is_reply, is_request, item, repeated};
-use mr_test_parts::{must, repeated_keys};
+use crate::tests::must;
+use mr_test_parts::repeated_keys;
 use mr_text::{
     Block, Cause, FIXED_BUFFER, Item, ItemList, Key, KeyList, Line, MAX_BLOCK, MAX_ERROR_TEXT,
     MAX_ITEMS, MAX_KEY, MAX_LINE, Reply, Request, TextError,

@@ -2,12 +2,12 @@
 ghost use Rattle.std.specs.Prelude.{◌≡◌, [], false};
 
 use super::{Nodes, carriers, fleet, holds, run, went_well};
+use crate::tests::must;
 use mr_clock::FixedClock;
 use mr_fleet::{FleetEnd, FleetProxy};
 use mr_fleet_clients::FleetClient;
 use mr_node::NodeCommand;
 use mr_proxy::LegSheet;
-use mr_test_parts::must;
 use mr_text::{GhostBytes, GhostCount, OverReader, Sink, Source, WriteFault};
 use mr_workers::{Carrier, Gate};
 use std::alloc::{AllocError, Global};

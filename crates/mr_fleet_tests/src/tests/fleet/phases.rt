@@ -1,9 +1,9 @@
 //! Many clients at once, while the migration goes through all four phases.
 use super::{Nodes, carriers, fleet, holds, run, went_well};
+use crate::tests::must;
 use mr_clock::{Clock, ClockFault};
 use mr_fleet::FleetProxy;
 use mr_fleet_clients::FleetClient;
-use mr_test_parts::must;
 use mr_text::{OverReader, OverWriter, Sink, Source};
 use mr_workers::{Carrier, OpenGate};
 use std::alloc::{AllocError, Global};

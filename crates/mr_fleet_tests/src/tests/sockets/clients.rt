@@ -1,6 +1,6 @@
 //! Clients of a node that leave in the middle, send byte by byte, send garbage, or don't read.
 use super::{answers, asked_whole, half_asked, is, listener, node, node_serves};
-use mr_test_parts::must;
+use crate::tests::must;
 use mr_workers::SharedNode;
 use std::alloc::Global;
 use std::io::Write;

@@ -3,6 +3,7 @@
 ghost use Rattle.std.specs.Prelude.{◌+◌};
 
 use super::{TURNS, answers, is, listener, name_of, node, node_serves};
+use crate::tests::must;
 use mr_clock::FixedClock;
 use mr_history::OpId;
 use mr_join::LegReply;
@@ -11,7 +12,6 @@ use mr_phases::Side;
 use mr_pools::NodeName;
 use mr_proxy::{LegId, LegSheet};
 use mr_sockets::{AcceptFault, Listener, OverListener, SocketCarrier, serve_node};
-use mr_test_parts::must;
 use mr_text::{GhostCount, Key, TextError};
 use mr_workers::{Carrier, SharedNode};
 use std::alloc::Global;

@@ -3,9 +3,9 @@ use super::{
     answers, asked_whole, core_of, half_asked, is, listener, node, node_serves, proxy_serves,
     routing,
 };
+use crate::tests::must;
 use mr_pools::Routing;
 use mr_sockets::SocketCarrier;
-use mr_test_parts::must;
 use mr_workers::{Desk, SharedNode, SharedProxy};
 use std::alloc::{AllocError, Global};
 use std::net::{Net, SocketAddr, TcpListener, TcpStream};

@@ -1,10 +1,10 @@
 //! The worked fleet: two old nodes, three new ones, a proxy and its client. The key `k` is kept by the second old node, so the
 //! other nodes get no leg.
 use super::{answers, core_of, is, listener, node, node_serves, proxy_serves, routing};
+use crate::tests::must;
 use mr_pools::Routing;
 use mr_proxy::ProxyCore;
 use mr_sockets::SocketCarrier;
-use mr_test_parts::must;
 use mr_workers::{Desk, SharedNode, SharedProxy};
 use std::alloc::Global;
 use std::net::{Net, SocketAddr, TcpListener, TcpStream};

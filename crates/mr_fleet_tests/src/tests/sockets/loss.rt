@@ -1,8 +1,8 @@
 //! A node that goes away in the middle of a leg and comes back.
 use super::{answers, core_of, is, listener, node, node_serves, proxy_serves, routing};
+use crate::tests::must;
 use mr_pools::Routing;
 use mr_sockets::SocketCarrier;
-use mr_test_parts::must;
 use mr_workers::{Desk, SharedNode, SharedProxy};
 use std::alloc::Global;
 use std::io::{Read, Write};

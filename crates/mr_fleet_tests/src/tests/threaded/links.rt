@@ -4,13 +4,14 @@ mod breaks;
 mod memory;
 
 use super::devices::{Given, Pieces, Reads, reader, writer};
+use crate::tests::must;
 use mr_history::OpId;
 use mr_join::LegReply;
 use mr_node::NodeCommand;
 use mr_phases::Side;
 use mr_proxy::{LegId, LegSheet};
 use mr_sessions::NodeLink;
-use mr_test_parts::{TakesHalf, must};
+use mr_test_parts::TakesHalf;
 use mr_text::{Block, Cause, FailsAt, Key, OverReader, OverWriter, TextError};
 use mr_workers::{Carrier, WorkerError};
 use std::alloc::Global;

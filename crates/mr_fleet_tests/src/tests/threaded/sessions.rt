@@ -12,10 +12,10 @@ mod strangers;
 
 use super::devices::{Given, Reads, reader, writer};
 use super::{ToNode, carriers, holds, make_nodes, recorded};
+use crate::tests::must;
 use mr_clock::{Clock, FixedClock};
 use mr_node::Ended;
 use mr_sessions::{Served, serve_client};
-use mr_test_parts::must;
 use mr_workers::{Carrier, Carriers, Desk, RecordedProxy, WorkerError};
 use std::alloc::{AllocError, Global};
 use std::process::Abort;

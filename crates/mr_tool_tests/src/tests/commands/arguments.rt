@@ -1,9 +1,9 @@
 //! The program, from its arguments.
 use super::{PLACES, Ran, expect_run, is};
 use crate::tests::commands::files_at::FilesAt;
+use crate::tests::must;
 use mr_commands::run_arguments;
 use mr_sockets::HostServers;
-use mr_test_parts::must;
 use mr_text::{OverReader, OverWriter};
 use std::alloc::Global;
 use std::env::Args;

@@ -1,8 +1,8 @@
 //! Configurations that are refused, and files that can't be read.
 use super::{FLEET, Ran, expect_run, is, plan_words, run_over};
 use crate::tests::commands::files_at::FilesAt;
+use crate::tests::must;
 use mr_commands::{MOST_CONFIG_BYTES, MOST_LOADED};
-use mr_test_parts::must;
 use mr_text::OverReader;
 use std::alloc::Global;
 use std::net::{Net, TcpListener, TcpStream};

@@ -1,6 +1,7 @@
 //! What faults mean.
 use super::{PLACES, Ran, expect_run, is, run};
 use crate::tests::commands::files_at::FilesAt;
+use crate::tests::must;
 use mr_clock::ClockError;
 use mr_commands::run_words;
 use mr_node::NodeError;
@@ -9,7 +10,6 @@ use mr_plan::PlanError;
 use mr_pools::PoolError;
 use mr_proxy::ProxyError;
 use mr_sockets::HostServers;
-use mr_test_parts::must;
 use mr_text::{FailsAt, OverReader, OverWriter, TextError};
 use mr_workers::WorkerError;
 use mr_world::WorldError;

@@ -1,7 +1,7 @@
 //! The files of the system.
 use super::{Ran, expect_run, is, run_over};
+use crate::tests::must;
 use mr_commands::{HostFiles, LoadFault, MOST_LOADED, Sources};
-use mr_test_parts::must;
 use mr_text::OverReader;
 use std::fs;
 

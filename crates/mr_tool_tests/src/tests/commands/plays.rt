@@ -1,7 +1,7 @@
 //! Scripts that are played, and transcripts that are checked.
 use super::{Ran, byte_by_byte, expect_run, is, run, run_over};
 use crate::tests::commands::files_at::FilesAt;
-use mr_test_parts::must;
+use crate::tests::must;
 use mr_text::{FailsAt, OverReader};
 use std::alloc::Global;
 use std::net::{Net, TcpListener, TcpStream};

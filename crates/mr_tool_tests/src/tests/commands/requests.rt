@@ -1,7 +1,7 @@
 //! Requests that are refused, and the longest one.
 use super::{PLACES, byte_by_byte, expect_run, is, plan_words, run, run_over};
 use crate::tests::commands::files_at::FilesAt;
-use mr_test_parts::must;
+use crate::tests::must;
 
 #[test]
 fn requests_are_refused(rt: HostRuntime) {

@@ -1,7 +1,7 @@
 //! Transcripts that were written or changed by hand, and many that are drawn.
 use super::{Change, changed, is, is_for, is_found, padded};
+use crate::tests::must;
 use mr_plan::{PlanError, read_events};
-use mr_test_parts::must;
 use mr_transcripts::{Outcome, write_transcript};
 use std::alloc::{AllocError, Global};
 use std::process::Abort;

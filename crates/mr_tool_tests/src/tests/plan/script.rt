@@ -1,7 +1,7 @@
 //! One script with each kind of event, and why a text is none.
 use super::{changed, is_for};
+use crate::tests::must;
 use mr_plan::{PlanError, read_events};
-use mr_test_parts::must;
 use std::alloc::{AllocError, Global};
 use std::process::Abort;
 

@@ -1,6 +1,7 @@
 //! Asserts what the readers answer to a text.
 use super::are_answers;
-use mr_test_parts::{Texts, answers_in_two, first_cell, must};
+use crate::tests::must;
+use mr_test_parts::{Texts, answers_in_two, first_cell};
 use std::alloc::Global;
 use std::process::Abort;
 

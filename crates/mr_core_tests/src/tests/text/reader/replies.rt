@@ -1,7 +1,8 @@
 //! Which replies lines and blocks say, and how others are refused.
 use super::reading::{gives_all, gives_at_end, gives_in_any_two};
 use super::{are, count_is, reading};
-use mr_test_parts::{Texts, add_repeated, answers_in_two, must};
+use crate::tests::must;
+use mr_test_parts::{Texts, add_repeated, answers_in_two};
 use mr_text::{Cause, Reply, ReplyReader};
 use std::alloc::Global;
 use std::process::Abort;

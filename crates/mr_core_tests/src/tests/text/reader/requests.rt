@@ -1,7 +1,8 @@
 //! Which requests lines say, and how other lines are refused.
 use super::reading::{gives_all, gives_at_end, gives_in_two};
 use super::{count_is, holds, is_refused, reading};
-use mr_test_parts::{Texts, add_repeated, must, repeated_keys};
+use crate::tests::must;
+use mr_test_parts::{Texts, add_repeated, repeated_keys};
 use mr_text::{KeyList, TextError};
 use std::alloc::Global;
 use std::process::Abort;

@@ -1,7 +1,8 @@
 //! Requests in any pieces, the end of the input, and closed readers.
 use super::reading::{gives_at_end, gives_in_any_two, gives_in_two};
 use super::{are, count_is, holds, is_refused};
-use mr_test_parts::{Reader, Texts, add_answers, must};
+use crate::tests::must;
+use mr_test_parts::{Reader, Texts, add_answers};
 use mr_text::{Request, RequestReader, TextError};
 use std::alloc::Global;
 use std::process::Abort;

@@ -1,7 +1,8 @@
 //! The readers beside the slow ones, to which each has to answer alike.
 use super::are_answers;
 use super::slow::add_slow_answers;
-use mr_test_parts::{Texts, add_repeated, answers_in_two, first_cell, must};
+use crate::tests::must;
+use mr_test_parts::{Texts, add_repeated, answers_in_two, first_cell};
 use std::alloc::Global;
 use std::process::Abort;
 

@@ -1,6 +1,7 @@
 //! What a writer leaves where one of its calls fails.
 use super::{are, count_is, delete, holds, item, repeated, set};
-use mr_test_parts::{TakesHalf, must, repeated_keys, reply_text, request_text};
+use crate::tests::must;
+use mr_test_parts::{TakesHalf, repeated_keys, reply_text, request_text};
 use mr_text::{
     Block, Cause, ItemList, Key, KeyList, Line, MAX_ITEMS, OverWriter, Reply, Request, WriteFault,
     write_delete, write_get, write_reply, write_request, write_server_error, write_set,

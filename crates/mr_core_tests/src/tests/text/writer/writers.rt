@@ -1,6 +1,6 @@
 //! The bytes that requests and replies are written as.
 use super::{are, delete, is_reply, is_request, item, set};
-use mr_test_parts::must;
+use crate::tests::must;
 use mr_text::{
     Block, Cause, ItemList, Key, KeyList, Line, OverWriter, Reply, Request, Sink, WriteFault,
     write_delete, write_get, write_set,

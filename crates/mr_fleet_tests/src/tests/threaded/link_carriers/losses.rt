@@ -1,8 +1,8 @@
 //! Legs that never get to their node.
 use super::{leg_of, link, links};
+use crate::tests::must;
 use crate::tests::threaded::holds;
 use mr_link_carriers::LinkCarriers;
-use mr_test_parts::must;
 use mr_workers::Carriers;
 use std::process::Abort;
 

@@ -1,10 +1,10 @@
 //! Legs that are carried at the ends of their links.
 use super::{Refuses, legs_of, link, links};
+use crate::tests::must;
 use crate::tests::threaded::holds;
 use mr_join::LegReply;
 use mr_link_carriers::{LinkCarriers, carry_loads};
 use mr_proxy::{Leg, LegSheet};
-use mr_test_parts::must;
 use mr_text::Cause;
 use mr_workers::{Carried, Carriers, Gate};
 use std::alloc::Global;

@@ -1,9 +1,9 @@
 //! What a session does with the readings of its clock.
 use super::{WHOLE, serve_recorded, went_so};
+use crate::tests::must;
 use crate::tests::threaded::holds;
 use mr_clock::{FixedClock, ListClock};
 use mr_node::Ended;
-use mr_test_parts::must;
 
 #[test]
 fn a_clock_fault_is_answered_and_the_session_goes_on(rt: HostRuntime) {

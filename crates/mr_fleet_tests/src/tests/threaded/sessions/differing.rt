@@ -2,11 +2,11 @@
 ghost use Rattle.std.specs.Prelude.{true};
 
 use super::{Left, NEW, WHOLE, serve};
+use crate::tests::must;
 use crate::tests::threaded::{carriers, get_of, holds, make_nodes, recorded};
 use mr_clock::{Clock, FixedClock};
 use mr_history::OpId;
 use mr_proxy::{Answer, Issued, Taken};
-use mr_test_parts::must;
 use mr_text::Request;
 use mr_workers::{Carried, Carrier, Carriers, Desk, DeskError, RecordedProxy, Share, WorkerError};
 use std::alloc::{AllocError, Global};

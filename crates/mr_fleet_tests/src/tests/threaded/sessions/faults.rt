@@ -1,8 +1,8 @@
 //! Devices that fail.
 use super::{WHOLE, is_row, serve_recorded, went_so};
+use crate::tests::must;
 use crate::tests::threaded::devices::Given;
 use mr_clock::FixedClock;
-use mr_test_parts::must;
 use mr_workers::WorkerError;
 use std::alloc::Global;
 use std::process::Abort;

@@ -1,10 +1,10 @@
 //! Legs that don't come back.
 use super::{NEW, WHOLE, serve, went_so, were_given_up};
+use crate::tests::must;
 use crate::tests::threaded::broken::{Broken, broken_carriers};
 use crate::tests::threaded::{Nodes, ToNode, carriers, make_nodes, recorded};
 use mr_clock::FixedClock;
 use mr_node::Ended;
-use mr_test_parts::must;
 use mr_workers::{DirectCarriers, RecordedProxy};
 use std::alloc::Global;
 use std::process::Abort;

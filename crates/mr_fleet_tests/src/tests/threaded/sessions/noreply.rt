@@ -1,8 +1,8 @@
 //! Requests whose client wants no answer.
 use super::{WHOLE, serve_recorded, went_so};
+use crate::tests::must;
 use mr_clock::{FixedClock, ListClock};
 use mr_node::Ended;
-use mr_test_parts::must;
 
 #[test]
 fn what_gets_no_answer_is_done_and_kept(rt: HostRuntime) {

@@ -1,10 +1,10 @@
 //! Requests that are answered.
 use super::{Left, NEW, WHOLE, serve, serve_recorded, went_so, were_given_up};
+use crate::tests::must;
 use crate::tests::threaded::devices::Given;
 use crate::tests::threaded::{ToNode, carriers, core_of, holds, make_nodes};
 use mr_clock::FixedClock;
 use mr_node::Ended;
-use mr_test_parts::must;
 use mr_workers::SharedProxy;
 use std::alloc::{AllocError, Global};
 use std::sync::Wait;

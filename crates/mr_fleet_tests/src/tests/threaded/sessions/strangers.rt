@@ -2,11 +2,11 @@
 ghost use Rattle.std.specs.Prelude.{◌≡◌, ◌+◌, MatchOption, IfSome};
 
 use super::{NEW, WHOLE, serve, went_so, were_given_up};
+use crate::tests::must;
 use crate::tests::threaded::{carriers, make_nodes, recorded};
 use mr_clock::FixedClock;
 use mr_node::Ended;
 use mr_proxy::Leg;
-use mr_test_parts::must;
 use mr_text::GhostCount;
 use mr_workers::{Carried, Carrier, Carriers, DirectCarriers};
 

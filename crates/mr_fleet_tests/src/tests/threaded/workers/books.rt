@@ -3,12 +3,12 @@ ghost use Rattle.std.specs.Prelude.{◌≢◌};
 ghost use Rattle.mr_text.specs.declared.request.Request.{Request};
 
 use super::{NEW, desk_of, issue, issue_op};
+use crate::tests::must;
 use crate::tests::threaded::broken::Broken;
 use crate::tests::threaded::{core_of, delete_of, get_of, holds};
 use mr_clock::FixedClock;
 use mr_history::OpId;
 use mr_proxy::{Issued, Leg, Taken};
-use mr_test_parts::must;
 use mr_text::Request;
 use mr_workers::{Carried, Desk, DeskError, RecordedProxy, RecordedState, Share};
 use std::alloc::{AllocError, Global};

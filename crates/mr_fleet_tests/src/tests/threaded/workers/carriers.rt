@@ -3,6 +3,7 @@ ghost use Rattle.std.specs.Prelude.{◌≢◌};
 ghost use Rattle.mr_text.specs.declared.request.Request.{Request};
 
 use super::{NEW, desk_of, issue};
+use crate::tests::must;
 use crate::tests::threaded::broken::broken_carriers;
 use crate::tests::threaded::{
     Nodes, carriers, core_of, delete_of, first_leg, get_of, holds, make_nodes, recorded,
@@ -12,7 +13,6 @@ use mr_history::OpId;
 use mr_join::LegReply;
 use mr_node::{CacheNode, NodeCommand, Perform};
 use mr_proxy::{Answer, Issued, Leg, LegSheet, Taken};
-use mr_test_parts::must;
 use mr_text::{Block, Cause, Key, Reply, Request};
 use mr_workers::{
     Carrier, Carriers, Desk, Gate, LocalCarrier, OpenGate, SharedNode, SharedProxy, WorkerError,

@@ -3,10 +3,10 @@ ghost use Rattle.std.specs.Prelude.{◌≢◌};
 ghost use Rattle.mr_text.specs.declared.request.Request.{Request};
 
 use super::{desk_of, issue, issue_op};
+use crate::tests::must;
 use crate::tests::threaded::broken::Broken;
 use crate::tests::threaded::{delete_of, get_of, holds};
 use mr_proxy::{Answer, Leg, Taken};
-use mr_test_parts::must;
 use mr_text::Request;
 use mr_workers::{Carried, Closed, Desk, RecordedProxy, Share, close};
 use std::alloc::{AllocError, Global};

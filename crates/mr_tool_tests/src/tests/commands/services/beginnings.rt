@@ -1,7 +1,7 @@
 //! Services that can't begin, and those that serve no one.
 use super::{expect_run, is, run, word_of};
 use crate::tests::commands::files_at::Place;
-use mr_test_parts::must;
+use crate::tests::must;
 use std::net::TcpListener;
 
 /// A configuration whose migration is long over.

@@ -1,6 +1,6 @@
 //! Nodes as commands.
 use super::{Ran, answers, expect_run, free_address, is, run, word_of};
-use mr_test_parts::must;
+use crate::tests::must;
 use std::alloc::Global;
 use std::net::{Net, SocketAddr, TcpListener, TcpStream};
 use std::process::Abort;

@@ -1,7 +1,7 @@
 //! Proxies as commands, each with the nodes of its configuration.
 use super::{Ran, answers, expect_run, free_address, is, run, word_of};
 use crate::tests::commands::files_at::Place;
-use mr_test_parts::must;
+use crate::tests::must;
 use std::alloc::{AllocError, Global};
 use std::net::{Net, SocketAddr, TcpListener, TcpStream};
 use std::process::Abort;

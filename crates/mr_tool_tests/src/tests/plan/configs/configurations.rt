@@ -1,6 +1,6 @@
 //! Which texts are configurations, and why others are none.
 use super::*;
-use mr_test_parts::must;
+use crate::tests::must;
 
 /// Each refusal, and the first where two hold at once, in the order of the checks.
 const REFUSED: [(&str, PlanError); 45] = [

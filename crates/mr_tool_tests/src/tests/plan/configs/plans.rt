@@ -1,7 +1,7 @@
 //! Plans, timelines and advice over the configuration of the worked examples.
 use super::*;
+use crate::tests::must;
 use mr_proxy::LegSheet;
-use mr_test_parts::must;
 
 /// One request that is planned.
 #[derive(Clone, Copy)]

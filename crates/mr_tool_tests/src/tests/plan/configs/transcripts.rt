@@ -1,7 +1,7 @@
 //! Transcripts: written by a play, and held against a play of their own events.
 use super::*;
+use crate::tests::must;
 use mr_plan::read_events;
-use mr_test_parts::must;
 use mr_transcripts::{Checked, Outcome, check_transcript, write_transcript};
 
 /// One proxy at 999 gets a key that no node has.

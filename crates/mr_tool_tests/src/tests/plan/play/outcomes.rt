@@ -3,7 +3,7 @@
 //! That a hit is bad where all premises hold is found of no transcript: by the theorem over the fleet no play comes to
 //! that. So the outcome for it can't be shown here, and a verdict that tells of a bad hit differs from the play's.
 use super::*;
-use mr_test_parts::must;
+use crate::tests::must;
 
 /// Holds the transcript with each change by itself against its play.
 fn all_find(rt: &impl Abort, alloc: Global, changes: &[(&str, &str)], wanted: Outcome) {

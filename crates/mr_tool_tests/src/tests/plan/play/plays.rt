@@ -4,7 +4,7 @@ use super::changing::{Kinds, changed_character, changed_value};
 use super::drawing::below;
 use super::parts::{PARTS, Part, Parts, Told};
 use super::*;
-use mr_test_parts::must;
+use crate::tests::must;
 use rand_pcg::Pcg32;
 
 /// How many scripts are drawn.

@@ -1,6 +1,6 @@
 //! Plays in which a premise is false.
 use super::*;
-use mr_test_parts::must;
+use crate::tests::must;
 
 /// Two proxies, the clock of one of which goes on; all premises hold.
 const IDLE: &str = r#"{

@@ -2,7 +2,7 @@
 use super::super::filling::{Slot, filled};
 use super::super::outcome;
 use super::*;
-use mr_test_parts::must;
+use crate::tests::must;
 
 /// Asserts what is found of the transcript between as many spaces as make it so long.
 fn long_is_found(

@@ -1,6 +1,6 @@
 //! Events that can't be made. Each is refused by its index.
 use super::*;
-use mr_test_parts::must;
+use crate::tests::must;
 
 /// What is changed in one event, by the event's index.
 const BAD_PARTS: [(usize, &str, &str); 47] = [

@@ -1,6 +1,6 @@
 //! Where two faults hold at once, the one that is looked for first is told.
 use super::*;
-use mr_test_parts::must;
+use crate::tests::must;
 use mr_world::WorldError;
 
 /// A script that lacks keys or has values of the wrong kind in several places, and what is told of it.

@@ -1,6 +1,6 @@
 //! The lengths of keys, blocks, names and lists, on both sides of each limit.
 use super::*;
-use mr_test_parts::must;
+use crate::tests::must;
 use mr_world::WorldError;
 
 /// A text in the script, what comes before and behind so many characters `x` in its place, and what is told.

@@ -1,7 +1,7 @@
 //! Bytes that are no JSON, and what of JSON is no matter: the same for configurations, scripts and transcripts.
 use super::*;
+use crate::tests::must;
 use mr_plan::Config;
-use mr_test_parts::must;
 use mr_transcripts::check_transcript;
 
 /// Asserts what a configuration of these bytes is refused for, and what a script and a transcript are refused for.

@@ -2,10 +2,10 @@
 use super::super::filling::{Slot, filled};
 use super::super::names_are;
 use super::*;
+use crate::tests::must;
 use mr_history::OpId;
 use mr_phases::Schedule;
 use mr_pools::NamedHash;
-use mr_test_parts::must;
 use mr_text::{Key, Request};
 use mr_world::{Event, HeldItem, ProxySetup, Setup};
 use std::test::Fail;
