@@ -59,8 +59,8 @@ fn pool(alloc: Global, texts: &[&str]) -> Result<Pool, PoolError> {
 }
 
 /// The old pool is 7001 and 7002, the new one 7101 to 7103.
-fn routing(alloc: Global, hash: NamedHash) -> Result<Routing, PoolError> {
-    let old = pool(alloc, &["7001", "7002"])?;
-    let new = pool(alloc, &["7101", "7102", "7103"])?;
-    Routing::new(old, new, hash)
+fn routing(rt: &impl Abort, alloc: Global, hash: NamedHash) -> Routing {
+    let old = must(rt, pool(alloc, &["7001", "7002"]));
+    let new = must(rt, pool(alloc, &["7101", "7102", "7103"]));
+    must(rt, Routing::new(old, new, hash))
 }

@@ -36,7 +36,7 @@ fn is_summed(rt: &impl Abort, routing: &Routing, key: &Key, spot: u32, places: (
 #[test]
 fn sum_places_keys(rt: HostRuntime) {
     let alloc = rt.alloc();
-    let routing = must(&rt, routing(alloc, NamedHash::Sum));
+    let routing = routing(&rt, alloc, NamedHash::Sum);
     holds(&rt, routing.hash() == NamedHash::Sum);
     is_summed(
         &rt,
@@ -52,7 +52,7 @@ fn sum_places_keys(rt: HostRuntime) {
 #[test]
 fn places_name_their_nodes(rt: HostRuntime) {
     let alloc = rt.alloc();
-    let routing = must(&rt, routing(alloc, NamedHash::Sum));
+    let routing = routing(&rt, alloc, NamedHash::Sum);
     for (text, old, new) in [
         ("k", "7002", "7103"),
         ("a", "7002", "7102"),
@@ -83,7 +83,7 @@ fn fnv1a32_meets_published_vectors(rt: HostRuntime) {
 #[test]
 fn fnv1a32_places_keys(rt: HostRuntime) {
     let alloc = rt.alloc();
-    let routing = must(&rt, routing(alloc, NamedHash::Fnv));
+    let routing = routing(&rt, alloc, NamedHash::Fnv);
     for (text, old, new) in [("a", 0, 1), ("k", 0, 0)] {
         let key = must(&rt, Key::new(alloc, text.as_bytes()));
         count_is(&rt, routing.place(0, &key), old);
@@ -139,12 +139,12 @@ fn names_have_up_to_255_bytes(rt: HostRuntime) {
 }
 
 /// So many equal names.
-fn equal_names(alloc: Global, count: u32) -> Result<Vec<NodeName>, PoolError> {
+fn equal_names(rt: &impl Abort, alloc: Global, count: u32) -> Vec<NodeName> {
     let mut names = Vec::new(alloc);
     for _ in 0..count {
-        names.push(NodeName::new(alloc, b"7001")?)?;
+        must(rt, names.push(must(rt, NodeName::new(alloc, b"7001"))));
     }
-    Ok(names)
+    names
 }
 
 #[test]
@@ -155,7 +155,7 @@ fn pools_are_refused_in_order(rt: HostRuntime) {
     is_refused(&rt, pool(alloc, &["7001", ""]), PoolError::BadName);
     count_is(&rt, must(&rt, numbered_pool(alloc, 1024)).len(), 1024);
     is_refused(&rt, numbered_pool(alloc, 1025), PoolError::TooManyNodes);
-    let many = Pool::new(must(&rt, equal_names(alloc, 1025)));
+    let many = Pool::new(equal_names(&rt, alloc, 1025));
     is_refused(&rt, many, PoolError::TooManyNodes);
 }
 
@@ -182,14 +182,17 @@ fn is_copy(rt: &impl Abort, routing: &Routing, copy: &Routing) {
 
 #[test]
 fn copies_are_equal(rt: HostRuntime) {
-    let routing = must(&rt, routing(rt.alloc(), NamedHash::Sum));
+    let routing = routing(&rt, rt.alloc(), NamedHash::Sum);
     is_copy(&rt, &routing, &must(&rt, routing.copy()));
 }
 
 /// A routing of the same pools by the other hash.
-fn hashed_otherwise(sum: &Routing) -> Result<Routing, PoolError> {
-    let old = sum.old_pool().copy()?;
-    Routing::new(old, sum.new_pool().copy()?, NamedHash::Fnv)
+fn hashed_otherwise(rt: &impl Abort, sum: &Routing) -> Routing {
+    let old = must(rt, sum.old_pool().copy());
+    must(
+        rt,
+        Routing::new(old, must(rt, sum.new_pool().copy()), NamedHash::Fnv),
+    )
 }
 
 /// Asserts that two routings differ in their hashes alone.
@@ -201,8 +204,8 @@ fn differ_in_hash(rt: &impl Abort, sum: &Routing, fnv: &Routing) {
 
 #[test]
 fn routings_of_other_hashes_differ(rt: HostRuntime) {
-    let sum = must(&rt, routing(rt.alloc(), NamedHash::Sum));
-    differ_in_hash(&rt, &sum, &must(&rt, hashed_otherwise(&sum)));
+    let sum = routing(&rt, rt.alloc(), NamedHash::Sum);
+    differ_in_hash(&rt, &sum, &hashed_otherwise(&rt, &sum));
 }
 
 #[test]

@@ -9,6 +9,7 @@ ghost use Rattle.std.specs.Prelude.{◌≢◌, IfOk};
 ghost use Rattle.mr_text.specs.declared.request.Request.{Request};
 
 use super::{are, count_is, holds, number_is, repeated, routing};
+use crate::tests::must;
 use mr_history::OpId;
 use mr_join::LegReply;
 use mr_phases::Schedule;
@@ -16,12 +17,13 @@ use mr_pools::NamedHash;
 use mr_proxy::{Answer, Issued, LegId, ProxyCore, Taken};
 use mr_text::{Block, Cause, Key, KeyList, Request};
 use std::alloc::Global;
+use std::process::Abort;
 use std::test::Fail;
 
-fn core_of(alloc: Global, incarnation: u64, room: u64) -> Result<ProxyCore, Fail> {
-    let schedule = Schedule::new(1000, 100)?;
-    let routing = routing(alloc, NamedHash::Sum)?;
-    Ok(ProxyCore::new(alloc, 0, incarnation, routing, schedule, room))
+fn core_of(rt: &impl Abort, alloc: Global, incarnation: u64, room: u64) -> ProxyCore {
+    let schedule = must(rt, Schedule::new(1000, 100));
+    let routing = routing(rt, alloc, NamedHash::Sum);
+    ProxyCore::new(alloc, 0, incarnation, routing, schedule, room)
 }
 
 /// What a client asks for, by keys of one byte.
@@ -132,8 +134,8 @@ fn issue(alloc: Global, core: &mut ProxyCore, reading: u64, asked: Asked) -> Res
 }
 
 /// The name of a request that is issued.
-fn op_of(alloc: Global, core: &mut ProxyCore, reading: u64, asked: Asked) -> Result<OpId, Fail> {
-    Ok(issue(alloc, core, reading, asked)?.op)
+fn op_of(rt: &impl Abort, alloc: Global, core: &mut ProxyCore, reading: u64, asked: Asked) -> OpId {
+    must(rt, issue(alloc, core, reading, asked)).op
 }
 
 /// The answer to a request, once these replies came; it is given up where they leave a leg open.
@@ -154,12 +156,13 @@ fn answered(
 
 /// The same, of a request at a reading.
 fn answer_to(
+    rt: &impl Abort,
     alloc: Global,
     reading: u64,
     asked: Asked,
     replies: &[(u32, Came)],
-) -> Result<Answer, Fail> {
-    let mut core = core_of(alloc, 0, 4)?;
-    let op = op_of(alloc, &mut core, reading, asked)?;
-    answered(alloc, &mut core, op, replies)
+) -> Answer {
+    let mut core = core_of(rt, alloc, 0, 4);
+    let op = op_of(rt, alloc, &mut core, reading, asked);
+    must(rt, answered(alloc, &mut core, op, replies))
 }

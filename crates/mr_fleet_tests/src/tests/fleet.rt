@@ -8,6 +8,7 @@ ghost use Rattle.std.specs.Prelude.{IfOk};
 ghost use Rattle.mr_proxy.specs.ProxyView.{IsFresh};
 
 use super::{holds, pool};
+use crate::tests::must;
 use mr_clock::{Clock, FixedClock};
 use mr_fleet::{FleetEnd, FleetProxy, run_fleet};
 use mr_fleet_clients::FleetClient;
@@ -89,24 +90,31 @@ fn carriers<'x, R: Wait>(
 
 /// A fleet of two proxies with these clients and these carriers.
 fn fleet<C: Carrier + Drop, K: Clock + Drop, S: Source + Drop, W: Sink + Drop>(
+    rt: &impl Abort,
     alloc: Global,
     first_clients: Vec<FleetClient<K, S, W>>,
     first_carriers: Vec<Vec<C>>,
     second_clients: Vec<FleetClient<K, S, W>>,
     second_carriers: Vec<Vec<C>>,
-) -> Result<Vec<FleetProxy<C, K, S, W>>, AllocError> {
+) -> Vec<FleetProxy<C, K, S, W>> {
     let mut proxies = Vec::new(alloc);
-    proxies.push(FleetProxy {
-        desk: recorded(alloc, 0)?,
-        clients: first_clients,
-        carriers: first_carriers,
-    })?;
-    proxies.push(FleetProxy {
-        desk: recorded(alloc, 1)?,
-        clients: second_clients,
-        carriers: second_carriers,
-    })?;
-    Ok(proxies)
+    must(
+        rt,
+        proxies.push(FleetProxy {
+            desk: must(rt, recorded(alloc, 0)),
+            clients: first_clients,
+            carriers: first_carriers,
+        }),
+    );
+    must(
+        rt,
+        proxies.push(FleetProxy {
+            desk: must(rt, recorded(alloc, 1)),
+            clients: second_clients,
+            carriers: second_carriers,
+        }),
+    );
+    proxies
 }
 
 /// Runs a fleet.

@@ -9,6 +9,7 @@ mod loss;
 ghost use Rattle.std.specs.Prelude.{IfOk};
 ghost use Rattle.mr_proxy.specs.ProxyView.{IsFresh};
 
+use crate::tests::must;
 use mr_clock::FixedClock;
 use mr_node::CacheNode;
 use mr_phases::Schedule;
@@ -56,8 +57,15 @@ fn pool(alloc: Global, listeners: &[TcpListener]) -> Result<Pool, Fail> {
 }
 
 /// The routing from some nodes to others.
-fn routing(alloc: Global, old: &[TcpListener], new: &[TcpListener]) -> Result<Routing, Fail> {
-    Ok(Routing::new(pool(alloc, old)?, pool(alloc, new)?, NamedHash::Sum)?)
+fn routing(rt: &impl Abort, alloc: Global, old: &[TcpListener], new: &[TcpListener]) -> Routing {
+    must(
+        rt,
+        Routing::new(
+            must(rt, pool(alloc, old)),
+            must(rt, pool(alloc, new)),
+            NamedHash::Sum,
+        ),
+    )
 }
 
 /// A proxy of this number.

@@ -8,6 +8,7 @@ mod script;
 mod script_values;
 
 use super::is;
+use crate::tests::must;
 use mr_plan::PlanError;
 use mr_pools::{NodeName, Pool};
 use mr_transcripts::{Outcome, check_transcript};
@@ -53,12 +54,13 @@ fn names_are(rt: &impl Abort, pool: &Pool, wanted: &[&str]) {
 }
 
 /// The text between as many spaces as make it so long.
-fn padded(alloc: Global, text: &str, length: usize) -> Result<String, AllocError> {
+fn padded(rt: &impl Abort, alloc: Global, text: &str, length: usize) -> String {
     let spaces = length.saturating_sub(text.len());
-    let mut padded = " ".repeat(alloc, spaces / 2)?;
-    padded.push_str(text)?;
-    padded.push_str(" ".repeat(alloc, spaces - spaces / 2)?.as_str())?;
-    Ok(padded)
+    let mut padded = must(rt, " ".repeat(alloc, spaces / 2));
+    must(rt, padded.push_str(text));
+    let behind = must(rt, " ".repeat(alloc, spaces - spaces / 2));
+    must(rt, padded.push_str(behind.as_str()));
+    padded
 }
 
 /// What a check of a transcript finds.

@@ -2,6 +2,7 @@
 use super::making::*;
 use super::*;
 use crate::tests::must;
+use std::process::Abort;
 
 /// A small generator of numbers.
 #[derive(Clone, Copy)]
@@ -207,19 +208,30 @@ fn judge_slowly(history: &History) -> Said<'_> {
 }
 
 /// Adds two items held at the beginning, and what fits of eighty entries.
-fn add_entries(alloc: Global, dice: &mut Dice, history: &mut History) -> Result<(), Fail> {
-    let _ = put(history, stored(alloc, Author::Beginning, b"a", b"v")?)?;
-    let _ = put(history, stored(alloc, Author::Beginning, b"b", b"v")?)?;
+fn add_entries(rt: &impl Abort, alloc: Global, dice: &mut Dice, history: &mut History) {
+    let _ = must(
+        rt,
+        put(
+            history,
+            must(rt, stored(alloc, Author::Beginning, b"a", b"v")),
+        ),
+    );
+    let _ = must(
+        rt,
+        put(
+            history,
+            must(rt, stored(alloc, Author::Beginning, b"b", b"v")),
+        ),
+    );
     for _ in 0..80 {
-        let _ = put(history, dice.entry(alloc)?)?;
+        let _ = must(rt, put(history, must(rt, dice.entry(alloc))));
     }
-    Ok(())
 }
 
-fn random_history(alloc: Global, dice: &mut Dice) -> Result<History, Fail> {
-    let mut history = History::new(alloc)?;
-    add_entries(alloc, dice, &mut history)?;
-    Ok(history)
+fn random_history(rt: &impl Abort, alloc: Global, dice: &mut Dice) -> History {
+    let mut history = must(rt, History::new(alloc));
+    add_entries(rt, alloc, dice, &mut history);
+    history
 }
 
 /// How often each verdict was met.
@@ -251,7 +263,7 @@ fn is_judged(rt: &impl Abort, history: &History) -> u8 {
 fn meet_verdicts(rt: &impl Abort, alloc: Global, met: &mut Met) {
     let mut dice = Dice { state: 7 };
     for _ in 0..600 {
-        met.count(is_judged(rt, &must(rt, random_history(alloc, &mut dice))));
+        met.count(is_judged(rt, &random_history(rt, alloc, &mut dice)));
     }
 }
 

@@ -465,15 +465,17 @@ fn takes_one_reading_for_each_request(rt: HostRuntime) {
 }
 
 /// Serves a set of sixteen bytes, one at a time, by a clock that shows these seconds.
-fn serve_slowly(alloc: Global, node: &mut CacheNode, seconds: &Cell<u64>) -> Result<(), Fail> {
+fn serve_slowly(rt: &impl Abort, alloc: Global, node: &mut CacheNode, seconds: &Cell<u64>) {
     let given = Given {
         length: 1,
         turns: 20,
         ..AMPLE
     };
     let input = b"set k 0 5 1\r\nv\r\n";
-    serve_input(alloc, node, &mut Shown(seconds), seconds, input, given)?;
-    Ok(())
+    must(
+        rt,
+        serve_input(alloc, node, &mut Shown(seconds), seconds, input, given),
+    );
 }
 
 /// The first byte of the request comes at 101. So it has arrived at 116.
@@ -481,6 +483,6 @@ fn serve_slowly(alloc: Global, node: &mut CacheNode, seconds: &Cell<u64>) -> Res
 fn reads_the_clock_once_a_request_has_arrived(rt: HostRuntime) {
     let key = must(&rt, key(rt.alloc(), b"k"));
     let mut node = must(&rt, CacheNode::new(rt.alloc(), 1));
-    must(&rt, serve_slowly(rt.alloc(), &mut node, &Cell::new(100)));
+    serve_slowly(&rt, rt.alloc(), &mut node, &Cell::new(100));
     holds(&rt, expiry(&node, &key) == Some(Some(121)));
 }

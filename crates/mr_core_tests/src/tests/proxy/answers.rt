@@ -39,15 +39,15 @@ fn is_written(rt: &impl Abort, alloc: Global, answer: &Answer, text: &[u8], call
 }
 
 /// The text of the reply that is built of an answer.
-fn text_of_reply(alloc: Global, answer: Answer) -> Result<Vec<u8>, Fail> {
+fn text_of_reply(rt: &impl Abort, alloc: Global, answer: Answer) -> Vec<u8> {
     let text = reply_text(alloc, &answer.into_reply());
-    Ok(text?)
+    must(rt, text)
 }
 
 /// Asserts what an answer is written as, and that the reply that is built of it is written alike.
 fn reads(rt: &impl Abort, alloc: Global, answer: Answer, text: &[u8], calls: usize) {
     is_written(rt, alloc, &answer, text, calls);
-    are(rt, &must(rt, text_of_reply(alloc, answer)), text);
+    are(rt, &text_of_reply(rt, alloc, answer), text);
 }
 
 /// Asserts what the answer to a request is written as in one call, once these replies came.
@@ -59,7 +59,7 @@ fn is_answer(
     replies: &[(u32, Came)],
     text: &[u8],
 ) {
-    let answer = must(rt, answer_to(alloc, reading, asked, replies));
+    let answer = answer_to(rt, alloc, reading, asked, replies);
     reads(rt, alloc, answer, text, 1);
 }
 
@@ -160,6 +160,6 @@ fn long_text(alloc: Global) -> Result<Vec<u8>, Fail> {
 fn a_long_block_goes_out_by_itself(rt: HostRuntime) {
     let alloc = rt.alloc();
     let text = must(&rt, long_text(alloc));
-    let answer = must(&rt, answer_to(alloc, 999, Asked::Get(b"kkb"), &LONG));
+    let answer = answer_to(&rt, alloc, 999, Asked::Get(b"kkb"), &LONG);
     reads(&rt, alloc, answer, &text, 3);
 }

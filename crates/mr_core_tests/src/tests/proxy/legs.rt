@@ -27,9 +27,9 @@ fn are_sent_to(rt: &impl Abort, legs: &[Leg], wanted: &[Node]) {
 }
 
 /// How many legs a request would make.
-fn count_of(alloc: Global, core: &ProxyCore, reading: u64, asked: Asked) -> Result<u64, Fail> {
-    let count = core.would_issue(reading, &request_of(alloc, asked)?);
-    Ok(count?)
+fn count_of(rt: &impl Abort, alloc: Global, core: &ProxyCore, reading: u64, asked: Asked) -> u64 {
+    let count = core.would_issue(reading, &must(rt, request_of(alloc, asked)));
+    must(rt, count)
 }
 
 /// Asserts which nodes a request goes to, and that so many legs were foreseen.
@@ -41,7 +41,7 @@ fn goes_to(
     asked: Asked,
     wanted: &[Node],
 ) {
-    let count = must(rt, count_of(alloc, core, reading, asked));
+    let count = count_of(rt, alloc, core, reading, asked);
     number_is(rt, count, wanted.len() as u64);
     let issued = must(rt, issue(alloc, core, reading, asked));
     are_sent_to(rt, issued.legs.as_slice(), wanted);
@@ -71,16 +71,16 @@ static ROWS: [Row<'static>; 6] = [
 
 #[test]
 fn legs_go_where_the_reading_says(rt: HostRuntime) {
-    let mut core = must(&rt, core_of(rt.alloc(), 0, 8));
+    let mut core = core_of(&rt, rt.alloc(), 0, 8);
     for (reading, asked, wanted) in &ROWS {
         goes_to(&rt, rt.alloc(), &mut core, *reading, *asked, wanted);
     }
 }
 
 /// A copy of what comes back of a leg.
-fn back_of(leg: Leg) -> Result<LegBack, Fail> {
+fn back_of(rt: &impl Abort, leg: Leg) -> LegBack {
     let copy = leg.returned(LegReply::Stored).copy();
-    Ok(copy?)
+    must(rt, copy)
 }
 
 /// Whether a reply to a leg answers its request.
@@ -96,7 +96,7 @@ fn comes_back(rt: &impl Abort, core: &mut ProxyCore, back: LegBack) {
 
 fn come_back(rt: &impl Abort, alloc: Global, core: &mut ProxyCore) {
     for leg in must(rt, issue(alloc, core, 1200, Asked::Set(b'a'))).legs {
-        comes_back(rt, core, must(rt, back_of(leg)));
+        comes_back(rt, core, back_of(rt, leg));
     }
     count_is(rt, core.outstanding(), 0);
 }
@@ -104,5 +104,5 @@ fn come_back(rt: &impl Abort, alloc: Global, core: &mut ProxyCore) {
 #[test]
 fn a_leg_comes_back_with_its_sheet(rt: HostRuntime) {
     let alloc = rt.alloc();
-    come_back(&rt, alloc, &mut must(&rt, core_of(alloc, 0, 4)));
+    come_back(&rt, alloc, &mut core_of(&rt, alloc, 0, 4));
 }

@@ -67,24 +67,25 @@ fn taken_as(taken: &Taken) -> &'static str {
 
 /// What becomes of the reply of a leg.
 fn become_of(
+    rt: &impl Abort,
     alloc: Global,
     core: &mut ProxyCore,
     id: LegId,
     came: Came,
-) -> Result<&'static str, Fail> {
-    let reply = reply_of(alloc, came)?;
-    Ok(taken_as(&core.take_reply(id, reply)))
+) -> &'static str {
+    let reply = must(rt, reply_of(alloc, came));
+    taken_as(&core.take_reply(id, reply))
 }
 
 /// Whether a step comes to what it has to.
-fn is_done(alloc: Global, core: &mut ProxyCore, step: &Step) -> Result<bool, Fail> {
-    Ok(match step {
-        Step::Issues(reading, asked, name) => op_of(alloc, core, *reading, *asked)? == op(*name),
+fn is_done(rt: &impl Abort, alloc: Global, core: &mut ProxyCore, step: &Step) -> bool {
+    match step {
+        Step::Issues(reading, asked, name) => op_of(rt, alloc, core, *reading, *asked) == op(*name),
         Step::Refuses(reading, asked, refusal) => {
-            refusal_of(alloc, core, *reading, *asked)? == (*refusal, true)
+            must(rt, refusal_of(alloc, core, *reading, *asked)) == (*refusal, true)
         }
         Step::Takes(name, place, came, what) => {
-            become_of(alloc, core, leg(*name, *place), *came)? == *what
+            become_of(rt, alloc, core, leg(*name, *place), *came) == *what
         }
         Step::GivesUp(name, refusal) => core.give_up(op(*name)).err() == *refusal,
         Step::Restarts(refusal) => core.restart().err() == *refusal,
@@ -92,7 +93,7 @@ fn is_done(alloc: Global, core: &mut ProxyCore, step: &Step) -> Result<bool, Fai
             core.outstanding() == *outstanding && core.open_legs() == *open
         }
         Step::Lends(name, place, lent) => core.sheet_of(leg(*name, *place)).is_some() == *lent,
-    })
+    }
 }
 
 /// Asserts that the step at a place came to what it has to.
@@ -103,7 +104,7 @@ fn is_right(rt: &impl Abort, place: usize, done: bool) {
 /// Asserts that each step of a script comes to what it has to.
 fn runs(rt: &impl Abort, alloc: Global, core: &mut ProxyCore, script: &[Step]) {
     for (place, step) in script.iter().enumerate() {
-        is_right(rt, place, must(rt, is_done(alloc, core, step)));
+        is_right(rt, place, is_done(rt, alloc, core, step));
     }
 }
 
@@ -125,7 +126,7 @@ static DELETE: [Step<'static>; 12] = [
 #[test]
 fn a_delete_waits_for_both_legs(rt: HostRuntime) {
     let alloc = rt.alloc();
-    runs(&rt, alloc, &mut must(&rt, core_of(alloc, 0, 4)), &DELETE);
+    runs(&rt, alloc, &mut core_of(&rt, alloc, 0, 4), &DELETE);
 }
 
 static RESTART: [Step<'static>; 6] = [
@@ -140,7 +141,7 @@ static RESTART: [Step<'static>; 6] = [
 #[test]
 fn a_restarted_proxy_knows_no_reply(rt: HostRuntime) {
     let alloc = rt.alloc();
-    runs(&rt, alloc, &mut must(&rt, core_of(alloc, 0, 4)), &RESTART);
+    runs(&rt, alloc, &mut core_of(&rt, alloc, 0, 4), &RESTART);
 }
 
 static FULL: [Step<'static>; 5] = [
@@ -154,7 +155,7 @@ static FULL: [Step<'static>; 5] = [
 #[test]
 fn a_full_proxy_refuses(rt: HostRuntime) {
     let alloc = rt.alloc();
-    runs(&rt, alloc, &mut must(&rt, core_of(alloc, 0, 1)), &FULL);
+    runs(&rt, alloc, &mut core_of(&rt, alloc, 0, 1), &FULL);
 }
 
 static LAST: [Step<'static>; 2] = [
@@ -165,10 +166,5 @@ static LAST: [Step<'static>; 2] = [
 #[test]
 fn the_last_incarnation_cannot_restart(rt: HostRuntime) {
     let alloc = rt.alloc();
-    runs(
-        &rt,
-        alloc,
-        &mut must(&rt, core_of(alloc, u64::MAX, 1)),
-        &LAST,
-    );
+    runs(&rt, alloc, &mut core_of(&rt, alloc, u64::MAX, 1), &LAST);
 }

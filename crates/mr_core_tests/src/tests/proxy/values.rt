@@ -15,7 +15,7 @@ fn tells(rt: &impl Abort, core: &ProxyCore) {
 
 #[test]
 fn a_proxy_tells_what_it_was_made_of(rt: HostRuntime) {
-    tells(&rt, &must(&rt, core_of(rt.alloc(), 3, 4)));
+    tells(&rt, &core_of(&rt, rt.alloc(), 3, 4));
     number_is(&rt, u64::from(ProxyError::NumbersSpent.number()), 3);
 }
 
@@ -43,7 +43,7 @@ fn an_answer_tells_what_was_asked(rt: HostRuntime) {
     is_copied(
         &rt,
         alloc,
-        &must(&rt, answer_to(alloc, 1001, Asked::Get(b"k"), &[])),
+        &answer_to(&rt, alloc, 1001, Asked::Get(b"k"), &[]),
     );
 }
 
@@ -59,7 +59,7 @@ fn opens(rt: &impl Abort, alloc: Global, core: &ProxyCore) {
 #[test]
 fn an_opening_is_fresh(rt: HostRuntime) {
     let alloc = rt.alloc();
-    let mut core = must(&rt, core_of(alloc, 0, 1));
-    let _op = must(&rt, op_of(alloc, &mut core, 999, Asked::Get(b"k")));
+    let mut core = core_of(&rt, alloc, 0, 1);
+    let _op = op_of(&rt, alloc, &mut core, 999, Asked::Get(b"k"));
     opens(&rt, alloc, &core);
 }

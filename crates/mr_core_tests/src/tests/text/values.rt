@@ -181,45 +181,48 @@ fn key_lists_keep_order(rt: HostRuntime) {
 }
 
 /// Keys of 250 bytes, and a last one of fewer.
-fn long_keys(alloc: Global, count: usize, last: usize) -> Result<Vec<Key>, Fail> {
-    let mut keys = repeated_keys(alloc, &[b'x'; 250], count)?;
-    keys.push(Key::new(alloc, &repeated(alloc, b'x', last)?)?)?;
-    Ok(keys)
+fn long_keys(rt: &impl Abort, alloc: Global, count: usize, last: usize) -> Vec<Key> {
+    let mut keys = must(rt, repeated_keys(alloc, &[b'x'; 250], count));
+    must(
+        rt,
+        keys.push(must(rt, Key::new(alloc, &must(rt, repeated(alloc, b'x', last))))),
+    );
+    keys
 }
 
 #[test]
 fn longest_get_line_fits(rt: HostRuntime) {
     let alloc = rt.alloc();
     // `get` and 32 keys of 250 bytes leave room for a space and 156 bytes.
-    let keys = must(&rt, KeyList::new(must(&rt, long_keys(alloc, 32, 156))));
+    let keys = must(&rt, KeyList::new(long_keys(&rt, alloc, 32, 156)));
     count_is(&rt, keys.as_slice().len(), 33);
-    let refused = KeyList::new(must(&rt, long_keys(alloc, 32, 157))).err();
+    let refused = KeyList::new(long_keys(&rt, alloc, 32, 157)).err();
     is_refused(&rt, refused, TextError::LineTooLong);
 }
 
 /// The copy of an item.
-fn copied_item(alloc: Global, key: &[u8], flags: u32, block: &[u8]) -> Result<Item, Fail> {
-    let item = item(alloc, key, flags, block)?;
-    Ok(item.copy()?)
+fn copied_item(rt: &impl Abort, alloc: Global, key: &[u8], flags: u32, block: &[u8]) -> Item {
+    let item = must(rt, item(alloc, key, flags, block));
+    must(rt, item.copy())
 }
 
 /// Adds the copy of an item.
 fn add_copied(
+    rt: &impl Abort,
     items: &mut Vec<Item>,
     alloc: Global,
     key: &[u8],
     flags: u32,
     block: &[u8],
-) -> Result<(), Fail> {
-    items.push(copied_item(alloc, key, flags, block)?)?;
-    Ok(())
+) {
+    must(rt, items.push(copied_item(rt, alloc, key, flags, block)));
 }
 
 /// A list of two items, copies.
 fn two_items(rt: &impl Abort, alloc: Global) -> ItemList {
     let mut items = Vec::new(alloc);
-    must(rt, add_copied(&mut items, alloc, b"k", 1, b"v"));
-    must(rt, add_copied(&mut items, alloc, b"a", 2, b""));
+    add_copied(rt, &mut items, alloc, b"k", 1, b"v");
+    add_copied(rt, &mut items, alloc, b"a", 2, b"");
     assert!(rt; items.len() == 2);
     ItemList::new(items)
 }

@@ -289,10 +289,7 @@ fn play_over<'x, R: Threads + Wait + Clock + Abort + Sync>(
     let second_carriers = must(rt, carriers(rt, alloc, nodes));
     let first = must(rt, first_clients(rt, alloc, flags));
     let second = must(rt, second_clients(rt, alloc, flags));
-    let proxies = must(
-        rt,
-        fleet(alloc, first, first_carriers, second, second_carriers),
-    );
+    let proxies = fleet(rt, alloc, first, first_carriers, second, second_carriers);
     play(rt, alloc, proxies, &gate);
 }
 

@@ -326,20 +326,19 @@ fn clients<'x, R: Wait>(
 }
 
 /// The logs of all clients of one proxy.
-fn logs(alloc: Global) -> Result<Vec<Log>, AllocError> {
+fn logs(rt: &impl Abort, alloc: Global) -> Vec<Log> {
     let mut logs = Vec::new(alloc);
     for _ in 0..CLIENTS {
-        logs.push(Mutex::new(Vec::new(alloc)))?;
+        must(rt, logs.push(Mutex::new(Vec::new(alloc))));
     }
-    Ok(logs)
+    logs
 }
 
 /// Takes the exchanges out of the logs of one proxy's clients.
-fn add_exchanges(logs: Vec<Log>, all: &mut Vec<Vec<Exchange>>) -> Result<(), AllocError> {
+fn add_exchanges(rt: &impl Abort, logs: Vec<Log>, all: &mut Vec<Vec<Exchange>>) {
     for log in logs {
-        all.push(log.into_inner())?;
+        must(rt, all.push(log.into_inner()));
     }
-    Ok(())
 }
 
 /// Runs the fleet, and asserts that each client has all its answers.
@@ -371,10 +370,7 @@ fn play_over<'x, R: Threads + Wait + Abort + Sync>(
     let second_carriers = must(rt, carriers(rt, alloc, nodes));
     let first = must(rt, clients(rt, alloc, course, ahead, 0, first));
     let second = must(rt, clients(rt, alloc, course, ahead, 1, second));
-    let proxies = must(
-        rt,
-        fleet(alloc, first, first_carriers, second, second_carriers),
-    );
+    let proxies = fleet(rt, alloc, first, first_carriers, second, second_carriers);
     play(rt, alloc, proxies);
 }
 
@@ -383,13 +379,13 @@ fn no_get_finds_what_an_acknowledged_delete_took_away(rt: HostRuntime) {
     let alloc = rt.alloc();
     let nodes = must(&rt, Nodes::new(alloc));
     let course = Course::new();
-    let first = must(&rt, logs(alloc));
-    let second = must(&rt, logs(alloc));
+    let first = logs(&rt, alloc);
+    let second = logs(&rt, alloc);
     play_over(&rt, alloc, &nodes, &course, AHEAD, &first, &second);
     holds(&rt, course.seconds.load(Ordering::SeqCst) >= 1200);
     let mut all = Vec::new(alloc);
-    must(&rt, add_exchanges(first, &mut all));
-    must(&rt, add_exchanges(second, &mut all));
+    add_exchanges(&rt, first, &mut all);
+    add_exchanges(&rt, second, &mut all);
     let (hits, wrong) = count_hits(&all);
     holds(&rt, hits > 0);
     assert_eq!(rt; wrong, 0);

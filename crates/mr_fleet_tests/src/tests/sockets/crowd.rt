@@ -121,7 +121,7 @@ fn several_clients_through_two_proxies(rt: HostRuntime) {
     let alloc = rt.alloc();
     let old = [must(&rt, listener(&rt))];
     let new = [must(&rt, listener(&rt))];
-    let routing = must(&rt, routing(alloc, &old, &new));
+    let routing = routing(&rt, alloc, &old, &new);
     let desks = (
         SharedProxy::new(must(&rt, core_of(alloc, 0, &routing))),
         SharedProxy::new(must(&rt, core_of(alloc, 1, &routing))),

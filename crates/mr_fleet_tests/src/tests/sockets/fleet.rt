@@ -56,7 +56,7 @@ fn fleet_on_loopback(rt: HostRuntime) {
         must(&rt, listener(&rt)),
         must(&rt, listener(&rt)),
     ];
-    let routing = must(&rt, routing(alloc, &old, &new));
+    let routing = routing(&rt, alloc, &old, &new);
     let desk = SharedProxy::new(must(&rt, core_of(alloc, 0, &routing)));
     let proxy = must(&rt, listener(&rt));
     let address = must(&rt, proxy.local_addr());

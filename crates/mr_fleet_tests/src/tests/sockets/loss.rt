@@ -76,7 +76,7 @@ fn a_node_goes_away_and_comes_back(rt: HostRuntime) {
     let alloc = rt.alloc();
     let old = [must(&rt, listener(&rt))];
     let new = [must(&rt, listener(&rt))];
-    let routing = must(&rt, routing(alloc, &old, &new));
+    let routing = routing(&rt, alloc, &old, &new);
     let desk = SharedProxy::new(must(&rt, core_of(alloc, 0, &routing)));
     let proxy = must(&rt, listener(&rt));
     let address = must(&rt, proxy.local_addr());

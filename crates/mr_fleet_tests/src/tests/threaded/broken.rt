@@ -1,9 +1,11 @@
 //! Carriers that never reach their nodes.
+use crate::tests::must;
 use mr_join::LegReply;
 use mr_proxy::LegSheet;
 use mr_text::GhostCount;
 use mr_workers::{Carrier, DirectCarriers, WorkerError};
 use std::alloc::{AllocError, Global};
+use std::process::Abort;
 
 /// A carrier that never reaches its node.
 #[derive(Drop)]
@@ -38,21 +40,22 @@ impl Carrier for Broken {
 
 /// So many such carriers for each pool.
 pub(super) fn broken_carriers(
+    rt: &impl Abort,
     alloc: Global,
     counts: &[usize],
-) -> Result<DirectCarriers<Broken>, AllocError> {
+) -> DirectCarriers<Broken> {
     let mut pools = Vec::new(alloc);
     for count in counts {
-        pools.push(broken_links(alloc, *count)?)?;
+        must(rt, pools.push(broken_links(rt, alloc, *count)));
     }
-    Ok(DirectCarriers::new(alloc, pools))
+    DirectCarriers::new(alloc, pools)
 }
 
 /// So many such carriers for one pool.
-fn broken_links(alloc: Global, count: usize) -> Result<Vec<Broken>, AllocError> {
+fn broken_links(rt: &impl Abort, alloc: Global, count: usize) -> Vec<Broken> {
     let mut links = Vec::new(alloc);
     for _ in 0..count {
-        links.push(Broken::new())?;
+        must(rt, links.push(Broken::new()));
     }
-    Ok(links)
+    links
 }

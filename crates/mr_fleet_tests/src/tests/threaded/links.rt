@@ -137,9 +137,9 @@ fn link<'a>(
 }
 
 /// What comes of a leg that a carrier of any kind carries.
-fn carried_by<C: Carrier>(alloc: Global, carrier: &mut C, told: Told) -> Result<Came, Fail> {
-    let sheet = told.sheet(alloc)?;
-    Ok(Came::of(&carrier.carry(&sheet)))
+fn carried_by<C: Carrier>(rt: &impl Abort, alloc: Global, carrier: &mut C, told: Told) -> Came {
+    let sheet = must(rt, told.sheet(alloc));
+    Came::of(&carrier.carry(&sheet))
 }
 
 /// Legs that are carried one after another, what the node answers, over which devices; what has to come of each leg, what
@@ -155,12 +155,18 @@ type Row<'a> = (
 );
 
 /// Whether each of the legs that a link carries comes to what it has to.
-fn come_so(alloc: Global, link: &mut Link, legs: &[Told], wanted: &[Came]) -> Result<bool, Fail> {
+fn come_so(
+    rt: &impl Abort,
+    alloc: Global,
+    link: &mut Link,
+    legs: &[Told],
+    wanted: &[Came],
+) -> bool {
     let mut results = Vec::new(alloc);
     for told in legs {
-        results.push(carried_by(alloc, link, *told)?)?;
+        must(rt, results.push(carried_by(rt, alloc, link, *told)));
     }
-    Ok(results.as_slice() == wanted)
+    results.as_slice() == wanted
 }
 
 /// Whether that was written, in so many calls.
@@ -180,7 +186,7 @@ fn is_row(rt: &impl Abort, alloc: Global, row: &Row) {
     let (legs, input, given, wanted, output, calls, left) = *row;
     let reads = Reads::of(input.len());
     let mut link = link(alloc, input, &reads, Vec::new(alloc), given);
-    holds_at(rt, input, must(rt, come_so(alloc, &mut link, legs, wanted)));
+    holds_at(rt, input, come_so(rt, alloc, &mut link, legs, wanted));
     let broken = matches!(wanted.last(), Some(Came::Fault(_)));
     holds_at(rt, input, link.is_broken() == broken);
     holds_at(rt, input, wrote(link, output, calls));

@@ -124,17 +124,12 @@ fn name_of<E: Debug + Drop>(alloc: Global, refusal: E) -> Result<String, AllocEr
 }
 
 /// The first line of an explanation.
-fn heading_of(
-    alloc: Global,
-    layer: &str,
-    number: &str,
-    name: String,
-) -> Result<Vec<u8>, AllocError> {
-    let mut heading = Vec::from_slice(alloc, layer.as_bytes())?;
+fn heading_of(rt: &impl Abort, alloc: Global, layer: &str, number: &str, name: String) -> Vec<u8> {
+    let mut heading = must(rt, Vec::from_slice(alloc, layer.as_bytes()));
     for part in [" ", number, " ", name.as_str(), "\n"] {
-        heading.extend_from_slice(part.as_bytes())?;
+        must(rt, heading.extend_from_slice(part.as_bytes()));
     }
-    Ok(heading)
+    heading
 }
 
 /// Asserts that a refusal of a layer is explained under its own number and name.
@@ -151,14 +146,12 @@ fn expect_named<E: Debug + Drop>(
     refusal: E,
 ) {
     let word = must(rt, format!(in alloc; "{number}"));
-    let heading = must(
+    let heading = heading_of(
         rt,
-        heading_of(
-            alloc,
-            layer,
-            word.as_str(),
-            must(rt, name_of(alloc, refusal)),
-        ),
+        alloc,
+        layer,
+        word.as_str(),
+        must(rt, name_of(alloc, refusal)),
     );
     let ran = run(rt, alloc, &["explain", layer, word.as_str()], b"");
     is(rt, ran.status, 0);

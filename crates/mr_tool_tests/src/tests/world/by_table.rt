@@ -7,6 +7,7 @@ use crate::tests::must;
 use mr_history::OpId;
 use mr_world::World;
 use std::alloc::Global;
+use std::process::Abort;
 use std::test::Fail;
 
 /// Two proxies at 999 and 1050, and nodes that hold nothing.
@@ -118,23 +119,22 @@ fn agree_for_long(
 }
 
 /// The same, of a new table.
-fn agrees_with_table(alloc: Global, world: &mut World, dice: &mut Dice) -> Result<bool, Fail> {
-    agree_for_long(alloc, world, &mut Table::new(alloc)?, dice)
+fn agrees_with_table(rt: &impl Abort, alloc: Global, world: &mut World, dice: &mut Dice) -> bool {
+    must(
+        rt,
+        agree_for_long(alloc, world, &mut must(rt, Table::new(alloc)), dice),
+    )
 }
 
 /// The same, of a new world and a new table.
-fn both_agree(alloc: Global, dice: &mut Dice) -> Result<bool, Fail> {
-    agrees_with_table(alloc, &mut FLEET.world(alloc)?, dice)
+fn both_agree(rt: &impl Abort, alloc: Global, dice: &mut Dice) -> bool {
+    agrees_with_table(rt, alloc, &mut must(rt, FLEET.world(alloc)), dice)
 }
 
 #[test]
 fn the_world_agrees_with_the_table(rt: HostRuntime) {
     let mut dice = Dice { state: 7 };
     for _ in 0..300 {
-        holds(
-            &rt,
-            must(&rt, both_agree(rt.alloc(), &mut dice)),
-            "both agree",
-        );
+        holds(&rt, both_agree(&rt, rt.alloc(), &mut dice), "both agree");
     }
 }

@@ -1,9 +1,11 @@
 //! Events in a few words, and what each has to come to.
+use crate::tests::must;
 use mr_history::OpId;
 use mr_pools::NodeName;
 use mr_text::{Block, Key, KeyList, Request};
 use mr_world::{Event, Note, World, WorldError};
 use std::alloc::Global;
+use std::process::Abort;
 use std::test::Fail;
 
 /// What a client asks for, of a key of one byte. An answer is wanted where the second part isn't true.
@@ -111,12 +113,12 @@ pub fn event_of(alloc: Global, it: Move) -> Result<Event, Fail> {
 }
 
 /// The events of moves.
-pub fn events_of(alloc: Global, moves: &[Move]) -> Result<Vec<Event>, Fail> {
+pub fn events_of(rt: &impl Abort, alloc: Global, moves: &[Move]) -> Vec<Event> {
     let mut events = Vec::new(alloc);
     for it in moves {
-        events.push(event_of(alloc, *it)?)?;
+        must(rt, events.push(must(rt, event_of(alloc, *it))));
     }
-    Ok(events)
+    events
 }
 
 /// What a move comes to.

@@ -31,7 +31,7 @@ fn betrays(rt: &impl Abort, alloc: Global, betrayal: &Betrayal) {
 
 /// The same, in the world of its fleet.
 fn betrays_in(rt: &impl Abort, alloc: Global, world: &mut World, betrayal: &Betrayal) {
-    must(rt, world.run(must(rt, events_of(alloc, betrayal.moves))));
+    must(rt, world.run(events_of(rt, alloc, betrayal.moves)));
     shows(rt, world, &betrayal.shown);
 }
 

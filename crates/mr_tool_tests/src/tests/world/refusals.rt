@@ -99,13 +99,13 @@ fn a_setup_needs_its_nodes(rt: HostRuntime) {
 }
 
 /// How many items the copy of a setup holds.
-fn held_by_copy(setup: &Setup) -> Result<usize, AllocError> {
-    Ok(setup.copy()?.held().len())
+fn held_by_copy(rt: &impl Abort, setup: &Setup) -> usize {
+    must(rt, setup.copy()).held().len()
 }
 
 #[test]
 fn a_setup_is_copied(rt: HostRuntime) {
-    let held = must(&rt, held_by_copy(&must(&rt, STRAY.setup(rt.alloc()))));
+    let held = held_by_copy(&rt, &must(&rt, STRAY.setup(rt.alloc())));
     holds(&rt, held == 1, "one item");
 }
 
@@ -125,18 +125,18 @@ static STOPPED: [Move; 3] = [
 ];
 
 /// Equal events.
-fn copies(alloc: Global, events: &[Event]) -> Result<Vec<Event>, Fail> {
+fn copies(rt: &impl Abort, alloc: Global, events: &[Event]) -> Vec<Event> {
     let mut copied = Vec::new(alloc);
     for event in events {
-        copied.push(event.copy()?)?;
+        must(rt, copied.push(must(rt, event.copy())));
     }
-    Ok(copied)
+    copied
 }
 
 /// The events that stop a run.
-fn stopping_events(alloc: Global) -> Result<Vec<Event>, Fail> {
-    let events = events_of(alloc, &STOPPED)?;
-    copies(alloc, &events)
+fn stopping_events(rt: &impl Abort, alloc: Global) -> Vec<Event> {
+    let events = events_of(rt, alloc, &STOPPED);
+    copies(rt, alloc, &events)
 }
 
 /// Whether a run stops there and for that reason.
@@ -146,7 +146,7 @@ fn stops_so(stop: Result<(), (usize, WorldError)>) -> bool {
 
 /// Asserts where a run of these events stops, and what the history says then.
 fn stops(rt: &impl Abort, alloc: Global, world: &mut World) {
-    let stop = world.run(must(rt, stopping_events(alloc)));
+    let stop = world.run(stopping_events(rt, alloc));
     holds(rt, stops_so(stop), "at the second event");
     let told = says(world.history(), &[Told::Deleted(FIRST, b'k')]);
     holds(rt, told, "the history");
@@ -242,13 +242,13 @@ static ANSWERED: [Row; 3] = [
 ];
 
 /// The node of a copy of the message.
-fn copied_node(message: &Message) -> Result<usize, AllocError> {
-    Ok(message.copy()?.node)
+fn copied_node(rt: &impl Abort, message: &Message) -> usize {
+    must(rt, message.copy()).node
 }
 
 /// The message of a copy of the delivery.
-fn copied_message(delivery: &Delivery) -> Result<usize, AllocError> {
-    Ok(delivery.copy()?.message)
+fn copied_message(rt: &impl Abort, delivery: &Delivery) -> usize {
+    must(rt, delivery.copy()).message
 }
 
 /// Asserts the node of a copy of the only message, and the message of a copy of the only delivery.
@@ -256,8 +256,8 @@ fn are_copied(rt: &impl Abort, world: &World) {
     let ([message], [delivery]) = (world.sent(), world.replies()) else {
         rt.panic("one message and one delivery");
     };
-    holds(rt, must(rt, copied_node(message)) == 1, "its node");
-    holds(rt, must(rt, copied_message(delivery)) == 0, "its message");
+    holds(rt, copied_node(rt, message) == 1, "its node");
+    holds(rt, copied_message(rt, delivery) == 0, "its message");
 }
 
 /// The same, behind the get.
@@ -273,12 +273,19 @@ fn messages_and_deliveries_are_copied(rt: HostRuntime) {
 }
 
 /// What becomes of a get that is issued first.
-fn first_note(alloc: Global) -> Result<Result<Note, WorldError>, Fail> {
-    note_of(alloc, &mut FLEET.world(alloc)?, Move::Client(0, GET))
+fn first_note(rt: &impl Abort, alloc: Global) -> Result<Note, WorldError> {
+    must(
+        rt,
+        note_of(
+            alloc,
+            &mut must(rt, FLEET.world(alloc)),
+            Move::Client(0, GET),
+        ),
+    )
 }
 
 #[test]
 fn a_note_is_copied(rt: HostRuntime) {
-    let note = must(&rt, must(&rt, first_note(rt.alloc())));
+    let note = must(&rt, first_note(&rt, rt.alloc()));
     holds(&rt, note.copy() == note, "the same note");
 }

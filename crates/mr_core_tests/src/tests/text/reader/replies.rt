@@ -119,11 +119,11 @@ fn named_texts_are_causes(rt: HostRuntime) {
 }
 
 /// An error with so many bytes of text.
-fn error_line(alloc: Global, count: usize, end: &[u8]) -> Result<Vec<u8>, Fail> {
-    let mut line = Vec::from_slice(alloc, b"SERVER_ERROR ")?;
-    add_repeated(&mut line, b'x', count)?;
-    line.extend_from_slice(end)?;
-    Ok(line)
+fn error_line(rt: &impl Abort, alloc: Global, count: usize, end: &[u8]) -> Vec<u8> {
+    let mut line = must(rt, Vec::from_slice(alloc, b"SERVER_ERROR "));
+    must(rt, add_repeated(&mut line, b'x', count));
+    must(rt, line.extend_from_slice(end));
+    line
 }
 
 /// Asserts how many bytes the answers to a text are shown in.
@@ -137,37 +137,32 @@ fn gives_bytes(rt: &impl Abort, alloc: Global, text: &[u8], count: usize) {
 
 /// Asserts what a reader answers to an error with so many bytes of text.
 fn gives_text(rt: &impl Abort, alloc: Global, count: usize, end: &[u8], wanted: &[u8]) {
-    let line = must(rt, error_line(alloc, count, end));
+    let line = error_line(rt, alloc, count, end);
     gives(rt, alloc, &line, wanted);
 }
 
 #[test]
 fn error_text_has_8179_bytes(rt: HostRuntime) {
     let alloc = rt.alloc();
-    gives_bytes(
-        &rt,
-        alloc,
-        &must(&rt, error_line(alloc, 8179, b"\r\n")),
-        8195,
-    );
+    gives_bytes(&rt, alloc, &error_line(&rt, alloc, 8179, b"\r\n"), 8195);
     gives_text(&rt, alloc, 8180, b"\n", b"<1><9>");
     gives_text(&rt, alloc, 8180, b"", b";");
     gives_text(&rt, alloc, 8181, b"", b"<1><9>");
 }
 
 /// 4,094 items, and then a text.
-fn items_and(alloc: Global, last: &[u8]) -> Result<Vec<u8>, Fail> {
+fn items_and(rt: &impl Abort, alloc: Global, last: &[u8]) -> Vec<u8> {
     let mut text = Vec::new(alloc);
     for _ in 0..4094 {
-        text.extend_from_slice(b"VALUE k 0 0\r\n\r\n")?;
+        must(rt, text.extend_from_slice(b"VALUE k 0 0\r\n\r\n"));
     }
-    text.extend_from_slice(last)?;
-    Ok(text)
+    must(rt, text.extend_from_slice(last));
+    text
 }
 
 /// Asserts what a reader answers to 4,094 items and then a text.
 fn gives_behind_items(rt: &impl Abort, alloc: Global, last: &[u8], wanted: &[u8]) {
-    let text = must(rt, items_and(alloc, last));
+    let text = items_and(rt, alloc, last);
     gives(rt, alloc, &text, wanted);
 }
 
@@ -175,7 +170,7 @@ fn gives_behind_items(rt: &impl Abort, alloc: Global, last: &[u8], wanted: &[u8]
 fn reply_has_4094_items(rt: HostRuntime) {
     let alloc = rt.alloc();
     // Each item is written in 15 bytes, and a `;` follows where the reader waits.
-    gives_bytes(&rt, alloc, &must(&rt, items_and(alloc, b"END\r\n")), 61_416);
+    gives_bytes(&rt, alloc, &items_and(&rt, alloc, b"END\r\n"), 61_416);
     gives_behind_items(&rt, alloc, b"VALUE k 0 0\r\n", b"<4><9>");
     gives_behind_items(&rt, alloc, b"VALUE \x01 x y\r\n", b"<4><9>");
     gives_behind_items(&rt, alloc, b"VALUE k 0 0", b";");

@@ -117,16 +117,16 @@ fn key_of_251_bytes_is_refused(rt: HostRuntime) {
 }
 
 /// A line of `get k` and so many spaces.
-fn spaced_line(alloc: Global, spaces: usize, end: &[u8]) -> Result<Vec<u8>, Fail> {
-    let mut line = Vec::from_slice(alloc, b"get k")?;
-    add_repeated(&mut line, b' ', spaces)?;
-    line.extend_from_slice(end)?;
-    Ok(line)
+fn spaced_line(rt: &impl Abort, alloc: Global, spaces: usize, end: &[u8]) -> Vec<u8> {
+    let mut line = must(rt, Vec::from_slice(alloc, b"get k"));
+    must(rt, add_repeated(&mut line, b' ', spaces));
+    must(rt, line.extend_from_slice(end));
+    line
 }
 
 /// Asserts what a reader answers to a line of `get k` and so many spaces.
 fn gives_spaced(rt: &impl Abort, alloc: Global, spaces: usize, end: &[u8], wanted: &[u8]) {
-    let line = must(rt, spaced_line(alloc, spaces, end));
+    let line = spaced_line(rt, alloc, spaces, end);
     gives(rt, alloc, &line, wanted);
 }
 
@@ -149,7 +149,7 @@ fn gives_long(rt: &impl Abort, alloc: Global, line: &[u8]) {
 #[test]
 fn line_without_end_is_refused_at_8194_bytes(rt: HostRuntime) {
     let alloc = rt.alloc();
-    let line = must(&rt, spaced_line(alloc, 8187, b"x"));
+    let line = spaced_line(&rt, alloc, 8187, b"x");
     gives_long(&rt, alloc, &line);
     gives_spaced(&rt, alloc, 8187, b"\r", b";");
     gives_spaced(&rt, alloc, 9995, b"", b"<1><9>");
@@ -165,21 +165,21 @@ fn add_keys(line: &mut Vec<u8>, count: usize, end: &[u8]) -> Result<(), Fail> {
     Ok(())
 }
 
-fn line_of_keys(alloc: Global, count: usize, end: &[u8]) -> Result<Vec<u8>, Fail> {
+fn line_of_keys(rt: &impl Abort, alloc: Global, count: usize, end: &[u8]) -> Vec<u8> {
     let mut line = Vec::new(alloc);
-    add_keys(&mut line, count, end)?;
-    Ok(line)
+    must(rt, add_keys(&mut line, count, end));
+    line
 }
 
 /// What a list of so many keys is refused with.
-fn keys_refusal(alloc: Global, count: usize) -> Result<Option<TextError>, Fail> {
-    let keys = repeated_keys(alloc, b"k", count)?;
-    Ok(KeyList::new(keys).err())
+fn keys_refusal(rt: &impl Abort, alloc: Global, count: usize) -> Option<TextError> {
+    let keys = must(rt, repeated_keys(alloc, b"k", count));
+    KeyList::new(keys).err()
 }
 
 /// Asserts what a reader answers to a get of so many keys.
 fn gives_keys(rt: &impl Abort, alloc: Global, count: usize, wanted: &[u8]) {
-    let line = must(rt, line_of_keys(alloc, count, b"\r\n"));
+    let line = line_of_keys(rt, alloc, count, b"\r\n");
     gives(rt, alloc, &line, wanted);
 }
 
@@ -187,17 +187,17 @@ fn gives_keys(rt: &impl Abort, alloc: Global, count: usize, wanted: &[u8]) {
 fn get_of_4094_keys_is_read(rt: HostRuntime) {
     count_is(
         &rt,
-        must(&rt, line_of_keys(rt.alloc(), 4094, b"\r\n")).len(),
+        line_of_keys(&rt, rt.alloc(), 4094, b"\r\n").len(),
         8193,
     );
-    let wanted = must(&rt, line_of_keys(rt.alloc(), 4094, b"\r\n;"));
+    let wanted = line_of_keys(&rt, rt.alloc(), 4094, b"\r\n;");
     gives_keys(&rt, rt.alloc(), 4094, &wanted);
-    holds(&rt, must(&rt, keys_refusal(rt.alloc(), 4094)).is_none());
+    holds(&rt, keys_refusal(&rt, rt.alloc(), 4094).is_none());
 }
 
 #[test]
 fn get_of_4095_keys_is_refused(rt: HostRuntime) {
     gives_keys(&rt, rt.alloc(), 4095, b"<1><9>");
-    let refusal = must(&rt, keys_refusal(rt.alloc(), 4095));
+    let refusal = keys_refusal(&rt, rt.alloc(), 4095);
     is_refused(&rt, refusal, TextError::LineTooLong);
 }

@@ -57,15 +57,15 @@ fn is_closed(rt: &impl Abort, reader: &mut RequestReader) {
 }
 
 /// Whether a quit comes next.
-fn quits(reader: &mut RequestReader) -> Result<bool, Fail> {
-    Ok(matches!(reader.next()?, Some(Request::Quit)))
+fn quits(rt: &impl Abort, reader: &mut RequestReader) -> bool {
+    matches!(must(rt, reader.next()), Some(Request::Quit))
 }
 
 #[test]
 fn quit_closes(rt: HostRuntime) {
     let mut reader = RequestReader::new(rt.alloc());
     must(&rt, reader.feed(b"quit\r\nget k\r\n"));
-    holds(&rt, must(&rt, quits(&mut reader)));
+    holds(&rt, quits(&rt, &mut reader));
     is_closed(&rt, &mut reader);
 }
 

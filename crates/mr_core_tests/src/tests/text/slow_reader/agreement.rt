@@ -15,7 +15,7 @@ fn agree_on_text(
     text: &[u8],
 ) {
     let mut answers = Vec::new(alloc);
-    must(rt, add_slow_answers(alloc, texts, text, &mut answers));
+    add_slow_answers(rt, alloc, texts, text, &mut answers);
     let given = must(rt, answers_in_two(alloc, texts, pieces, true));
     are_answers(rt, &given, &answers, pieces);
 }

@@ -2,8 +2,10 @@
 mod replies;
 mod requests;
 
+use crate::tests::must;
 use mr_test_parts::Texts;
 use std::alloc::Global;
+use std::process::Abort;
 use std::test::Fail;
 
 /// Puts this in place of what was added since the answer had this length, and reads nothing: the reader is closed, or
@@ -249,22 +251,22 @@ fn last_mark(rest: &[u8]) -> &'static [u8] {
 
 /// Adds the answers of a reader of these bytes and then the end of the input, as the real one's are shown.
 pub(super) fn add_slow_answers(
+    rt: &impl Abort,
     alloc: Global,
     texts: Texts,
     bytes: &[u8],
     answers: &mut Vec<u8>,
-) -> Result<(), Fail> {
+) {
     let mut rest = bytes;
     for _ in 0..16 {
         let before = answers.len();
-        let length = add_front(alloc, texts, rest, answers)?;
+        let length = must(rt, add_front(alloc, texts, rest, answers));
         if length == 0 {
             if answers.len() == before {
-                answers.extend_from_slice(last_mark(rest))?;
+                must(rt, answers.extend_from_slice(last_mark(rest)));
             }
             break;
         }
         rest = rest.get(length..).unwrap_or(b"");
     }
-    Ok(())
 }

@@ -32,29 +32,27 @@ fn requests_are_written(rt: HostRuntime) {
 }
 
 /// Writes a get, a set and a delete of a key.
-fn write_commands<S: Sink>(key: &Key, block: &Block, sink: &mut S) -> Result<(), WriteFault> {
-    write_get(key, sink)?;
-    write_set(key, 7, -1, block, sink)?;
-    write_delete(key, sink)
+fn write_commands<S: Sink>(rt: &impl Abort, key: &Key, block: &Block, sink: &mut S) {
+    must(rt, write_get(key, sink));
+    must(rt, write_set(key, 7, -1, block, sink));
+    must(rt, write_delete(key, sink));
 }
 
 /// The text of a get, a set and a delete of a key.
-fn commands_text(alloc: Global, key: &Key, block: &Block) -> Result<Vec<u8>, WriteFault> {
+fn commands_text(rt: &impl Abort, alloc: Global, key: &Key, block: &Block) -> Vec<u8> {
     let mut sink = OverWriter::new(Vec::new(alloc));
-    write_commands(key, block, &mut sink)?;
-    Ok(sink.into_inner())
+    write_commands(rt, key, block, &mut sink);
+    sink.into_inner()
 }
 
 #[test]
 fn commands_of_one_key_are_written(rt: HostRuntime) {
     let alloc = rt.alloc();
-    let text = must(
+    let text = commands_text(
         &rt,
-        commands_text(
-            alloc,
-            &must(&rt, Key::new(alloc, b"k")),
-            &must(&rt, Block::new(alloc, b"v")),
-        ),
+        alloc,
+        &must(&rt, Key::new(alloc, b"k")),
+        &must(&rt, Block::new(alloc, b"v")),
     );
     are(&rt, &text, b"get k\r\nset k 7 -1 1\r\nv\r\ndelete k\r\n");
 }
@@ -84,14 +82,14 @@ fn sets_are_written(rt: HostRuntime) {
     );
 }
 
-fn one_item(alloc: Global, flags: u32, block: &[u8]) -> Result<Reply, Fail> {
+fn one_item(rt: &impl Abort, alloc: Global, flags: u32, block: &[u8]) -> Reply {
     let mut items = Vec::new(alloc);
-    items.push(item(alloc, b"k", flags, block)?)?;
-    Ok(Reply::Items(ItemList::new(items)))
+    must(rt, items.push(must(rt, item(alloc, b"k", flags, block))));
+    Reply::Items(ItemList::new(items))
 }
 
-fn other(alloc: Global, text: &[u8]) -> Result<Reply, Fail> {
-    Ok(Reply::ServerError(Cause::Other(Line::new(alloc, text)?)))
+fn other(rt: &impl Abort, alloc: Global, text: &[u8]) -> Reply {
+    Reply::ServerError(Cause::Other(must(rt, Line::new(alloc, text))))
 }
 
 #[test]
@@ -99,9 +97,9 @@ fn items_are_written(rt: HostRuntime) {
     let alloc = rt.alloc();
     let none = ItemList::new(Vec::new(alloc));
     is_reply(&rt, alloc, Reply::Items(none), b"END\r\n");
-    let item = must(&rt, one_item(alloc, 0, b"v"));
+    let item = one_item(&rt, alloc, 0, b"v");
     is_reply(&rt, alloc, item, b"VALUE k 0 1\r\nv\r\nEND\r\n");
-    let item = must(&rt, one_item(alloc, 4294967295, b""));
+    let item = one_item(&rt, alloc, 4294967295, b"");
     is_reply(&rt, alloc, item, b"VALUE k 4294967295 0\r\n\r\nEND\r\n");
 }
 
@@ -121,16 +119,11 @@ fn errors_are_written(rt: HostRuntime) {
     is_reply(&rt, alloc, refused, b"CLIENT_ERROR bad key\r\n");
     let failed = Reply::ServerError(Cause::LegLost);
     is_reply(&rt, alloc, failed, b"SERVER_ERROR leg lost\r\n");
+    is_reply(&rt, alloc, other(&rt, alloc, b""), b"SERVER_ERROR \r\n");
     is_reply(
         &rt,
         alloc,
-        must(&rt, other(alloc, b"")),
-        b"SERVER_ERROR \r\n",
-    );
-    is_reply(
-        &rt,
-        alloc,
-        must(&rt, other(alloc, b" a\r")),
+        other(&rt, alloc, b" a\r"),
         b"SERVER_ERROR  a\r\r\n",
     );
 }

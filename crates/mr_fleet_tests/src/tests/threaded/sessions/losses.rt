@@ -30,7 +30,7 @@ fn is_told(
 #[test]
 fn a_leg_that_is_lost_on_its_way_is_told(rt: HostRuntime) {
     let alloc = rt.alloc();
-    let mut carriers = must(&rt, broken_carriers(alloc, &[2, 3]));
+    let mut carriers = broken_carriers(&rt, alloc, &[2, 3]);
     let input = b"get k\r\ndelete k\r\ndelete k noreply\r\nquit\r\n";
     is_told(&rt, alloc, &mut carriers, input, Ended::Quit, false);
 }
@@ -38,7 +38,7 @@ fn a_leg_that_is_lost_on_its_way_is_told(rt: HostRuntime) {
 #[test]
 fn a_request_whose_legs_find_no_carrier_is_given_up(rt: HostRuntime) {
     let alloc = rt.alloc();
-    let mut carriers = must(&rt, broken_carriers(alloc, &[]));
+    let mut carriers = broken_carriers(&rt, alloc, &[]);
     let input = b"get k\r\ndelete k noreply\r\ndelete a\r\n";
     is_told(&rt, alloc, &mut carriers, input, Ended::Ended, true);
 }

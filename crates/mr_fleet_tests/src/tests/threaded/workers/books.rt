@@ -88,28 +88,30 @@ fn one_get_fills_a_book_of_two_steps(rt: HostRuntime) {
 
 /// Whether what came back is the answer to its request.
 fn is_answer(
+    rt: &impl Abort,
     state: &mut RecordedState<Broken>,
     carried: &Carried<Broken>,
-) -> Result<bool, AllocError> {
-    let taken = state.take(carried)?;
-    Ok(matches!(taken, Taken::Answered(_)))
+) -> bool {
+    let taken = must(rt, state.take(carried));
+    matches!(taken, Taken::Answered(_))
 }
 
 /// Whether what came back is a stranger.
 fn is_stranger(
+    rt: &impl Abort,
     state: &mut RecordedState<Broken>,
     carried: &Carried<Broken>,
-) -> Result<bool, AllocError> {
-    let taken = state.take(carried)?;
-    Ok(matches!(taken, Taken::Stranger(_)))
+) -> bool {
+    let taken = must(rt, state.take(carried));
+    matches!(taken, Taken::Stranger(_))
 }
 
 /// Takes what came of the legs of a get, each twice: the second is a stranger.
 fn take_twice(rt: &impl Abort, state: &mut RecordedState<Broken>, legs: Vec<Leg>) {
     for leg in legs {
         let carried = Carried::of(&mut Broken::new(), leg);
-        holds(rt, must(rt, is_answer(state, &carried)));
-        holds(rt, must(rt, is_stranger(state, &carried)));
+        holds(rt, is_answer(rt, state, &carried));
+        holds(rt, is_stranger(rt, state, &carried));
     }
 }
 
@@ -124,17 +126,17 @@ fn has_one_answer(rt: &impl Abort, alloc: Global, state: RecordedState<Broken>, 
 }
 
 /// Issues the get of `k`.
-fn issue_get(alloc: Global, state: &mut RecordedState<Broken>) -> Result<Issued, Fail> {
-    let mut share = desk_of(alloc, 4)?.share();
-    let get = get_of(alloc, &[b"k"])?;
-    Ok(state.issue(&mut share, &mut FixedClock(1000), &get)?)
+fn issue_get(rt: &impl Abort, alloc: Global, state: &mut RecordedState<Broken>) -> Issued {
+    let mut share = must(rt, desk_of(alloc, 4)).share();
+    let get = must(rt, get_of(alloc, &[b"k"]));
+    must(rt, state.issue(&mut share, &mut FixedClock(1000), &get))
 }
 
 #[test]
 fn a_book_gives_its_answers_again(rt: HostRuntime) {
     let alloc = rt.alloc();
     let mut state = RecordedState::new(alloc, must(&rt, core_of(alloc, &NEW)), 4);
-    let Issued { op, legs } = must(&rt, issue_get(alloc, &mut state));
+    let Issued { op, legs } = issue_get(&rt, alloc, &mut state);
     take_twice(&rt, &mut state, legs);
     has_one_answer(&rt, alloc, state, op);
 }

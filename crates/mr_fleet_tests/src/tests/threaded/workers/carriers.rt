@@ -191,7 +191,7 @@ fn is_lost(answer: Answer) -> bool {
 fn a_leg_whose_link_is_broken_is_lost(rt: HostRuntime) {
     let alloc = rt.alloc();
     let delete = must(&rt, delete_of(alloc, b"k"));
-    let mut carriers = must(&rt, broken_carriers(alloc, &[2, 1]));
+    let mut carriers = broken_carriers(&rt, alloc, &[2, 1]);
     let answer = must(
         &rt,
         answer_to(&rt, &must(&rt, desk_of(alloc, 9)), &mut carriers, &delete),
@@ -204,7 +204,7 @@ fn a_leg_whose_link_is_broken_is_lost(rt: HostRuntime) {
 fn a_leg_without_a_carrier_is_handed_back(rt: HostRuntime) {
     let alloc = rt.alloc();
     let get = must(&rt, get_of(alloc, &[b"k"]));
-    let mut carriers = must(&rt, broken_carriers(alloc, &[]));
+    let mut carriers = broken_carriers(&rt, alloc, &[]);
     let answer = must(
         &rt,
         answer_to(&rt, &must(&rt, desk_of(alloc, 9)), &mut carriers, &get),

@@ -10,6 +10,7 @@ use mr_proxy::{Answer, Leg, Taken};
 use mr_text::Request;
 use mr_workers::{Carried, Closed, Desk, RecordedProxy, Share, close};
 use std::alloc::{AllocError, Global};
+use std::process::Abort;
 use std::sync::Wait;
 use std::test::Fail;
 
@@ -136,21 +137,21 @@ fn a_share_that_is_missing_differs(rt: HostRuntime) {
 }
 
 /// A copy of the first answer of each session.
-fn copies(alloc: Global, sessions: &[Vec<Answer>]) -> Result<Vec<Answer>, AllocError> {
+fn copies(rt: &impl Abort, alloc: Global, sessions: &[Vec<Answer>]) -> Vec<Answer> {
     let mut copies = Vec::new(alloc);
     for session in sessions {
         if let Some(answer) = session.first() {
-            copies.push(answer.copy()?)?;
+            must(rt, copies.push(must(rt, answer.copy())));
         }
     }
-    Ok(copies)
+    copies
 }
 
 #[test]
 fn an_answer_and_its_copy_differ(rt: HostRuntime) {
     let alloc = rt.alloc();
     let mut sessions = must(&rt, two_sessions(&rt, alloc));
-    let copies = must(&rt, copies(alloc, &sessions.answers));
+    let copies = copies(&rt, alloc, &sessions.answers);
     must(&rt, sessions.answers.push(copies));
     holds(&rt, !must(&rt, stands(alloc, sessions)));
 }

@@ -2,6 +2,7 @@
 use super::*;
 use crate::tests::must;
 use mr_proxy::LegSheet;
+use std::process::Abort;
 
 /// One request that is planned.
 #[derive(Clone, Copy)]
@@ -92,17 +93,17 @@ fn keys(alloc: Global, bytes: &[u8]) -> Result<KeyList, Fail> {
     }
 }
 
-fn request(alloc: Global, asked: Asked) -> Result<Request, Fail> {
-    Ok(match asked {
+fn request(rt: &impl Abort, alloc: Global, asked: Asked) -> Request {
+    match asked {
         Asked::Get(bytes) => Request::Get {
-            keys: keys(alloc, bytes)?,
+            keys: must(rt, keys(alloc, bytes)),
         },
         Asked::Delete(byte) => Request::Delete {
-            key: key(alloc, byte)?,
+            key: must(rt, key(alloc, byte)),
             noreply: false,
         },
         Asked::Quit => Request::Quit,
-    })
+    }
 }
 
 /// Whether legs have these sides and nodes, in this order.
@@ -129,7 +130,7 @@ fn plan_is(rt: &impl Abort, plan: &RequestPlan, row: Row) {
 
 /// Plans a request, and asserts what the plan says.
 fn goes(rt: &impl Abort, alloc: Global, config: &Config, row: Row) -> Result<(), Fail> {
-    let request = must(rt, request(alloc, row.0));
+    let request = request(rt, alloc, row.0);
     match plan(alloc, config, row.1, request) {
         Ok(plan) => {
             plan_is(rt, &plan, row);

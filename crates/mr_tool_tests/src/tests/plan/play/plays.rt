@@ -6,6 +6,7 @@ use super::parts::{PARTS, Part, Parts, Told};
 use super::*;
 use crate::tests::must;
 use rand_pcg::Pcg32;
+use std::process::Abort;
 
 /// How many scripts are drawn.
 const SCRIPTS: u32 = 600;
@@ -58,8 +59,8 @@ fn played(alloc: Global, script: &str) -> Result<Result<Told, PlanError>, Fail> 
 }
 
 /// What the written transcript of the script among the parts tells of its play.
-fn play_of(alloc: Global, parts: &Parts) -> Result<Result<Told, PlanError>, Fail> {
-    played(alloc, parts.script(alloc)?.as_str())
+fn play_of(rt: &impl Abort, alloc: Global, parts: &Parts) -> Result<Told, PlanError> {
+    must(rt, played(alloc, must(rt, parts.script(alloc)).as_str()))
 }
 
 /// What a check has to find of a transcript that tells this, by what is told of the play of its script.
@@ -102,21 +103,26 @@ fn draw_kinds(rng: &mut Pcg32) -> Kinds {
 }
 
 /// Changes the setup or the events in one place.
-fn change_script(alloc: Global, rng: &mut Pcg32, parts: &mut Parts) -> Result<(), Fail> {
+fn change_script(rt: &impl Abort, alloc: Global, rng: &mut Pcg32, parts: &mut Parts) {
     let kinds = draw_kinds(rng);
     let drawn = &mut parts.drawn;
     if below(rng, 4) == 0 {
-        drawn.setup = changed_character(alloc, rng, drawn.setup.as_str(), kinds)?;
+        drawn.setup = must(
+            rt,
+            changed_character(alloc, rng, drawn.setup.as_str(), kinds),
+        );
     } else {
-        drawn.events = changed_character(alloc, rng, drawn.events.as_str(), kinds)?;
+        drawn.events = must(
+            rt,
+            changed_character(alloc, rng, drawn.events.as_str(), kinds),
+        );
     }
-    Ok(())
 }
 
 /// What has to be found of a transcript whose script was changed, and whether that has a play.
-fn wanted_of(alloc: Global, parts: &Parts) -> Result<(Result<Outcome, PlanError>, bool), Fail> {
-    let play = play_of(alloc, parts)?;
-    Ok((wanted(&parts.told, &play), play.is_ok()))
+fn wanted_of(rt: &impl Abort, alloc: Global, parts: &Parts) -> (Result<Outcome, PlanError>, bool) {
+    let play = play_of(rt, alloc, parts);
+    (wanted(&parts.told, &play), play.is_ok())
 }
 
 /// Looks at the transcript with its setup or its events changed in one place.
@@ -127,8 +133,8 @@ fn finds_another_script(
     parts: &mut Parts,
     tally: &mut Tally,
 ) {
-    must(rt, change_script(alloc, rng, parts));
-    let (wanted, is_played) = must(rt, wanted_of(alloc, parts));
+    change_script(rt, alloc, rng, parts);
+    let (wanted, is_played) = wanted_of(rt, alloc, parts);
     finds(rt, alloc, parts, wanted);
     let is_kept = wanted == Ok(Outcome::Accepted);
     count(&mut tally.kept, is_kept);
@@ -172,7 +178,7 @@ fn premises_hold(rt: &impl Abort, parts: &Parts) {
 
 /// Plays a script that was drawn, and looks at its transcript.
 fn goes(rt: &impl Abort, alloc: Global, parts: &mut Parts, rng: &mut Pcg32, tally: &mut Tally) {
-    match must(rt, play_of(alloc, parts)) {
+    match play_of(rt, alloc, parts) {
         Ok(told) => {
             parts.told = told;
             premises_hold(rt, parts);

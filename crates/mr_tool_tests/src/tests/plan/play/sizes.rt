@@ -11,7 +11,7 @@ fn long_is_found(
     length: usize,
     wanted: Result<Outcome, PlanError>,
 ) {
-    let text = must(rt, padded(alloc, TRANSCRIPT, length));
+    let text = padded(rt, alloc, TRANSCRIPT, length);
     is(rt, text.len(), length);
     is_found(rt, alloc, text.as_str(), wanted, "a long transcript");
 }

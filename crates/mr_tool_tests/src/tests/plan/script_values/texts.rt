@@ -3,6 +3,7 @@ use super::*;
 use crate::tests::must;
 use mr_plan::Config;
 use mr_transcripts::check_transcript;
+use std::process::Abort;
 
 /// Asserts what a configuration of these bytes is refused for, and what a script and a transcript are refused for.
 fn are_refused(
@@ -93,11 +94,14 @@ fn what_is_no_object_is_of_the_wrong_kind(rt: HostRuntime) {
 }
 
 /// The value `1` within as many pairs of these two texts.
-fn nested(alloc: Global, open: &str, depth: usize, close: &str) -> Result<String, AllocError> {
-    let mut text = open.repeat(alloc, depth)?;
-    text.push('1')?;
-    text.push_str(close.repeat(alloc, depth)?.as_str())?;
-    Ok(text)
+fn nested(rt: &impl Abort, alloc: Global, open: &str, depth: usize, close: &str) -> String {
+    let mut text = must(rt, open.repeat(alloc, depth));
+    must(rt, text.push('1'));
+    must(
+        rt,
+        text.push_str(must(rt, close.repeat(alloc, depth)).as_str()),
+    );
+    text
 }
 
 /// The texts of an array or an object, how often the value stands within it, and what is told.
@@ -113,7 +117,7 @@ const NESTED: [Nested; 4] = [
 /// Asserts what all three are refused for where a value stands within others.
 fn nested_is_refused(rt: &impl Abort, alloc: Global, row: Nested) {
     let (open, depth, close, wanted) = row;
-    let text = must(rt, nested(alloc, open, depth, close));
+    let text = nested(rt, alloc, open, depth, close);
     are_refused(rt, alloc, text.as_bytes(), wanted, wanted);
 }
 
@@ -135,7 +139,7 @@ fn nested_is_told(rt: &impl Abort, alloc: Global, depth: usize, wanted: PlanErro
     let mut new = must(rt, String::from_str(alloc, "\"capacity\": "));
     must(
         rt,
-        new.push_str(must(rt, nested(alloc, "[", depth, "]")).as_str()),
+        new.push_str(nested(rt, alloc, "[", depth, "]").as_str()),
     );
     is_told(rt, alloc, r#""capacity": 4"#, new.as_str(), Some(wanted));
 }
@@ -204,7 +208,7 @@ fn the_last_value_of_a_key_counts(rt: HostRuntime) {
 
 /// Asserts what is told of the script between as many spaces as make it so long.
 fn long_is_told(rt: &impl Abort, alloc: Global, length: usize, wanted: Option<PlanError>) {
-    let text = must(rt, padded(alloc, SCRIPT, length));
+    let text = padded(rt, alloc, SCRIPT, length);
     is(rt, text.len(), length);
     is(rt, refusal(alloc, text.as_str()), wanted);
 }
