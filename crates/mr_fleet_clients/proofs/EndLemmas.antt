@@ -26,5 +26,5 @@ pub had_a_thread : {K : Type 0} (reads : Reads K) (failures : K → ℕ) (gave :
     (took : List AnswerView) (result : Result Ended WorkerError) → HadSession reads failures gave turns reader writer issued took result → result ≢ Err NoThread
 had_a_thread reads failures gave turns reader writer issued took result had told =
     subst (ClientSessionIs (Asks reads failures gave true) (AsksInVain reads failures) had.reader_before reader
-        (station had.clock_before (account 0 [] had.losses_before had.brought_before) had.writer_before)
-        (station had.clock_after (account issued took had.losses_after had.brought_after) writer)) told had.session
+    (station had.clock_before (account 0 [] had.losses_before had.brought_before) had.writer_before)
+    (station had.clock_after (account issued took had.losses_after had.brought_after) writer)) told had.session
