@@ -3,12 +3,16 @@ mod fleet;
 mod sockets;
 mod threaded;
 
+ghost use Rattle.std.specs.Prelude.{◌≡◌, Ok};
+
 use mr_pools::{NodeName, Pool};
 use std::alloc::{AllocError, Global};
 use std::process::Abort;
 
 /// What a call gave that has to go well. A test ends here where it failed.
-fn must<T, E>(rt: &impl Abort, called: Result<T, E>) -> T {
+fn must<T, E>(rt: &impl Abort, called: Result<T, E>) -> T
+    ensures { called ≡ Ok result }
+{
     match called {
         Ok(value) => value,
         Err(_) => rt.panic("a call failed that has to go well"),
