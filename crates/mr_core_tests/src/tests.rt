@@ -8,6 +8,8 @@ mod pools;
 mod proxy;
 mod text;
 
+ghost use Rattle.std.specs.Prelude.{◌≡◌, Ok};
+
 use mr_pools::{NamedHash, NodeName, Pool, PoolError, Routing};
 use mr_test_parts::add_repeated;
 use std::alloc::Global;
@@ -15,7 +17,9 @@ use std::process::Abort;
 use std::test::Fail;
 
 /// What a call gave that has to go well. A test ends here where it failed.
-fn must<T, E>(rt: &impl Abort, called: Result<T, E>) -> T {
+fn must<T, E>(rt: &impl Abort, called: Result<T, E>) -> T
+    ensures { called ≡ Ok result }
+{
     match called {
         Ok(value) => value,
         Err(_) => rt.panic("a call failed that has to go well"),
