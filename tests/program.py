@@ -1,0 +1,16 @@
+"""Where the program under test is: what MIGCTL names, or what `./migctl` at the top builds."""
+import os
+import pathlib
+import subprocess
+
+ROOT = pathlib.Path(__file__).resolve().parent.parent
+BUILT = ROOT / "crates/mr_tool/out/mr_tool"
+
+
+def path():
+    """The program, as an absolute path. `./migctl` is run once, so that the program is built where it isn't yet, and then left
+    out: it looks over all sources at each call."""
+    if "MIGCTL" in os.environ:
+        return str(pathlib.Path(os.environ["MIGCTL"]).resolve())
+    subprocess.run([ROOT / "migctl", "timeline", "--config", ROOT / "examples/fleet.json"], stdout=subprocess.DEVNULL, check=True)
+    return str(BUILT)
