@@ -22,6 +22,9 @@ file, where a case doesn't say otherwise. The fields:
     input          the standard input, empty where it isn't given
     output         the standard output, empty where it isn't given
     output json    the same, written as JSON in any layout: what is wanted is its compact form, keys in byte order, and a line end
+    output added   the same again, but only what the output has beside the JSON of the standard input: of a transcript what
+                   came of its script
+    checked        what `check` has to say of the wanted output: a run of its own, which ends with 3 where it isn't `accepted`
     faults         the standard error, empty where it isn't given; `...` is any text but the empty one, whose wording isn't ours
     status         0 where it isn't given
 
@@ -30,7 +33,8 @@ of which ends with a line end. In a value stand `\\r \\n \\t \\\\ \\xNN` for byt
 `\\(TEXT*COUNT|BETWEEN)` for the same with a text between each two; in a repeated text `\\#` is how many stood before it.
 
 `input of NAME` and `file X of NAME` take a file of `tests/cases/files` and change it: for each pair of lines `- OLD` and
-`+ NEW` in the lines below, OLD has to stand there once and NEW takes its place. A `+` alone puts its text at the end.
+`+ NEW` in the lines below, OLD has to stand there once and NEW takes its place. A `+` alone puts its text at the end. A
+line that begins with two spaces goes on with OLD or NEW, behind a line end.
 """
 import json
 import pathlib
@@ -41,7 +45,7 @@ CASES = pathlib.Path(__file__).resolve().parent / "cases"
 SHARED = CASES / "files"
 ANY = object()
 
-FIELD = re.compile(r"(words|files|file \S+(?: of \S+)?|input(?: of \S+)?|output(?: json)?|faults|status):(?: (.*))?")
+FIELD = re.compile(r"(words|files|file \S+(?: of \S+)?|input(?: of \S+)?|output(?: json| added)?|checked|faults|status):(?: (.*))?")
 PIECE = re.compile(r"\\\(([^\n]*?)\*(\d+)(?:\|([^\n]*?))?\)|\\x([0-9a-fA-F]{2})|\\(.)")
 LETTERS = {"r": "\r", "n": "\n", "t": "\t", "\\": "\\"}
 
@@ -93,9 +97,9 @@ def words_of(text):
     return [expanded(word) for word in reader]
 
 
-def compact(text):
-    """JSON in its compact form, the keys of each object in byte order, with a line end."""
-    return json.dumps(json.loads(text), sort_keys=True, separators=(",", ":"), ensure_ascii=False).encode() + b"\n"
+def compact(value):
+    """A value as JSON in its compact form, the keys of each object in byte order, with a line end."""
+    return json.dumps(value, sort_keys=True, separators=(",", ":"), ensure_ascii=False).encode() + b"\n"
 
 
 def shared(name):
@@ -105,21 +109,32 @@ def shared(name):
         raise BadCase(f"there is no file {name}") from error
 
 
+def pieces_of(lines):
+    """The sign and the text of each piece of a change, whose further lines begin with two spaces."""
+    pieces = []
+    for line in lines:
+        if line.startswith("  ") and pieces:
+            pieces[-1][1] += "\n" + line[2:]
+        else:
+            pieces.append([line[:1], line[2:]])
+    return pieces
+
+
 def changed(name, lines):
     """A shared file with pieces that take the place of others."""
     data = shared(name)
     old = None
-    for line in lines:
-        sign, text = line[:1], expanded(line[2:])
+    for sign, written in pieces_of(lines):
+        text = expanded(written)
         if sign == "-" and old is None:
             if data.count(text) != 1:
-                raise BadCase(f"{name} has {data.count(text)} times: {line[2:]}")
+                raise BadCase(f"{name} has {data.count(text)} times: {written}")
             old = text
         elif sign == "+":
             data = data + text if old is None else data.replace(old, text)
             old = None
         else:
-            raise BadCase(f"a change of {name} is a line '- OLD', then a line '+ NEW': {line}")
+            raise BadCase(f"a change of {name} is a line '- OLD', then a line '+ NEW': {sign} {written}")
     if old is not None:
         raise BadCase(f"a change of {name} lacks its '+' line")
     return data
@@ -132,9 +147,20 @@ def value(given, lines):
     return expanded(given) if given is not None else b"".join(expanded(line) + b"\n" for line in lines)
 
 
+def with_members(text, more):
+    """What a transcript has beside its script, put to it: JSON in its compact form."""
+    return compact({**json.loads(text), **json.loads(more)})
+
+
+def checked(case, told):
+    """The check of the transcript that a case wants to be written."""
+    status = 0 if told.endswith(b"\naccepted\n") else 3
+    return Case(f"{case.name}, and is checked", ["check"], {}, case.stdout, status, told, b"")
+
+
 def case_of(name, fields):
     """The case that these fields say: from the name of each, what stands behind its colon and the lines below."""
-    words, files, stdin, stdout, stderr, status = [], {}, b"", b"", b"", 0
+    words, files, stdin, stdout, stderr, status, added = [], {}, b"", b"", b"", 0, None
     if "words" not in fields:
         raise BadCase("it has no words")
     for field, (given, lines) in fields.items():
@@ -148,13 +174,17 @@ def case_of(name, fields):
         elif kind == "input":
             stdin = changed(rest[1], lines) if rest else value(given, lines)
         elif field == "output json":
-            stdout = compact(value(given, lines))
+            stdout = compact(json.loads(value(given, lines)))
+        elif field == "output added":
+            added = value(given, lines)
         elif field == "output":
             stdout = value(given, lines)
         elif field == "faults":
             stderr = ANY if given == "..." else value(given, lines)
         elif field == "status":
             status = int(given)
+    if added is not None:
+        stdout = with_members(stdin, added)
     return Case(name, words, files, stdin, status, stdout, stderr)
 
 
@@ -183,7 +213,7 @@ def sections(lines):
 
 def slot(field):
     """What a field is about: a case's own takes the place of the head's."""
-    return re.sub(r" of \S+$| json$", "", field)
+    return re.sub(r" of \S+$| json$| added$", "", field)
 
 
 def cases_in(path):
@@ -195,7 +225,10 @@ def cases_in(path):
         for name, own in rest:
             said = {slot(field) for field in own}
             fields = {**{field: it for field, it in head.items() if slot(field) not in said}, **own}
-            yield case_of(f"{path.relative_to(CASES).with_suffix('')}: {name}", fields)
+            case = case_of(f"{path.relative_to(CASES).with_suffix('')}: {name}", fields)
+            yield case
+            if "checked" in fields:
+                yield checked(case, value(*fields["checked"]))
     except (BadCase, ValueError) as error:
         raise BadCase(f"{path.relative_to(CASES)}: {error}") from error
 
