@@ -30,7 +30,8 @@ file, where a case doesn't say otherwise. The fields:
 
 A value stands behind the colon, and is then taken without a line end; or in the lines below, indented by four spaces, each
 of which ends with a line end. In a value stand `\\r \\n \\t \\\\ \\xNN` for bytes, `\\(TEXT*COUNT)` for so many times the text, and
-`\\(TEXT*COUNT|BETWEEN)` for the same with a text between each two; in a repeated text `\\#` is how many stood before it.
+`\\(TEXT*COUNT|BETWEEN)` for the same with a text between each two; in a repeated text `\\#` is how many stood before it. A
+repeated text may hold another one.
 
 `input of NAME` and `file X of NAME` take a file of `tests/cases/files` and change it: for each pair of lines `- OLD` and
 `+ NEW` in the lines below, OLD has to stand there once and NEW takes its place. A `+` alone puts its text at the end. A
@@ -46,7 +47,8 @@ SHARED = CASES / "files"
 ANY = object()
 
 FIELD = re.compile(r"(words|files|file \S+(?: of \S+)?|input(?: of \S+)?|output(?: json| added)?|checked|faults|status):(?: (.*))?")
-PIECE = re.compile(r"\\\(([^\n]*?)\*(\d+)(?:\|([^\n]*?))?\)|\\x([0-9a-fA-F]{2})|\\(.)")
+INNER = r"\\\([^\n]*?\*\d+(?:\|[^\n]*?)?\)"
+PIECE = re.compile(rf"\\\(((?:{INNER}|[^\n])*?)\*(\d+)(?:\|([^\n]*?))?\)" + r"|\\x([0-9a-fA-F]{2})|\\(.)")
 LETTERS = {"r": "\r", "n": "\n", "t": "\t", "\\": "\\"}
 
 
