@@ -6,11 +6,9 @@ cases have. Faults are looked for in the order words, file, configuration or scr
 import re
 from typing import NamedTuple
 
-from . import configs, refusals, text, transcripts
+from . import configs, fields, refusals, text, transcripts
 from .phases import PHASES, spread
 from .proxies import Proxy
-
-NUMBERS = range(2**64)
 
 
 class Answer(NamedTuple):
@@ -80,7 +78,7 @@ def timeline(words, files, _):
 
 def readings_of(word):
     members = word.split(",")
-    if not all(re.fullmatch("[0-9]+", member) and int(member) in NUMBERS for member in members):
+    if not all(re.fullmatch("[0-9]+", member) and int(member) in fields.NUMBERS for member in members):
         raise Fault("migctl: words --readings", 2)
     return [int(member) for member in members]
 

@@ -63,10 +63,11 @@ def kinds_of_plan(output):
 
 def kinds_of_timeline(output):
     for line in output.decode().splitlines():
-        words = line.split(" ")
-        yield {"reading": f"timeline: reading {words[-1]}", "spread": f"timeline: {words[-1]}"}.get(words[0], "timeline: spans")
-        if words[-1] == "none":
-            yield "timeline: none"
+        first, *_, last = line.split(" ")
+        if first in ("reading", "spread"):
+            yield f"timeline: {first} {last}"
+        elif last == "none":
+            yield f"timeline: {first} none"
 
 
 def kinds_of_transcript(output):
@@ -105,10 +106,9 @@ EXPECTED = [
     *(f"plan: {phase}" for phase in PHASES),
     *(f"plan: {count} legs" for count in range(4)),
     *(f"timeline: reading {phase}" for phase in PHASES),
-    "timeline: spans",
-    "timeline: none",
-    "timeline: ok",
-    "timeline: far",
+    "timeline: spread ok",
+    "timeline: spread far",
+    f"timeline: {PHASES[0]} none",
     "run: safe",
     "run: safe with a hit",
     "run: stale",

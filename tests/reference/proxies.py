@@ -29,7 +29,7 @@ class Item(NamedTuple):
 
 
 class Answer(NamedTuple):
-    """The answer to a request: `items` for a get, else None; `kind` is that of the worst leg, or `items`."""
+    """The answer to a request: of the kind `items` where a get found out, else of the kind of its worst leg."""
     kind: str
     items: tuple = ()
 
@@ -83,7 +83,7 @@ class Proxy:
         return Leg(side, self.config.routing.node(side, command.key), command)
 
     def take(self, op, place, reply):
-        """What comes of a reply: `stranger` where no open leg awaits it, `waiting`, or the answer to the request."""
+        """What comes of a reply: `stranger` where no open leg awaits it, `waiting` for others, or the answer to the request."""
         pending = self.pending.get(op)
         if pending is None or pending.replies[place] is not None:
             return "stranger"

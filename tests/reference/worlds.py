@@ -71,7 +71,7 @@ class World:
         message, answer = entry(self.deliveries, reply)
         op = message.op
         taken = self.proxies[op[0]].take(op, message.place, answer)
-        return taken if taken in ("stranger", "waiting") else self.answered(op, taken)
+        return taken if isinstance(taken, str) else self.answered(op, taken)
 
     def give_up(self, op):
         if op[0] >= len(self.proxies):

@@ -114,6 +114,8 @@ def hostile(command):
         shape = source.random()
         if shape < 0.7:
             return given(source, command, scripts.refused_text(source, text_of(command, fleet)))
+        if shape < 0.72:  # what the other command reads
+            return given(source, command, compact(text_of({"run": "check", "check": "run"}[command], fleet)).encode())
         add = last_events.add_refused if shape < 0.93 else last_events.add_greatest
         add(source, fleet)
         return given(source, command, compact(text_of(command, fleet)).encode())

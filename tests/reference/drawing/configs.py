@@ -8,7 +8,7 @@ TOO_LARGE = b" " * (16_777_216 + 1)
 STARTS = (0, 1, 1000, 1000, 2_591_950, 1_700_000_000, GREATEST - 200, GREATEST - 7200)
 INTERVALS = (1, 2, 100, 100, 3600)
 POOL_NAMES = (("old", "new"), ("old", "new"), ("a", "b"), ("", "|"), ("\u00e9\u4e2d", "PoolRoute|"), ("new", "old"), ("Z", "a"))
-UNUSED = ({"servers": ["9001", "9002"]}, {"servers": ["7001"]}, {"servers": [str(number) for number in range(1024)]})
+UNUSED = (*[{"servers": ["9001", "9002"]}] * 6, {"servers": ["7001"]}, {"servers": [str(number) for number in range(1024)]})
 NOT_NUMBERS = (None, True, "1000", [1000], {}, -1, Raw("1000.0"), Raw("1e3"), Raw("-0"), Raw("18446744073709551616"), Raw("0.5"))
 BAD_NAMES = ("", "a,b", "a b", "\u00e9", "x" * 256, "\n", "\u007f", "7001\u0000", "\U0001f600")
 

@@ -122,7 +122,8 @@ class Fleet:
         key = self.source.choice(self.keys)
         self.complete(first, {**self.set(key), "exptime": 0})
         for _ in range(self.source.choice((1, 1, 2))):
-            self.complete(self.some_proxy(), self.delete(key))
+            other = (first + self.source.choice((1, 1, 2))) % len(self.world.proxies)
+            self.complete(other, self.delete(key))
         self.complete(first, self.get(key))
 
     def set_meanwhile(self):

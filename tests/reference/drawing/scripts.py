@@ -145,7 +145,7 @@ def bad_event(source):
 
 def is_too_large(source, value):
     """More proxies or more events than there may be, and perhaps events that are none."""
-    if source.random() < 0.5:
+    if source.random() < 0.8:
         value["setup"]["proxies"] = [{"reading": 0, "room": 1}] * 65
         value["events"] = source.choice((value["events"], None, [0]))
     else:

@@ -2,12 +2,12 @@
 import copy
 
 from ..configs import config_of
-from .configs import migration, reading_about
+from .configs import GREATEST, migration, reading_about
 
 KEYS = ("k", "a", "b", "user:1", "\u00ff\u0080", "x" * 250)
 DATA = ("v", "w", "", "a\r\nb", "\0\u001f\"\\\u007f\u00e9\u00ff/\b\f")
 FLAGS = (0, 0, 0, 1, 2**32 - 1)
-ROOMS = (1, 2, 4, 100, 2**64 - 1)
+ROOMS = (1, 2, 4, 100, GREATEST)
 
 
 def drawn_setup(source, are_near):
@@ -16,10 +16,12 @@ def drawn_setup(source, are_near):
     config = migration(source, 1 if is_crowded else 4)
     span = config["route"]["start_time"], config["route"]["interval"]
     count = source.choice((1, 2, 2, 3, 4))
-    readings = [reading_about(source, *span) for _ in range(count)]
     if source.random() < (0.8 if are_near else 0.2):
-        latest = min(readings[0] + min(span[1], 100), 2**64 - 1)
-        readings = [source.randint(readings[0], latest) for _ in range(count)]
+        first = reading_about(source, *span)
+        readings = [source.randint(first, min(first + span[1], GREATEST)) for _ in range(count)]
+    else:
+        ends = max(span[0] - 1, 0), span[0] + 2 * span[1]
+        readings = [source.choice((*ends, reading_about(source, *span), reading_about(source, *span))) for _ in range(count)]
     proxies = [{"reading": reading, "room": source.choice(ROOMS)} for reading in readings]
     if source.random() < 0.2:
         source.choice(proxies)["config"] = config_of_its_own(source, config)
