@@ -1,4 +1,5 @@
 """Where keys are placed, by the rule of docs/FORMATS.md: the hash of the key, modulo the length of its pool."""
+from client import raw
 
 
 def fnv1a32(key):
@@ -19,7 +20,7 @@ HASHES = {"fnv1a32": fnv1a32, "sum": byte_sum}
 
 def place_of(key, length, hash_name="fnv1a32"):
     """The index of a key's node in a pool of this length."""
-    return HASHES[hash_name](key.encode()) % length
+    return HASHES[hash_name](raw(key)) % length
 
 
 def key_at(index, length, hash_name="fnv1a32", stem="key"):

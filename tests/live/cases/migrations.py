@@ -1,10 +1,12 @@
 """Migrations: where requests go by the phase that a proxy's clock names."""
+import random
+import threading
 import time
 
 from client import DELETED, LOST, MISS, NOT_FOUND, STORED, delete_of, get_of, hits, set_of
 from fleet import Fleet
 from moments import moment
-from placing import key_at
+from placing import key_at, place_of
 from running import case
 from wanted import check
 
@@ -26,7 +28,7 @@ class Pools:
     def key(self, old, new, stem):
         """A key that is placed at these indices of the pools."""
         keys = (key_at(old, 2, "sum", f"{stem}{n}-") for n in range(100))
-        return next(key for key in keys if sum(key.encode()) % 3 == new)
+        return next(key for key in keys if place_of(key, 3, "sum") == new)
 
     def held(self, key):
         """What each node holds under a key, the old pool's first; nothing where it holds no such item."""
@@ -165,3 +167,74 @@ def what_was_deleted_never_comes_back_where_clocks_are_apart():
             behind.ask(get_of(key), hits((key, "5")))
             behind.ask(delete_of(key), NOT_FOUND)
             ahead.ask(get_of(key), MISS)
+
+
+class Talk:
+    """What one client asks and is told, one request after another, with the moments before and behind each."""
+
+    def __init__(self, client, number):
+        self.client = client
+        self.number = number
+        self.sets, self.gets, self.deletes = [], [], []
+        self.failed = None
+
+    def go_on(self, until, keys):
+        """Asks at random until a second since the epoch. A failure is kept for the case."""
+        draw = random.Random(self.number)
+        try:
+            while time.time() < until:
+                self.ask(draw.choice(("get", "get", "set", "delete")), draw.choice(keys))
+                time.sleep(0.01)
+        except Exception as error:  # of a thread of its own
+            self.failed = error
+
+    def ask(self, word, key):
+        """One request. Each value is set once in all."""
+        begun = time.monotonic()
+        if word == "get":
+            value = self.client.value_of(key)
+            if value is not None:
+                self.gets.append((key, value, begun, time.monotonic()))
+        elif word == "set":
+            value = f"{self.number}-{len(self.sets)}"
+            self.client.ask(set_of(key, value), STORED)
+            self.sets.append((key, value, begun, time.monotonic()))
+        else:
+            self.client.send(delete_of(key))
+            line = self.client.line()
+            check("the answer to a delete", True, line in (DELETED, NOT_FOUND) or line)
+            self.deletes.append((key, begun, time.monotonic()))
+
+
+def stale(talks):
+    """The hits that bring back what was deleted, or what was never set under that key."""
+    stored = {(key, value): (begun, ended) for talk in talks for key, value, begun, ended in talk.sets}
+    deleted = [it for talk in talks for it in talk.deletes]
+    for key, value, begun, ended in (it for talk in talks for it in talk.gets):
+        if (key, value) not in stored or stored[key, value][0] > ended:
+            yield f"{key} had {value}, which nobody had set"
+        elif any(it[0] == key and stored[key, value][1] < it[1] and it[2] < begun for it in deleted):
+            yield f"{key} had {value} behind an acknowledged delete"
+
+
+@case(waits=True)
+def no_client_of_many_gets_what_was_deleted():
+    """Eight clients of two proxies, whose clocks are a second apart, ask at random through all phases: a hit was set by
+    somebody under that key, and no delete that was sent behind the set was acknowledged before the get was sent."""
+    interval = 2
+    with Fleet() as fleet:
+        pools = Pools(fleet)
+        start = int(time.time()) + 2
+        proxies = [fleet.proxy(pools.config(fleet, start + behind, interval)) for behind in (0, 1)]
+        talks = [Talk(proxies[number % 2].client(), number) for number in range(8)]
+        keys = [f"key{n}" for n in range(5)]
+        threads = [threading.Thread(target=it.go_on, args=(start + 3 * interval, keys), daemon=True) for it in talks]
+        for it in threads:
+            it.start()
+        for it in threads:
+            it.join()
+        for it in talks:
+            if it.failed:
+                raise it.failed
+        check("hits that bring back what was deleted", [], list(stale(talks))[:3])
+        check("that there were hits", True, any(it.gets for it in talks))

@@ -85,12 +85,21 @@ def a_full_node_drops_what_was_used_longest_ago():
 
 
 @case
+def a_capacity_takes_no_memory_before_there_are_items():
+    """A node may have room for any number of items that can be said."""
+    with Fleet() as fleet:
+        client = fleet.node("--capacity", str(2**64 - 1)).client()
+        client.ask(set_of("k", "v") + get_of("k"), STORED + hits(("k", "v")))
+
+
+@case
 def keys_of_up_to_250_bytes_are_kept():
-    """Each is stored, found, deleted once, and gone then; a key differs from another one in its last byte alone."""
+    """Each is stored, found, deleted once, and gone then; a key differs from another one in its last byte alone. Any bytes
+    are allowed but spaces and control characters."""
     with Fleet() as fleet:
         client = fleet.node().client()
-        for length in (1, 63, 64, 65, 128, 249, 250):
-            key, other = "k" * length, "k" * (length - 1) + "l"
+        for key in (*("k" * length for length in (1, 63, 64, 65, 128, 249, 250)), "!~\x80\xff"):
+            other = key[:-1] + "l"
             client.ask(delete_of(key), NOT_FOUND)
             client.ask(get_of(key), MISS)
             client.ask(set_of(key, "v"), STORED)

@@ -7,6 +7,7 @@ from client import BUSY, DELETED, ERROR, LOST, MISS, NOT_FOUND, STORED, delete_o
 from fake import FakeNode, SlowNode, answering
 from fleet import Fleet
 from placing import key_at, place_of
+from ports import place_at
 from running import case
 from wanted import check
 
@@ -19,7 +20,8 @@ def a_get_of_forty_keys_over_five_nodes_answers_in_order():
         own = [it.client() for it in nodes]
         client = fleet.proxy(fleet.config(nodes)).client()
         keys = [f"key{n}" for n in range(50)]
-        stored = keys[:40]
+        keys += [f"\x80\xff{n}" for n in range(4)]
+        stored = [*keys[:36], *keys[-4:]]
         for key in stored:
             client.ask(set_of(key, f"value of {key}", flags=len(key)), STORED)
             held = [it.value_of(key) for it in own]
@@ -31,6 +33,17 @@ def a_get_of_forty_keys_over_five_nodes_answers_in_order():
         found = [(key, f"value of {key}", len(key)) for key in asked if key in stored]
         client.ask(get_of(*stored), hits(*((key, f"value of {key}", len(key)) for key in stored)))
         client.ask(get_of(*asked), hits(*found))
+
+
+@case
+def the_longest_get_is_answered():
+    """A line of 8,191 bytes has 4,094 keys, and each of them has its leg and its value."""
+    with Fleet() as fleet:
+        node = fleet.node()
+        for service in (node, fleet.proxy(fleet.config([node]))):
+            client = service.client()
+            client.ask(set_of("k", "v"), STORED)
+            client.ask(get_of(*["k"] * 4094), hits(*[("k", "v")] * 4094))
 
 
 @case
@@ -101,9 +114,10 @@ def expiries_blocks_and_keys_go_through_a_proxy():
         client.ask(set_of("later", "v", exptime=second + 1800) + get_of("later"), STORED + hits(("later", "v")))
 
 
-@case
+@case(waits=True)
 def a_request_waits_for_its_node_while_others_are_answered():
-    """A slow node keeps those alone who asked for its keys, and nobody's request is given up for another one."""
+    """A slow node keeps those alone who asked for its keys, for as long as it takes, and nobody's request is given up for
+    another one."""
     with Fleet() as fleet:
         slow = fleet.keep(SlowNode())
         fast = fleet.node()
@@ -120,6 +134,7 @@ def a_request_waits_for_its_node_while_others_are_answered():
         third.ask(delete_of(fast_key), DELETED)
         third.send(get_of(slow_keys[2]))
         slow.wait_for(3)
+        time.sleep(1.5)
         slow.answer_all({key: f"late {key}" for key in slow_keys})
         for key, client in zip(slow_keys, (patient, other, third)):
             client.expect(hits((key, f"late {key}")), what=f"the late answer to get {key}")
@@ -152,11 +167,11 @@ def sixty_four_requests_are_open_at_once_and_one_more_is_busy():
 
 @case
 def a_proxy_has_the_room_that_its_words_say():
-    """With room for two requests the third is busy."""
+    """With room for two requests the third is busy, and without any each one is."""
     with Fleet() as fleet:
         slow = fleet.keep(SlowNode())
-        proxy = fleet.proxy(fleet.config([slow.address]), "--room", "2")
-        one, two, three = proxy.clients(3)
+        config = fleet.config([slow.address])
+        one, two, three = fleet.proxy(config, "--room", "2").clients(3)
         one.send(get_of("a"))
         two.send(get_of("b"))
         slow.wait_for(2)
@@ -168,6 +183,8 @@ def a_proxy_has_the_room_that_its_words_say():
         slow.wait_for(1)
         slow.answer_all({})
         three.expect(MISS)
+        fleet.proxy(config, "--room", "0").client().ask(get_of("d") + delete_of("d"), BUSY + BUSY)
+        slow.wait_for(0)
 
 
 @case
@@ -184,6 +201,49 @@ def what_asks_for_no_answer_changes_no_phase():
         client.ask(set_of("l", "w") + delete_of("m"), STORED + NOT_FOUND)
         check("k, l at the old node", ("v", "w"), (own.value_of("k"), own.value_of("l")))
         check("k, l at the new node", ("n", None), (new_own.value_of("k"), new_own.value_of("l")))
+
+
+@case
+def requests_reach_nodes_in_one_spelling():
+    """A node is asked for what the client asked, in the protocol's own spelling and always for an answer."""
+    spelled = (
+        (b"set  k 007 -0 3 \r\nabc\r\n", set_of("k", "abc", flags=7), STORED, STORED),
+        (b"set k 0 100 1 noreply\nx\r\n", set_of("k", "x", exptime=100), STORED, b""),
+        (b" get k  l\n", get_of("k") + get_of("l"), MISS, MISS),
+        (b"delete k 0\r\n", delete_of("k"), NOT_FOUND, NOT_FOUND),
+        (b"delete noreply 0 noreply\r\n", delete_of("noreply"), DELETED, b""),
+    )
+    with Fleet() as fleet:
+        asked = []
+
+        def answer(link):
+            for _, wanted, told, _ in spelled:
+                for _ in wanted.split(b"get ")[1:] or [wanted]:
+                    asked.append(link.request())
+                    link.send(told)
+            link.request()
+
+        node = fleet.keep(FakeNode(answer))
+        client = fleet.proxy(fleet.config([node.address])).client()
+        for request, wanted, _, told in spelled:
+            asked.clear()
+            client.ask(request + b"stats\r\n", told + ERROR)
+            check(f"what the node is asked for {request!r}", wanted, b"".join(asked))
+
+
+@case
+def a_proxy_needs_no_node_that_it_sends_nothing_to():
+    """Before a migration the new pool needn't be there, after it the old one; a node is connected to at its first leg."""
+    with Fleet() as fleet:
+        running, seen = fleet.nodes(2), fleet.keep(FakeNode(answering([])))
+        here = [it.address for it in running]
+        gone = [fleet.keep(place_at("127.0.0.1")).address(), seen.address]
+        for config in (fleet.config(here, gone), fleet.config(gone, here, start=1000)):
+            client = fleet.proxy(config).client()
+            for place in (0, 1):
+                key = key_at(place, 2)
+                client.ask(set_of(key, "v") + get_of(key) + delete_of(key), STORED + hits((key, "v")) + DELETED)
+        check("connections to a node that gets no leg", 0, len(seen.links))
 
 
 @case

@@ -197,6 +197,9 @@ def a_connection_ends_once_its_turns_are_spent():
             within.ask(get_of("k"), hits(("k", "v" * 1000)))
             within.quit()
             service.expect_served(1, status=1)
+        for service in both(fleet, "--turns", "0", clients=1):
+            service.client().expect_end("the end where no read is made")
+            service.expect_served(0, status=1)
 
 
 @case
