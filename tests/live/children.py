@@ -1,5 +1,7 @@
-"""The programs that cases start, each of which is ended by its id whatever happens."""
+"""The programs that cases start, each in a group of its own, which is ended by its id whatever happens."""
+import os
 import pathlib
+import signal
 import subprocess
 import sys
 import threading
@@ -29,7 +31,7 @@ class Children:
                 self.keeper = subprocess.Popen(
                     [sys.executable, str(KEEPER)], stdin=subprocess.PIPE, text=True, start_new_session=True
                 )
-            child = subprocess.Popen(words, **how)
+            child = subprocess.Popen(words, start_new_session=True, **how)
             self.running[child.pid] = child
             self.tell(f"+{child.pid}")
             return child
@@ -53,7 +55,7 @@ class Children:
     def end_one(self, child):
         """Ends a program under the lock."""
         if child.poll() is None:
-            child.kill()
+            os.killpg(child.pid, signal.SIGKILL)
         status = child.wait()
         if self.running.pop(child.pid, None) is not None:
             self.tell(f"-{child.pid}")

@@ -76,7 +76,7 @@ class Client:
 
     def expect(self, wanted, what=None):
         """Reads exactly what is wanted, and not a byte behind it."""
-        got, came = bytearray(), b""
+        got = bytearray()
         while len(got) < len(wanted):
             came, end = self.piece(min(65536, len(wanted) - len(got)), PATIENCE)
             place = len(got)

@@ -18,7 +18,16 @@ FOREVER = str(2**64 - 1)  # clients of a service that its case ends
 YEAR_2100 = 4102444800  # the start of a migration that no case sees begin
 TRIES = 5  # ports that are tried for a service before it is given up
 
-HOME = tempfile.TemporaryDirectory(prefix="migctl-live-")  # removed when the run ends
+HOME = tempfile.mkdtemp(prefix="migctl-live-")  # of the files of all cases, until the run ends
+
+
+def remove_home():
+    """Removes the files of all cases, also where a thread is still at one."""
+    for _ in range(100):
+        shutil.rmtree(HOME, ignore_errors=True)
+        if not os.path.exists(HOME):
+            return
+        time.sleep(0.05)
 
 
 class Service:
@@ -110,7 +119,7 @@ class Fleet:
     """What one case starts. All of it ends with the case."""
 
     def __enter__(self):
-        self.folder = pathlib.Path(tempfile.mkdtemp(dir=HOME.name))
+        self.folder = pathlib.Path(tempfile.mkdtemp(dir=HOME))
         self.services, self.commands, self.kept, self.files = [], [], [], 0
         return self
 

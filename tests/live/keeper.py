@@ -1,8 +1,8 @@
 """Ends what the run of cases started, once that run is gone, however it went.
 
 It reads one line for each program: `+<id>` when it was started, `-<id>` when it has ended. At the end of its input, which
-comes too where the run was killed and could end nothing itself, it kills what is left. Its other signals are ignored, so
-that the one that ends the run doesn't end it first.
+comes too where the run was killed and could end nothing itself, it kills what is left, each with its group. Signals are
+ignored, so that the one that ends the run doesn't end this before it.
 """
 import os
 import signal
@@ -25,7 +25,7 @@ def main():
         signal.signal(number, signal.SIG_IGN)
     for number in kept():
         try:
-            os.kill(number, signal.SIGKILL)
+            os.killpg(number, signal.SIGKILL)
         except ProcessLookupError:
             pass
 

@@ -4,6 +4,7 @@ import threading
 import traceback
 
 import moments
+from children import CHILDREN
 from wanted import Wrong
 
 SIDE_BY_SIDE = 5  # cases that mostly wait; one more of those that don't runs beside them
@@ -61,7 +62,7 @@ def run_all(cases):
         lanes[it.waits].put(it)
 
     def work(lane):
-        while True:
+        while not CHILDREN.closed:
             try:
                 it = lane.get_nowait()
             except queue.Empty:

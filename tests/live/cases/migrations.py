@@ -184,7 +184,7 @@ class Talk:
         try:
             while time.time() < until:
                 self.ask(draw.choice(("get", "get", "set", "delete")), draw.choice(keys))
-                time.sleep(0.01)
+                time.sleep(0.02)
         except Exception as error:  # of a thread of its own
             self.failed = error
 

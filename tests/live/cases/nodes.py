@@ -2,10 +2,9 @@
 import time
 
 import refusals
-from client import DELETED, ERROR, MISS, NOT_FOUND, STORED, delete_of, get_of, hits, set_of
+from client import DELETED, MISS, NOT_FOUND, STORED, delete_of, get_of, hits, set_of
 from fleet import Fleet
 from moments import moment, now
-from reading import wait_until_read
 from running import case
 
 
@@ -155,39 +154,6 @@ def what_asks_for_no_answer_gets_none():
         client.ask(set_of("a", "1", noreply=True) + set_of("b", "2") + get_of("a", "b"), STORED + hits(("a", "1"), ("b", "2")))
         client.ask(delete_of("a", noreply=True) + get_of("a"), MISS)
         client.ask(b"delete b 0 noreply\r\n" + get_of("b"), MISS)
-
-
-@case
-def a_request_cut_anywhere_is_read_and_answered_as_a_whole():
-    """Requests come in pieces of any size: here in two, cut at each place, and byte by byte."""
-    text = set_of("k", "a\r\n") + b"stats\r\n" + get_of("k", "l") + delete_of("k")
-    answer = STORED + ERROR + hits(("k", "a\r\n")) + DELETED
-    with Fleet() as fleet:
-        client = fleet.node().client()
-        for cut in range(1, len(text)):
-            client.send(text[:cut])
-            wait_until_read(client.socket)
-            client.send(text[cut:])
-            client.expect(answer, what=f"the answers to requests that were cut at {cut}")
-        for place in range(len(text)):
-            client.send(text[place : place + 1])
-            wait_until_read(client.socket)
-        client.expect(answer, what="the answers to requests that came byte by byte")
-
-
-@case
-def requests_in_one_write_are_all_answered_in_order():
-    """Also behind the end of the client's own sending, which ends the connection once all is answered."""
-    with Fleet() as fleet:
-        client = fleet.node().client()
-        asked, answers = [], []
-        for number in range(300):
-            asked += [set_of("k", f"{number}"), get_of("k"), delete_of("k"), get_of("k")]
-            answers += [STORED, hits(("k", f"{number}")), DELETED, MISS]
-        client.send(*asked)
-        client.stop_sending()
-        client.expect(b"".join(answers))
-        client.expect_end()
 
 
 @case

@@ -2,7 +2,7 @@
 import socket
 import time
 
-from client import DELETED, MISS, STORED, Client, delete_of, get_of, hits, set_of
+from client import DELETED, ERROR, MISS, STORED, Client, delete_of, get_of, hits, set_of
 from fleet import Fleet
 from ports import place_at
 from reading import wait_until_read
@@ -105,6 +105,41 @@ def sixty_four_clients_ask_at_once():
                 asked.append(STORED + hits((key, value)) + DELETED + MISS)
             for client, answers in zip(clients, asked):
                 client.expect(answers)
+
+
+@case
+def a_request_cut_anywhere_is_read_and_answered_as_a_whole():
+    """Requests come in pieces of any size: here in two, cut at each place, and byte by byte."""
+    text = set_of("k", "a\r\n") + b"stats\r\n" + get_of("k", "l") + delete_of("k")
+    answer = STORED + ERROR + hits(("k", "a\r\n")) + DELETED
+    with Fleet() as fleet:
+        for service in both(fleet):
+            client = service.client()
+            for cut in range(1, len(text)):
+                client.send(text[:cut])
+                wait_until_read(client.socket)
+                client.send(text[cut:])
+                client.expect(answer, what=f"the answers to requests that were cut at {cut}")
+            for place in range(len(text)):
+                client.send(text[place : place + 1])
+                wait_until_read(client.socket)
+            client.expect(answer, what="the answers to requests that came byte by byte")
+
+
+@case
+def requests_in_one_write_are_all_answered_in_order():
+    """Also behind the end of the client's own sending, which ends the connection once all is answered."""
+    with Fleet() as fleet:
+        for service in both(fleet):
+            client = service.client()
+            asked, answers = [], []
+            for number in range(100):
+                asked += [set_of("k", f"{number}"), get_of("k"), delete_of("k"), get_of("k")]
+                answers += [STORED, hits(("k", f"{number}")), DELETED, MISS]
+            client.send(*asked)
+            client.stop_sending()
+            client.expect(b"".join(answers))
+            client.expect_end()
 
 
 @case(waits=True)
