@@ -1,4 +1,5 @@
 """Nodes and proxies that run for one case, and the configurations of the proxies."""
+import functools
 import json
 import os
 import pathlib
@@ -19,6 +20,12 @@ YEAR_2100 = 4102444800  # the start of a migration that no case sees begin
 TRIES = 5  # ports that are tried for a service before it is given up
 
 HOME = tempfile.mkdtemp(prefix="migctl-live-")  # of the files of all cases, until the run ends
+
+
+@functools.lru_cache(maxsize=None)
+def program():
+    """The program, which is looked for once."""
+    return path()
 
 
 def remove_home():
@@ -155,7 +162,7 @@ class Fleet:
         """A service at a port that is free at each of these hosts, at the first of them or at this one. Where another
         program took the port meanwhile, it is started at another one."""
         for _ in range(TRIES):
-            service = Service(self, [path(), *words], self.keep(place_at(*hosts)), host)
+            service = Service(self, [program(), *words], self.keep(place_at(*hosts)), host)
             self.services.append(service)
             if service.listens():
                 return service
@@ -169,7 +176,7 @@ class Fleet:
 
     def second_node(self, first, host):
         """A node at the port of another one, which is kept at this host too."""
-        service = Service(self, [path(), "node", "--clients", FOREVER], first.place, host)
+        service = Service(self, [program(), "node", "--clients", FOREVER], first.place, host)
         self.services.append(service)
         if not service.listens():
             raise Wrong(f"the start of {service.name()}", "something that listens", service.printed())
@@ -217,7 +224,7 @@ class Fleet:
 
     def begin(self, *words, stdin=subprocess.PIPE, stdout=subprocess.PIPE):
         """Starts a command, which is ended with the case at the latest."""
-        words = [path(), *(os.fspath(word) for word in words)]
+        words = [program(), *(os.fspath(word) for word in words)]
         child = CHILDREN.start(words, stdin=stdin, stdout=stdout, stderr=subprocess.PIPE)
         self.commands.append(child)
         return child
