@@ -53,7 +53,7 @@ class Service:
         self.ended_by_case = False
         self.output = self.fleet.new_file()
         self.faults = self.fleet.new_file()
-        self.child = self.fleet.start([*self.words, "--listen", self.address], self.output, self.faults)
+        self.child = self.fleet.start_service([*self.words, "--listen", self.address], self.output, self.faults)
 
     def listens(self):
         """Waits until it listens. Whether it does: else it has ended."""
@@ -146,14 +146,14 @@ class Fleet:
         self.kept.append(it)
         return it
 
-    def new_file(self, text=None, name=None):
+    def new_file(self, text=b""):
         """A new file in the folder of the case, which holds this text."""
         self.files += 1
-        file = self.folder / (name or f"file{self.files}")
-        file.write_bytes(text or b"")
+        file = self.folder / f"file{self.files}"
+        file.write_bytes(text)
         return file
 
-    def start(self, words, output, faults):
+    def start_service(self, words, output, faults):
         """Starts a program that writes to these files."""
         with open(output, "wb") as out, open(faults, "wb") as err:
             return CHILDREN.start(words, stdin=subprocess.DEVNULL, stdout=out, stderr=err)
@@ -210,7 +210,7 @@ class Fleet:
         text, or the open file of this number, which is closed then."""
         given = subprocess.PIPE if stdin_file is None else stdin_file
         try:
-            child = self.begin(*words, stdin=given, stdout=stdout)
+            child = self.start_command(*words, stdin=given, stdout=stdout)
         finally:
             if stdin_file is not None:
                 os.close(stdin_file)
@@ -222,7 +222,7 @@ class Fleet:
             CHILDREN.end(child)
         return child.returncode, output, faults
 
-    def begin(self, *words, stdin=subprocess.PIPE, stdout=subprocess.PIPE):
+    def start_command(self, *words, stdin=subprocess.PIPE, stdout=subprocess.PIPE):
         """Starts a command, which is ended with the case at the latest."""
         words = [program(), *(os.fspath(word) for word in words)]
         child = CHILDREN.start(words, stdin=stdin, stdout=stdout, stderr=subprocess.PIPE)

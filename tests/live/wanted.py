@@ -12,14 +12,16 @@ class Wrong(Exception):
 
 def shown(value, other):
     """A value in a line. Of a long one only what stands where it begins to differ from the other."""
+    if isinstance(value, (tuple, list)):
+        others = other if isinstance(other, (tuple, list)) and len(other) == len(value) else [None] * len(value)
+        return "({})".format(", ".join(shown(it, its_other) for it, its_other in zip(value, others)))
     if not isinstance(value, (bytes, str)) or len(value) <= SHOWN:
         return repr(value)
     place = 0
     if isinstance(other, type(value)):
         place = next((i for i, (a, b) in enumerate(zip(value, other)) if a != b), min(len(value), len(other)))
     begin = max(0, place - SHOWN // 4)
-    piece = value[begin : begin + SHOWN]
-    return f"{piece!r} at {begin} of {len(value)}"
+    return f"{value[begin : begin + SHOWN]!r} at {begin} of {len(value)}"
 
 
 def check(what, wanted, got):

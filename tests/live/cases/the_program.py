@@ -144,7 +144,7 @@ def large_texts_go_through_files_and_pipes():
     with Fleet() as fleet:
         file = fleet.new_file(text)
         check("a script in a file", (0, wanted, b""), fleet.run("run", file))
-        child = fleet.begin("run")
+        child = fleet.start_command("run")
         for begin in range(0, len(text), 50000):
             child.stdin.write(text[begin : begin + 50000])
             child.stdin.flush()
