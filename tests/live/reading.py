@@ -25,11 +25,10 @@ def unread(here, there):
     count = 0
     with open("/proc/net/tcp", encoding="ascii") as lines:
         for line in lines:
-            words = line.split()
-            if words[1:3] == [here, there]:
-                count += int(words[4].split(":")[0], 16)
-            elif words[1:3] == [there, here]:
-                count += int(words[4].split(":")[1], 16)
+            if here in line and there in line:
+                _, local, _, _, queues, *_ = line.split()
+                sent, received = queues.split(":")
+                count += int(sent if local == here else received, 16)
     return count
 
 

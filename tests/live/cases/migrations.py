@@ -81,17 +81,37 @@ PHASES = (
 
 @case(waits=True)
 def connections_stay_open_through_all_four_phases():
-    """At each of two proxies one connection, opened before the migration begins, goes from phase to phase with the clock."""
+    """At each of two proxies one connection, opened before the migration begins, goes from phase to phase with the clock: by
+    whole seconds, so that the first and the last second of each phase are looked at too."""
     interval = 3
     with Fleet() as fleet:
         pools = Pools(fleet)
-        start = int(time.time()) + 4
+        start = int(time.time()) + 5
         config = pools.config(fleet, start, interval)
         clients = [fleet.proxy(config).client() for _ in range(2)]
-        for place, (name, reads_new, deletes) in enumerate(PHASES):
-            with moment(start + (place - 0.5) * interval):
-                for number, client in enumerate(clients):
-                    look_at_phase(pools, client, reads_new, deletes, f"{name}-{number}-")
+        glances = {}
+        for second in range(-3, 9):
+            glances[second] = [pools.key(0, 0, f"second{second}-{number}-") for number in range(2)]
+            for key in glances[second]:
+                pools.own[0].ask(set_of(key, "old"), STORED)
+                pools.own[2].ask(set_of(key, "new"), STORED)
+        for second in range(-3, 9):
+            name, reads_new, deletes = PHASES[second // interval + 1]
+            with moment(start + second + 0.5):
+                for client, key in zip(clients, glances[second]):
+                    glance_at_phase(pools, client, reads_new, deletes, key)
+            if second % interval == 1:
+                with moment(start + second + 0.9):
+                    for number, client in enumerate(clients):
+                        look_at_phase(pools, client, reads_new, deletes, f"{name}-{number}-")
+
+
+def glance_at_phase(pools, client, reads_new, deletes, key):
+    """Looks where a get and a delete go, with few requests: both pools hold the key at their first nodes."""
+    client.ask(get_of(key), hits((key, "new" if reads_new else "old")))
+    client.ask(delete_of(key), DELETED)
+    left = ["old" if "old" not in deletes else None, "new" if "new" not in deletes else None]
+    check(f"what {key} left in the old pool and the new one", left, [pools.own[n].value_of(key) for n in (0, 2)])
 
 
 @case

@@ -337,6 +337,7 @@ def a_node_may_go_away_and_come_back():
                 client.ask(get_of(staying), hits((staying, "s")))
             client.ask(get_of(staying, key), LOST)
             client.ask(set_of(key, "w"), LOST)
+            client.ask(set_of(key, "w", noreply=True) + get_of(staying), hits((staying, "s")))
         away.begin_again()
         asking.ask(get_of(key), MISS)
         asking.ask(set_of(key, "x"), STORED)

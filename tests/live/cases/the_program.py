@@ -1,6 +1,7 @@
 """The program as a process: its words, its files, its input and outputs, and its status."""
 import json
 import os
+import pathlib
 import time
 
 from client import PATIENCE, delete_of
@@ -116,16 +117,19 @@ def words_that_are_not_utf_8_are_refused():
 
 
 @case
-def files_are_read_at_paths_of_any_length():
-    """A file lies where its path says, up to what the system allows for paths."""
+def files_are_read_at_any_path():
+    """A file lies where its path says: of any length that the system allows, with spaces and other letters, and from the
+    folder that the program is started in."""
     with Fleet() as fleet:
-        for length in (209, 210, 211, 1000, 4000):
-            file = file_at(fleet.folder, length)
+        paths = [file_at(fleet.folder, length) for length in (209, 210, 211, 1000, 4000)]
+        paths += [fleet.folder / "two  words .json", fleet.folder / "gr\u00fcn, \u6a19.json", fleet.folder / "-"]
+        paths += [pathlib.Path(os.path.relpath(fleet.folder)) / "relative"]
+        for file in paths:
             file.write_bytes(compact(MIGRATION))
             ended = fleet.run("plan", "--config", file, "--at", "1000", stdin=delete_of("k"))
-            check(f"a plan by a file at a path of {length} bytes", (0, PLAN, b""), ended)
+            check(f"a plan by a file at a path of {len(str(file))} bytes", (0, PLAN, b""), ended)
             file.write_bytes(compact(script([7])))
-            check(f"a script at a path of {length} bytes", (0, transcript([7]), b""), fleet.run("run", file))
+            check(f"a script at a path of {len(str(file))} bytes", (0, transcript([7]), b""), fleet.run("run", file))
 
 
 def file_at(folder, length):
