@@ -102,7 +102,8 @@ def text_of(command, fleet):
 
 def valid(command):
     def make(source):
-        value = text_of(command, fleets.drawn_fleet(source))
+        fleet = fleets.drawn_fleet(source) if source.random() < 0.97 else fleets.empty_fleet(source)
+        value = text_of(command, fleet)
         return given(source, command, spelled(source, value) if source.random() < 0.3 else compact(value).encode())
 
     return make

@@ -7,7 +7,7 @@ from ..nodes import moment_of
 from ..scripts import event_of, setup_of
 from ..transcripts import Play
 from ..worlds import World
-from .configs import GREATEST, reading_about
+from .configs import GREATEST, migration, reading_about
 from .setups import DATA, FLAGS, KEYS, drawn_setup
 
 EXPTIMES = (0, 1, 2, 100, 2592000, 2592001, -1, 2**63 - 1, -(2**63))
@@ -147,6 +147,17 @@ class Fleet:
         for request in self.source.sample((self.get(key), self.get(key), self.delete(key)), 2):
             self.complete(proxy, request, over + self.source.choice((-1, 0, 1)))
 
+    def fill_up(self):
+        """A node is given one key more than it has room for, and before that something else happens to one of the others."""
+        proxy = self.some_proxy()
+        *keys, last = self.source.sample(KEYS, self.setup["capacity"] + 1)
+        for key in keys:
+            self.complete(proxy, {**self.set(key), "exptime": 0})
+        key = self.source.choice(keys)
+        self.complete(proxy, self.source.choice((self.get(key), self.get(key), self.set(key), self.delete(key))))
+        self.complete(proxy, {**self.set(last), "exptime": 0})
+        self.complete(proxy, self.get(*keys, last))
+
     def lose_one(self):
         """A request is given up whose last message gets no reply."""
         messages = self.ask(self.some_proxy(), self.source.choice((self.request(), self.delete(self.source.choice(self.keys)))))
@@ -200,14 +211,21 @@ LOSSY = {Fleet.do_wholly: 3, Fleet.look_again: 2, Fleet.do_part: 3, Fleet.delive
          Fleet.move_clocks: 1}
 WILD = {**LOSSY, Fleet.bring_back: 6, Fleet.set_meanwhile: 2, Fleet.set_clock: 3}
 TELLING = {Fleet.bring_back: 3, Fleet.set_meanwhile: 2, Fleet.do_wholly: 1, Fleet.set_clock: 1}
+CROWDED = {Fleet.fill_up: 1, Fleet.do_wholly: 1, Fleet.let_expire: 1}
+FARES = (STEADY, STEADY, LOSSY, LOSSY, WILD, WILD, TELLING, TELLING, TELLING, CROWDED)
 
 
 def drawn_fleet(source):
     """A fleet to which 5 to 60 events or a few more have happened."""
-    fare = source.choice((STEADY, STEADY, LOSSY, LOSSY, WILD, WILD, TELLING, TELLING, TELLING))
-    fleet = Fleet(source, drawn_setup(source, fare in (STEADY, LOSSY)))
+    fare = source.choice(FARES)
+    fleet = Fleet(source, drawn_setup(source, fare not in (WILD, TELLING), fare is CROWDED))
     count = source.choice((5, 15, 30, 45, 60))
     actions, weights = list(fare), list(fare.values())
     while len(fleet.events) < count:
         source.choices(actions, weights)[0](fleet)
     return fleet
+
+
+def empty_fleet(source):
+    """A fleet of nobody, to which nothing happens; its nodes, which aren't there, have no room for an item."""
+    return Fleet(source, {"capacity": 0, "config": migration(source), "held": [], "proxies": []})

@@ -10,9 +10,8 @@ FLAGS = (0, 0, 0, 1, 2**32 - 1)
 ROOMS = (1, 2, 4, 100, GREATEST)
 
 
-def drawn_setup(source, are_near):
-    """A fleet whose clocks mostly are, or mostly aren't, near enough to one another."""
-    is_crowded = source.random() < 0.2
+def drawn_setup(source, are_near, is_crowded):
+    """A fleet whose clocks mostly are, or mostly aren't, near enough to one another; a crowded one has one small node a pool."""
     config = migration(source, 1 if is_crowded else 4)
     span = config["route"]["start_time"], config["route"]["interval"]
     count = source.choice((1, 2, 2, 3, 4))
@@ -28,7 +27,7 @@ def drawn_setup(source, are_near):
     homes = [proxy.get("config", config) for proxy in proxies]
     sides = source.choice((("old",), ("old",), ("old",), ("old", "new")))
     held = [held_item(source, source.choice(homes), source.choice(sides)) for _ in range(source.choice((0, 0, 1, 3)))]
-    return {"capacity": source.randrange(1, 3 if is_crowded else 6), "config": config, "held": held, "proxies": proxies}
+    return {"capacity": source.randint(1, 3 if is_crowded else 5), "config": config, "held": held, "proxies": proxies}
 
 
 def config_of_its_own(source, config):
