@@ -18,7 +18,7 @@ file, where a case doesn't say otherwise. The fields:
 
     words          the words after the program's name, with spaces between them; a word in single quotes may hold spaces
     files          names of files from `tests/cases/files` that the program finds in its working folder
-    file NAME      another file that it finds there
+    file NAME      another file that it finds there, in whose name stands what stands in a value, as `\\x20` for a space
     input          the standard input, empty where it isn't given
     output         the standard output, empty where it isn't given
     output json    the same, written as JSON in any layout: what is wanted is its compact form, keys in byte order, and a line end
@@ -74,8 +74,10 @@ def unescaped(text, index=None):
 
     def meant(piece):
         repeated, count, between, number, letter = piece.groups()
-        if repeated is not None:
+        if repeated is not None and "\\#" in repeated:
             return unescaped(between or "").join(unescaped(repeated, place) for place in range(int(count)))
+        if repeated is not None:
+            return unescaped(between or "").join([unescaped(repeated)] * int(count))
         if number is not None:
             return chr(int(number, 16))
         if letter == "#" and index is not None:
@@ -172,7 +174,7 @@ def case_of(name, fields):
         elif field == "files":
             files.update({shared_name: shared(shared_name) for shared_name in (given or "").split()})
         elif kind == "file":
-            files[rest[0]] = changed(rest[2], lines) if len(rest) == 3 else value(given, lines)
+            files[expanded(rest[0]).decode()] = changed(rest[2], lines) if len(rest) == 3 else value(given, lines)
         elif kind == "input":
             stdin = changed(rest[1], lines) if rest else value(given, lines)
         elif field == "output json":

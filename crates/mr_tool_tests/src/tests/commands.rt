@@ -6,6 +6,7 @@ use mr_commands::{Sources, run_words};
 use mr_sockets::HostServers;
 use mr_text::{OverReader, OverWriter, Source};
 use std::alloc::Global;
+use std::fmt::Debug;
 use std::io;
 use std::io::Read;
 use std::net::{Net, TcpListener, TcpStream};
@@ -15,17 +16,11 @@ use std::thread::Threads;
 use std::time::Clock;
 
 mod arguments;
-mod configs;
 mod devices;
-mod explanations;
 mod files_at;
-mod host_files;
-mod plans;
-mod plays;
-mod requests;
+mod reads;
+mod runs;
 mod services;
-mod timelines;
-mod words;
 
 /// A configuration of the smallest fleet that shows all: two old nodes, three new ones.
 const FLEET: &[u8] = b"{\"hash\":\"sum\",\
@@ -33,23 +28,38 @@ const FLEET: &[u8] = b"{\"hash\":\"sum\",\
     \"route\":{\"type\":\"MigrateRoute\",\"from\":\"PoolRoute|old\",\"to\":\"PoolRoute|new\",\
     \"start_time\":1000,\"interval\":100}}";
 
-/// The same with the other hash.
-const FNV_FLEET: &[u8] = b"{\"hash\":\"fnv1a32\",\
-    \"pools\":{\"new\":{\"servers\":[\"7101\",\"7102\",\"7103\"]},\"old\":{\"servers\":[\"7001\",\"7002\"]}},\
-    \"route\":{\"type\":\"MigrateRoute\",\"from\":\"PoolRoute|old\",\"to\":\"PoolRoute|new\",\
-    \"start_time\":1000,\"interval\":100}}";
+/// A script: one proxy, before the migration, gets a key that nothing stored.
+const SCRIPT: &[u8] =
+    b"{\"events\":[{\"do\":\"client\",\"proxy\":0,\"request\":{\"keys\":[\"k\"],\"kind\":\"get\"}},\
+    {\"do\":\"deliver\",\"message\":0,\"now\":999},{\"do\":\"return\",\"reply\":0}],\"format\":1,\
+    \"setup\":{\"capacity\":4,\"config\":{\"hash\":\"sum\",\"pools\":{\"new\":{\"servers\":[\"7101\",\
+    \"7102\",\"7103\"]},\"old\":{\"servers\":[\"7001\",\"7002\"]}},\
+    \"route\":{\"from\":\"PoolRoute|old\",\"interval\":100,\"start_time\":1000,\"to\":\"PoolRoute|new\",\
+    \"type\":\"MigrateRoute\"}},\"held\":[],\"proxies\":[{\"reading\":999,\"room\":4}]}}";
 
-/// The same pools, with a migration that starts at 0 and has the default interval and hash.
-const FIRST_FLEET: &[u8] = b"{\
-    \"pools\":{\"new\":{\"servers\":[\"7101\",\"7102\",\"7103\"]},\"old\":{\"servers\":[\"7001\",\"7002\"]}},\
-    \"route\":{\"type\":\"MigrateRoute\",\"from\":\"PoolRoute|old\",\"to\":\"PoolRoute|new\",\
-    \"start_time\":0}}";
+/// Its transcript, with its line end.
+const TRANSCRIPT: &[u8] =
+    b"{\"events\":[{\"do\":\"client\",\"proxy\":0,\"request\":{\"keys\":[\"k\"],\"kind\":\"get\"}},\
+    {\"do\":\"deliver\",\"message\":0,\"now\":999},{\"do\":\"return\",\"reply\":0}],\"format\":1,\
+    \"history\":[{\"entry\":\"issued\",\"op\":[0,0,0],\"proxy\":0,\"request\":{\"keys\":[\"k\"],\
+    \"kind\":\"get\"}},{\"entry\":\"answered\",\"op\":[0,0,0],\"reply\":{\"items\":[]}}],\
+    \"notes\":[{\"issued\":[0,0,0],\"messages\":[0,1]},{\"performed\":0},{\"answered\":[0,0,0]}],\
+    \"premises\":{\"forward\":true,\"near\":true,\"new_empty\":true,\"same\":true},\
+    \"setup\":{\"capacity\":4,\"config\":{\"hash\":\"sum\",\"pools\":{\"new\":{\"servers\":[\"7101\",\
+    \"7102\",\"7103\"]},\"old\":{\"servers\":[\"7001\",\"7002\"]}},\
+    \"route\":{\"from\":\"PoolRoute|old\",\"interval\":100,\"start_time\":1000,\"to\":\"PoolRoute|new\",\
+    \"type\":\"MigrateRoute\"}},\"held\":[],\"proxies\":[{\"reading\":999,\"room\":4}]},\
+    \"verdict\":\"safe\"}\n";
+
+/// What is printed of the transcript.
+const ACCEPTED: &[u8] =
+    b"premises same true new_empty true forward true near true\nverdict safe\naccepted\n";
 
 /// The files that runs find.
 static PLACES: [Place<'static>; 3] = [
     ("fleet.json", FLEET),
-    ("fnv.json", FNV_FLEET),
-    ("first.json", FIRST_FLEET),
+    ("script.json", SCRIPT),
+    ("transcript.json", TRANSCRIPT),
 ];
 
 /// What a run left.
@@ -83,25 +93,23 @@ fn run_over<
     }
 }
 
-fn run<R: Net<Listener = TcpListener, Stream = TcpStream> + Threads + Wait + Clock + Sync>(
-    rt: &R,
-    alloc: Global,
-    words: &[&str],
-    input: &[u8],
-) -> Ran {
-    let mut files = FilesAt::new(PLACES.as_slice());
-    run_over(rt, alloc, words, &mut files, &mut OverReader::new(input))
-}
-
+/// Asserts what a run left.
 fn expect_run(rt: &impl Abort, ran: &Ran, status: u8, output: &[u8], faults: &[u8]) {
-    assert_eq!(rt; ran.status, status);
-    assert_eq!(rt; ran.output.as_slice(), output);
-    assert_eq!(rt; ran.faults.as_slice(), faults);
+    is(rt, ran.status, status);
+    is(rt, ran.output.as_slice(), output);
+    is(rt, ran.faults.as_slice(), faults);
 }
 
-/// The words of a plan by a file at a second.
-fn plan_words<'a>(file: &'a str, at: &'a str) -> [&'a str; 5] {
-    ["plan", "--config", file, "--at", at]
+/// Asserts which value a row of a table comes to.
+fn is_in<T: PartialEq + Debug + Drop>(rt: &impl Abort, place: usize, value: T, wanted: T) {
+    assert_eq!(rt; value, wanted, "in row {place}, counted from 0");
+}
+
+/// Asserts what the run of a row of a table left.
+fn expect_row(rt: &impl Abort, place: usize, ran: &Ran, status: u8, output: &[u8], faults: &[u8]) {
+    is_in(rt, place, ran.status, status);
+    is_in(rt, place, ran.output.as_slice(), output);
+    is_in(rt, place, ran.faults.as_slice(), faults);
 }
 
 /// A reader that gives one byte a read.

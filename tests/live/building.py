@@ -1,0 +1,76 @@
+"""Builds the program of a checkout without any proof, by the toolchain's command that tries a program."""
+import glob
+import os
+import pathlib
+import shutil
+import signal
+import socket
+import subprocess
+import tempfile
+import time
+
+from ports import place_at
+
+LIMIT = 1200  # seconds for one building
+
+
+class NotBuilt(Exception):
+    """The program couldn't be built: what the toolchain said."""
+
+
+def build(checkout, program):
+    """Writes the program of a checkout to a file.
+
+    The toolchain gives no unproved program out. It builds one in a folder of its own and runs it, here as a node of one
+    client. Once that listens, the program is whole: it is copied while that client is connected, and what runs is told to end.
+    """
+    with tempfile.TemporaryDirectory(prefix="migctl-built-") as folder:
+        place = place_at("127.0.0.1")
+        log = pathlib.Path(folder) / "log"
+        with open(log, "wb") as said:
+            trying = subprocess.Popen(
+                ["rt", "try", "--seconds", str(LIMIT), "--", "node", "--listen", place.address()],
+                cwd=pathlib.Path(checkout) / "crates" / "mr_tool",
+                env={**os.environ, "TMPDIR": folder},
+                stdin=subprocess.DEVNULL,
+                stdout=said,
+                stderr=said,
+            )
+        try:
+            with connected(trying, place.address(), log):
+                shutil.copy(one_program(folder), program)
+            os.chmod(program, 0o755)
+        finally:
+            end(trying)
+            place.close()
+
+
+def connected(trying, address, log):
+    """A connection to the built program, once it listens."""
+    until = time.monotonic() + LIMIT
+    host, port = address.rsplit(":", 1)
+    while trying.poll() is None and time.monotonic() < until:
+        try:
+            return socket.create_connection((host, int(port)), timeout=1)
+        except OSError:
+            time.sleep(0.2)
+    raise NotBuilt(log.read_text(errors="replace"))
+
+
+def one_program(folder):
+    """The program that the toolchain built in its folder."""
+    found = glob.glob(f"{glob.escape(folder)}/*/*/program")
+    if len(found) != 1:
+        raise NotBuilt(f"programs in the toolchain's folder: {found}")
+    return found[0]
+
+
+def end(trying):
+    """Ends the toolchain's command, which ends what it started and removes its folder."""
+    if trying.poll() is None:
+        trying.send_signal(signal.SIGTERM)
+    try:
+        trying.wait(30)
+    except subprocess.TimeoutExpired:
+        trying.kill()
+        trying.wait()

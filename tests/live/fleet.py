@@ -1,0 +1,235 @@
+"""Nodes and proxies that run for one case, and the configurations of the proxies."""
+import functools
+import json
+import os
+import pathlib
+import resource
+import shutil
+import subprocess
+import tempfile
+import time
+
+from children import CHILDREN
+from client import PATIENCE, Client
+from ports import is_listened_at, place_at
+from program import path
+from wanted import Wrong, check
+
+FOREVER = str(2**64 - 1)  # clients of a service that its case ends
+YEAR_2100 = 4102444800  # the start of a migration that no case sees begin
+TRIES = 5  # ports that are tried for a service before it is given up
+
+HOME = tempfile.mkdtemp(prefix="migctl-live-")  # of the files of all cases, until the run ends
+
+
+@functools.lru_cache(maxsize=None)
+def program():
+    """The program, which is looked for once."""
+    return path()
+
+
+def remove_home():
+    """Removes the files of all cases, also where a thread is still at one."""
+    for _ in range(100):
+        shutil.rmtree(HOME, ignore_errors=True)
+        if not os.path.exists(HOME):
+            return
+        time.sleep(0.05)
+
+
+class Service:
+    """A node or a proxy that runs."""
+
+    def __init__(self, fleet, words, place, host=None):
+        self.fleet = fleet
+        self.words = words
+        self.place = place
+        self.address = place.address(host)
+        self.ended_by_case = False
+        self.begin()
+
+    def begin(self):
+        """Starts it at its address."""
+        self.ended_by_case = False
+        self.output = self.fleet.new_file()
+        self.faults = self.fleet.new_file()
+        self.child = self.fleet.start_service([*self.words, "--listen", self.address], self.output, self.faults)
+
+    def listens(self):
+        """Waits until it listens. Whether it does: else it has ended."""
+        until = time.monotonic() + PATIENCE
+        while self.child.poll() is None:
+            if is_listened_at(self.address):
+                return True
+            if time.monotonic() > until:
+                raise Wrong(f"the start of {self.name()}", "something that listens", "nothing")
+            time.sleep(0.005)
+        return False
+
+    def client(self, little_room=False):
+        """A connection to it, which may have room for few bytes that aren't read yet."""
+        return self.fleet.keep(Client(self.address, little_room))
+
+    def clients(self, count):
+        """So many connections to it."""
+        return [self.client() for _ in range(count)]
+
+    def ask(self, request, wanted, address=None):
+        """Asks over a connection of its own, to its address as it was said or to this one."""
+        with Client(address or self.address) as client:
+            client.ask(request, wanted)
+
+    def printed(self):
+        """What it wrote on standard output and on standard error so far."""
+        return self.output.read_bytes(), self.faults.read_bytes()
+
+    def wait(self):
+        """Waits until it has ended by itself, and gives its status."""
+        self.ended_by_case = True
+        try:
+            self.child.wait(PATIENCE)
+        except subprocess.TimeoutExpired:
+            raise Wrong(f"the end of {self.name()}", "an end by itself", f"it runs after {PATIENCE} seconds") from None
+        return CHILDREN.end(self.child)
+
+    def expect_served(self, count, status=0):
+        """It ends by itself, says that so many clients ended without a fault, and nothing else."""
+        got = self.wait()
+        check(f"what {self.name()} says in the end", (status, b"served %d\n" % count, b""), (got, *self.printed()))
+
+    def kill(self):
+        """Ends it at once."""
+        self.ended_by_case = True
+        CHILDREN.end(self.child)
+
+    def begin_again(self):
+        """Starts it again, at the same address."""
+        self.kill()
+        self.begin()
+        if not self.listens():
+            raise Wrong(f"the second start of {self.name()}", "something that listens", self.printed())
+
+    def open_files(self):
+        """How many files it has open."""
+        return len(os.listdir(f"/proc/{self.child.pid}/fd"))
+
+    def limit_files(self, most):
+        """From now on it may have so many open files."""
+        resource.prlimit(self.child.pid, resource.RLIMIT_NOFILE, (most, most))
+
+    def name(self):
+        """What it is called in what a failure says."""
+        return f"the {self.words[1]} at {self.address}"
+
+
+class Fleet:
+    """What one case starts. All of it ends with the case."""
+
+    def __enter__(self):
+        self.folder = pathlib.Path(tempfile.mkdtemp(dir=HOME))
+        self.services, self.commands, self.kept, self.files = [], [], [], 0
+        return self
+
+    def __exit__(self, kind, error, trace):
+        early = [it for it in self.services if not it.ended_by_case and it.child.poll() is not None]
+        said = [(it.name(), it.child.returncode, *it.printed()) for it in early]
+        for it in self.kept:
+            it.close()
+        for it in (*self.commands, *(service.child for service in self.services)):
+            CHILDREN.end(it)
+        shutil.rmtree(self.folder, ignore_errors=True)
+        if early and kind is None:
+            raise Wrong("services that ended early", [], said)
+
+    def keep(self, it):
+        """Closes something when the case ends."""
+        self.kept.append(it)
+        return it
+
+    def new_file(self, text=b""):
+        """A new file in the folder of the case, which holds this text."""
+        self.files += 1
+        file = self.folder / f"file{self.files}"
+        file.write_bytes(text)
+        return file
+
+    def start_service(self, words, output, faults):
+        """Starts a program that writes to these files."""
+        with open(output, "wb") as out, open(faults, "wb") as err:
+            return CHILDREN.start(words, stdin=subprocess.DEVNULL, stdout=out, stderr=err)
+
+    def serve(self, *words, hosts=("127.0.0.1",), host=None):
+        """A service at a port that is free at each of these hosts, at the first of them or at this one. Where another
+        program took the port meanwhile, it is started at another one."""
+        for _ in range(TRIES):
+            service = Service(self, [program(), *words], self.keep(place_at(*hosts)), host)
+            self.services.append(service)
+            if service.listens():
+                return service
+            taken = b"migctl: net %s\n" % service.address.encode()
+            check(f"why {service.name()} ended", (1, b"", taken), (service.wait(), *service.printed()))
+        raise Wrong(f"{words}", f"a free port among {TRIES}", "none")
+
+    def node(self, *words, clients=FOREVER, **where):
+        """A node, which serves clients until the case ends unless a number of them is said."""
+        return self.serve("node", "--clients", str(clients), *words, **where)
+
+    def second_node(self, first, host):
+        """A node at the port of another one, which is kept at this host too."""
+        service = Service(self, [program(), "node", "--clients", FOREVER], first.place, host)
+        self.services.append(service)
+        if not service.listens():
+            raise Wrong(f"the start of {service.name()}", "something that listens", service.printed())
+        return service
+
+    def nodes(self, count):
+        """So many nodes."""
+        return [self.node() for _ in range(count)]
+
+    def proxy(self, config, *words, clients=FOREVER, **where):
+        """A proxy by this configuration."""
+        return self.serve("proxy", "--config", str(config), "--clients", str(clients), *words, **where)
+
+    def config(self, old, new=None, start=YEAR_2100, interval=None, hash_name=None):
+        """The file of a configuration. Pools are lists of services or of addresses; a new pool that isn't said is one
+        node that doesn't run, which no request before the start goes to."""
+        if new is None:
+            new = [self.keep(place_at("127.0.0.1")).address()]
+        whole = {
+            "pools": {"old": {"servers": addresses(old)}, "new": {"servers": addresses(new)}},
+            "route": {"type": "MigrateRoute", "from": "PoolRoute|old", "to": "PoolRoute|new", "start_time": start},
+        }
+        if interval is not None:
+            whole["route"]["interval"] = interval
+        if hash_name is not None:
+            whole["hash"] = hash_name
+        return self.new_file(json.dumps(whole).encode())
+
+    def run(self, *words, stdin=b"", stdin_file=None, stdout=subprocess.PIPE):
+        """Runs a command to its end, and gives its status, its output and what stands on standard error. Its input is this
+        text, or the open file of this number, which is closed then."""
+        given = subprocess.PIPE if stdin_file is None else stdin_file
+        try:
+            child = self.start_command(*words, stdin=given, stdout=stdout)
+        finally:
+            if stdin_file is not None:
+                os.close(stdin_file)
+        try:
+            output, faults = child.communicate(stdin if stdin_file is None else None, PATIENCE)
+        except subprocess.TimeoutExpired:
+            raise Wrong(f"the end of {words}", "an end", f"it runs after {PATIENCE} seconds") from None
+        finally:
+            CHILDREN.end(child)
+        return child.returncode, output, faults
+
+    def start_command(self, *words, stdin=subprocess.PIPE, stdout=subprocess.PIPE):
+        """Starts a command, which is ended with the case at the latest."""
+        words = [program(), *(os.fspath(word) for word in words)]
+        child = CHILDREN.start(words, stdin=stdin, stdout=stdout, stderr=subprocess.PIPE)
+        self.commands.append(child)
+        return child
+
+
+def addresses(pool):
+    """The addresses of a pool of services or of addresses."""
+    return [it if isinstance(it, str) else it.address for it in pool]

@@ -1,0 +1,75 @@
+"""The cases, and how they are run."""
+import queue
+import threading
+import traceback
+
+import moments
+from children import CHILDREN
+from wanted import Wrong
+
+SIDE_BY_SIDE = 5  # cases that mostly wait; one more of those that don't runs beside them
+RUNS = 3  # of a case that failed where the machine was late
+
+CASES = []
+
+
+class Case:
+    """A case, by its name and what it does."""
+
+    def __init__(self, name, does, waits):
+        self.name = name
+        self.does = does
+        self.waits = waits
+
+
+def case(does=None, waits=False):
+    """Makes a function a case. One that waits for seconds to go by runs beside others; the rest run one after another."""
+
+    def add(does):
+        CASES.append(Case(does.__name__, does, waits))
+        return does
+
+    return add(does) if does else add
+
+
+def what_came(error):
+    """What a failure says, in one line."""
+    if isinstance(error, Wrong):
+        return str(error)
+    place = traceback.extract_tb(error.__traceback__)[-1]
+    return f"{type(error).__name__}: {error} ({place.filename.rsplit('/', 1)[-1]}:{place.lineno})"
+
+
+def why_failed(it):
+    """Runs a case, and gives why it failed, or nothing. Where the machine was late it is run again."""
+    for turn in range(RUNS):
+        moments.begin_case()
+        try:
+            it.does()
+            return None
+        except Exception as error:  # a case may fail in any way, and the others go on
+            why = what_came(error)
+        if not moments.was_late():
+            return why
+    return f"{why} (the machine was late in each of {RUNS} runs)"
+
+
+def run_all(cases):
+    """Runs cases in threads, and gives each with why it failed, as they end."""
+    ended = queue.Queue()
+    lanes = {True: queue.Queue(), False: queue.Queue()}
+    for it in cases:
+        lanes[it.waits].put(it)
+
+    def work(lane):
+        while not CHILDREN.closed:
+            try:
+                it = lane.get_nowait()
+            except queue.Empty:
+                return
+            ended.put((it, why_failed(it)))
+
+    for waits in [True] * SIDE_BY_SIDE + [False]:
+        threading.Thread(target=work, args=(lanes[waits],), daemon=True).start()
+    for _ in cases:
+        yield ended.get()
