@@ -150,11 +150,11 @@ def a_client_may_read_late():
         for service in both(fleet):
             client, other = service.client(little_room=True), service.client()
             client.ask(set_of("k", block), STORED)
-            client.send(get_of("k") * 40)
+            client.send(get_of("k") * 20)
             for number in range(4):
                 time.sleep(0.3)
                 other.ask(set_of("l", f"{number}") + get_of("l"), STORED + hits(("l", f"{number}")))
-            client.expect(hits(("k", block)) * 40)
+            client.expect(hits(("k", block)) * 20)
 
 
 @case
