@@ -54,8 +54,9 @@ class Client:
         self.address = address
         host, port = address.rsplit(":", 1)
         self.socket = socket.socket()
-        if little_room:
+        if little_room:  # at both ends: the other one keeps what it may send in a few small packets
             self.socket.setsockopt(socket.SOL_SOCKET, socket.SO_RCVBUF, 4096)
+            self.socket.setsockopt(socket.IPPROTO_TCP, socket.TCP_MAXSEG, 536)
         self.socket.settimeout(PATIENCE)
         try:
             self.socket.connect((host, int(port)))

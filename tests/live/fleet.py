@@ -67,7 +67,7 @@ class Service:
         return False
 
     def client(self, little_room=False):
-        """A connection to it, which may have room for few bytes that aren't read yet."""
+        """A connection to it, which may have room for some 70,000 bytes alone that aren't read yet."""
         return self.fleet.keep(Client(self.address, little_room))
 
     def clients(self, count):

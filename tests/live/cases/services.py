@@ -150,11 +150,11 @@ def a_client_may_read_late():
         for service in both(fleet):
             client, other = service.client(little_room=True), service.client()
             client.ask(set_of("k", block), STORED)
-            client.send(get_of("k") * 100)
+            client.send(get_of("k") * 20)
             for number in range(4):
                 time.sleep(0.3)
                 other.ask(set_of("l", f"{number}") + get_of("l"), STORED + hits(("l", f"{number}")))
-            client.expect(hits(("k", block)) * 100)
+            client.expect(hits(("k", block)) * 20)
 
 
 @case
@@ -186,7 +186,7 @@ def a_client_that_breaks_off_while_it_is_answered_harms_no_other():
         for service in both(fleet, clients=3):
             greedy, other, cutting = service.client(little_room=True), *service.clients(2)
             greedy.ask(set_of("k", block), STORED)
-            greedy.send(get_of("k") * 100)
+            greedy.send(get_of("k") * 40)
             greedy.expect(hits(("k", block)))
             greedy.reset()
             cutting.send(b"set k 0 0 5\r\nab")
