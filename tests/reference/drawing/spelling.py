@@ -3,6 +3,8 @@ import json
 import re
 
 GAPS = ("", "", " ", "\n", "\t \r\n", "   ")
+# Letters that stand in texts alone, and what they may be written as there.
+ESCAPES = {"k": ("\\u006b", "\\u006B"), "/": ("\\/", "\\u002f"), "o": ("\\u006f",)}
 HELD = re.compile(r'"<piece ([0-9]+)>"')
 
 
@@ -23,7 +25,9 @@ def spelled(source, value):
         value = dict(source.sample(sorted(value.items(), key=lambda member: member[0]), len(value)))
     gap = source.choice(GAPS)
     separators = source.choice(GAPS) + "," + gap, source.choice(GAPS) + ":" + gap
-    return (gap + text_of(value, separators, source.random() < 0.5) + source.choice(GAPS)).encode()
+    text = gap + text_of(value, separators, source.random() < 0.5) + source.choice(GAPS)
+    letter = source.choice(("", "", "", *ESCAPES))
+    return (text.replace(letter, source.choice(ESCAPES[letter])) if letter else text).encode()
 
 
 def text_of(value, separators, is_ascii):
