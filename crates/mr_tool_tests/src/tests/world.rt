@@ -5,7 +5,6 @@ mod by_table;
 mod fleets;
 mod moves;
 mod playing;
-mod premises;
 mod refusals;
 mod rows;
 mod showing;

@@ -1,5 +1,5 @@
 //! Configurations, plans, timelines, scripts and transcripts.
-use super::{is, is_for, is_found, names_are};
+use super::{is, is_for, names_are};
 use mr_history::OpId;
 use mr_phases::{PhaseName, ScheduleError, Side};
 use mr_plan::{Advice, Config, PhaseTimes, PlanError, RequestPlan, Span, advise, plan, timeline};

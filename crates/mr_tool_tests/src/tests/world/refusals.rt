@@ -5,12 +5,10 @@ use super::moves::{Asked, DELETE, GET, Move, Row, events_of, first_other, note_o
 use super::playing::{Run, Shown, goes};
 use super::telling::{FIRST, Told, says};
 use crate::tests::must;
-use mr_history::Author;
 use mr_proxy::ProxyError;
 use mr_world::{Delivery, Event, Message, Note, Setup, World, WorldError};
-use std::alloc::{AllocError, Global};
+use std::alloc::Global;
 use std::process::Abort;
-use std::test::Fail;
 
 /// Moves that name what there is none of, and a quit.
 static NOT_THERE: Run = Run {
@@ -155,76 +153,6 @@ fn stops(rt: &impl Abort, alloc: Global, world: &mut World) {
 #[test]
 fn a_run_stops_at_the_first_refused_event(rt: HostRuntime) {
     stops(&rt, rt.alloc(), &mut must(&rt, FLEET.world(rt.alloc())));
-}
-
-/// A delete whose answer is not wanted is given up.
-static SILENT: Run = Run {
-    fleet: Fleet {
-        proxies: &[(1000, 999)],
-        room: 4,
-        capacity: 4,
-        holders: &[],
-    },
-    rows: &[
-        (
-            Move::Client(0, Asked::Delete(b'k', true)),
-            Ok(Note::Issued {
-                op: FIRST,
-                first: 0,
-                count: 1,
-            }),
-        ),
-        (Move::GiveUp(FIRST), Ok(Note::Answered { op: FIRST })),
-    ],
-    shown: Shown {
-        told: &[Told::Deleted(FIRST, b'k')],
-        premises: (true, true, true, true),
-        verdict: (None, None),
-        sent: (1, 0),
-    },
-};
-
-#[test]
-fn a_noreply_delete_is_not_answered(rt: HostRuntime) {
-    goes(&rt, rt.alloc(), &SILENT);
-}
-
-/// The node that holds the key loses it.
-static FORGETS: Run = Run {
-    fleet: Fleet {
-        proxies: &[(1000, 999)],
-        room: 4,
-        capacity: 4,
-        holders: &[b"7002"],
-    },
-    rows: &[
-        (Move::NodeRestart(b"7002"), Ok(Note::Nothing)),
-        (
-            Move::Client(0, GET),
-            Ok(Note::Issued {
-                op: FIRST,
-                first: 0,
-                count: 1,
-            }),
-        ),
-        (Move::Deliver(0, 1), Ok(Note::Performed { reply: 0 })),
-        (Move::Return(0), Ok(Note::Answered { op: FIRST })),
-    ],
-    shown: Shown {
-        told: &[
-            Told::Stored(Author::Beginning, b'k', b'v'),
-            Told::Got(FIRST, b'k'),
-            Told::Answered(FIRST, "END"),
-        ],
-        premises: (true, true, true, true),
-        verdict: (None, None),
-        sent: (1, 1),
-    },
-};
-
-#[test]
-fn a_restarted_node_forgets(rt: HostRuntime) {
-    goes(&rt, rt.alloc(), &FORGETS);
 }
 
 /// A get, which a node has answered.

@@ -31,27 +31,6 @@ pub const FIRST: OpId = OpId {
     number: 0,
 };
 
-/// The second request of the first proxy.
-pub const SECOND: OpId = OpId {
-    proxy: 0,
-    incarnation: 0,
-    number: 1,
-};
-
-/// The third request of the first proxy.
-pub const THIRD: OpId = OpId {
-    proxy: 0,
-    incarnation: 0,
-    number: 2,
-};
-
-/// The first request of the first proxy after a restart.
-pub const AGAIN: OpId = OpId {
-    proxy: 0,
-    incarnation: 1,
-    number: 0,
-};
-
 /// The first request of the second proxy.
 pub const OTHER_FIRST: OpId = OpId {
     proxy: 1,

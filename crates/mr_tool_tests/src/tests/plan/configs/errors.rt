@@ -3,7 +3,7 @@ use super::*;
 use mr_world::WorldError;
 
 /// Each refusal and its number, in order.
-const NUMBERS: [(PlanError, u8); 13] = [
+static NUMBERS: [(PlanError, u8); 13] = [
     (PlanError::NotJson, 1),
     (PlanError::WrongKind, 2),
     (PlanError::MissingKey, 3),

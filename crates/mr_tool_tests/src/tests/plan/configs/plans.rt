@@ -15,13 +15,7 @@ enum Asked {
 /// A plan: what is asked and when, the phase, and each leg's side and node.
 type Row = (Asked, u64, PhaseName, &'static [(Side, u32)]);
 
-const ROWS: [Row; 12] = [
-    (
-        Asked::Delete(b'k'),
-        999,
-        PhaseName::OldOnly,
-        &[(Side::Old, 1)],
-    ),
+static ROWS: [Row; 3] = [
     (
         Asked::Delete(b'k'),
         1000,
@@ -29,50 +23,12 @@ const ROWS: [Row; 12] = [
         &[(Side::Old, 1), (Side::New, 2)],
     ),
     (
-        Asked::Get(b"k"),
-        1099,
-        PhaseName::BothReadOld,
-        &[(Side::Old, 1)],
-    ),
-    (
-        Asked::Get(b"k"),
-        1100,
-        PhaseName::BothReadNew,
-        &[(Side::New, 2)],
-    ),
-    (
-        Asked::Delete(b'k'),
-        1199,
-        PhaseName::BothReadNew,
-        &[(Side::Old, 1), (Side::New, 2)],
-    ),
-    (
-        Asked::Delete(b'k'),
-        1200,
-        PhaseName::NewOnly,
-        &[(Side::New, 2)],
-    ),
-    (
         Asked::Get(b"kkb"),
         999,
         PhaseName::OldOnly,
         &[(Side::Old, 1), (Side::Old, 1), (Side::Old, 0)],
     ),
-    (Asked::Get(b"a"), 0, PhaseName::OldOnly, &[(Side::Old, 1)]),
-    (
-        Asked::Get(b"a"),
-        1200,
-        PhaseName::NewOnly,
-        &[(Side::New, 1)],
-    ),
-    (
-        Asked::Get(b"b"),
-        u64::MAX,
-        PhaseName::NewOnly,
-        &[(Side::New, 2)],
-    ),
-    (Asked::Quit, 999, PhaseName::OldOnly, &[]),
-    (Asked::Quit, 1000, PhaseName::BothReadOld, &[]),
+    (Asked::Quit, 1100, PhaseName::BothReadNew, &[]),
 ];
 
 fn key(alloc: Global, byte: u8) -> Result<Key, Fail> {
@@ -168,24 +124,6 @@ fn the_timeline_has_four_spans(rt: HostRuntime) {
             both_read_old: span(1000, 1099),
             both_read_new: span(1100, 1199),
             new_only: 1200,
-        },
-    );
-}
-
-/// A migration from second 0 on.
-const AT_ONCE: &str =
-    "{\"pools\":{\"a\":{\"servers\":[\"x\"]},\"b\":{\"servers\":[\"y\"]}},\"route\":{\"type\":\"MigrateRoute\",\"from\":\"PoolRoute|a\",\"to\":\"PoolRoute|b\",\"start_time\":0,\"interval\":1}}";
-
-#[test]
-fn a_migration_at_once_has_no_old_only(rt: HostRuntime) {
-    timeline_is(
-        &rt,
-        &must(&rt, config(rt.alloc(), AT_ONCE)),
-        PhaseTimes {
-            old_only: None,
-            both_read_old: span(0, 0),
-            both_read_new: span(1, 1),
-            new_only: 2,
         },
     );
 }

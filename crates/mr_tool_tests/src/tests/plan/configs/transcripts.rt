@@ -25,61 +25,6 @@ fn a_script_has_a_transcript(rt: HostRuntime) {
     }
 }
 
-/// Transcripts and what a check finds of each.
-const CHECKED: [(&str, Outcome); 11] = [
-    (
-        "{\"events\":[{\"do\":\"client\",\"proxy\":0,\"request\":{\"keys\":[\"k\"],\"kind\":\"get\"}},{\"do\":\"deliver\",\"message\":0,\"now\":999},{\"do\":\"return\",\"reply\":0}],\"format\":1,\"history\":[{\"entry\":\"issued\",\"op\":[0,0,0],\"proxy\":0,\"request\":{\"keys\":[\"k\"],\"kind\":\"get\"}},{\"entry\":\"answered\",\"op\":[0,0,0],\"reply\":{\"items\":[]}}],\"notes\":[{\"issued\":[0,0,0],\"messages\":[0,1]},{\"performed\":0},{\"answered\":[0,0,0]}],\"premises\":{\"forward\":true,\"near\":true,\"new_empty\":true,\"same\":true},\"setup\":{\"capacity\":4,\"config\":{\"hash\":\"sum\",\"pools\":{\"new\":{\"servers\":[\"7101\",\"7102\",\"7103\"]},\"old\":{\"servers\":[\"7001\",\"7002\"]}},\"route\":{\"from\":\"PoolRoute|old\",\"interval\":100,\"start_time\":1000,\"to\":\"PoolRoute|new\",\"type\":\"MigrateRoute\"}},\"held\":[],\"proxies\":[{\"reading\":999,\"room\":4}]},\"verdict\":\"safe\"}",
-        Outcome::Accepted,
-    ),
-    (
-        "{\"events\":[{\"do\":\"client\",\"proxy\":0,\"request\":{\"keys\":[\"k\"],\"kind\":\"get\"}},{\"do\":\"deliver\",\"message\":0,\"now\":999},{\"do\":\"return\",\"reply\":0}],\"format\":1,\"history\":[{\"entry\":\"issued\",\"op\":[0,0,0],\"proxy\":0,\"request\":{\"keys\":[\"k\"],\"kind\":\"get\"}},{\"entry\":\"answered\",\"op\":[0,0,0],\"reply\":{\"items\":[]}}],\"notes\":[{\"issued\":[0,0,0],\"messages\":[0,1]},{\"performed\":0},{\"answered\":[0,0,0]}],\"premises\":{\"forward\":true,\"near\":true,\"new_empty\":true,\"same\":true},\"setup\":{\"capacity\":4,\"config\":{\"hash\":\"sum\",\"pools\":{\"new\":{\"servers\":[\"7101\",\"7102\",\"7103\"]},\"old\":{\"servers\":[\"7001\",\"7002\"]}},\"route\":{\"from\":\"PoolRoute|old\",\"interval\":100,\"start_time\":1000,\"to\":\"PoolRoute|new\",\"type\":\"MigrateRoute\"}},\"held\":[],\"proxies\":[{\"reading\":999,\"room\":4}]},\"verdict\":{\"stale\":{\"delete\":[0,0,0],\"get\":[0,0,0],\"key\":\"k\"}}}",
-        Outcome::VerdictDiffers,
-    ),
-    (
-        "{\"events\":[{\"do\":\"client\",\"proxy\":0,\"request\":{\"keys\":[\"k\"],\"kind\":\"get\"}},{\"do\":\"deliver\",\"message\":7,\"now\":999},{\"do\":\"return\",\"reply\":0}],\"format\":1,\"history\":[{\"entry\":\"issued\",\"op\":[0,0,0],\"proxy\":0,\"request\":{\"keys\":[\"k\"],\"kind\":\"get\"}},{\"entry\":\"answered\",\"op\":[0,0,0],\"reply\":{\"items\":[]}}],\"notes\":[{\"issued\":[0,0,0],\"messages\":[0,1]},{\"performed\":0},{\"answered\":[0,0,0]}],\"premises\":{\"forward\":true,\"near\":true,\"new_empty\":true,\"same\":true},\"setup\":{\"capacity\":4,\"config\":{\"hash\":\"sum\",\"pools\":{\"new\":{\"servers\":[\"7101\",\"7102\",\"7103\"]},\"old\":{\"servers\":[\"7001\",\"7002\"]}},\"route\":{\"from\":\"PoolRoute|old\",\"interval\":100,\"start_time\":1000,\"to\":\"PoolRoute|new\",\"type\":\"MigrateRoute\"}},\"held\":[],\"proxies\":[{\"reading\":999,\"room\":4}]},\"verdict\":\"safe\"}",
-        Outcome::EventRefused(1),
-    ),
-    (
-        "{\"events\":[{\"do\":\"client\",\"proxy\":0,\"request\":{\"keys\":[\"k\"],\"kind\":\"get\"}},{\"do\":\"deliver\",\"message\":0,\"now\":999},{\"do\":\"return\",\"reply\":0}],\"format\":1,\"history\":[{\"entry\":\"issued\",\"op\":[0,0,0],\"proxy\":0,\"request\":{\"keys\":[\"k\"],\"kind\":\"get\"}}],\"notes\":[{\"issued\":[0,0,0],\"messages\":[0,1]},{\"performed\":0},{\"answered\":[0,0,0]}],\"premises\":{\"forward\":true,\"near\":true,\"new_empty\":true,\"same\":true},\"setup\":{\"capacity\":4,\"config\":{\"hash\":\"sum\",\"pools\":{\"new\":{\"servers\":[\"7101\",\"7102\",\"7103\"]},\"old\":{\"servers\":[\"7001\",\"7002\"]}},\"route\":{\"from\":\"PoolRoute|old\",\"interval\":100,\"start_time\":1000,\"to\":\"PoolRoute|new\",\"type\":\"MigrateRoute\"}},\"held\":[],\"proxies\":[{\"reading\":999,\"room\":4}]},\"verdict\":\"safe\"}",
-        Outcome::HistoryDiffers,
-    ),
-    (
-        "{\"events\":[{\"do\":\"client\",\"proxy\":0,\"request\":{\"keys\":[\"k\"],\"kind\":\"get\"}},{\"do\":\"deliver\",\"message\":0,\"now\":999},{\"do\":\"return\",\"reply\":0}],\"format\":1,\"history\":[{\"entry\":\"issued\",\"op\":[0,0,0],\"proxy\":0,\"request\":{\"keys\":[\"k\"],\"kind\":\"get\"}},{\"entry\":\"answered\",\"op\":[0,0,0],\"reply\":{\"items\":[]}}],\"notes\":[{\"issued\":[0,0,0],\"messages\":[0,1]},{\"performed\":1},{\"answered\":[0,0,0]}],\"premises\":{\"forward\":true,\"near\":true,\"new_empty\":true,\"same\":true},\"setup\":{\"capacity\":4,\"config\":{\"hash\":\"sum\",\"pools\":{\"new\":{\"servers\":[\"7101\",\"7102\",\"7103\"]},\"old\":{\"servers\":[\"7001\",\"7002\"]}},\"route\":{\"from\":\"PoolRoute|old\",\"interval\":100,\"start_time\":1000,\"to\":\"PoolRoute|new\",\"type\":\"MigrateRoute\"}},\"held\":[],\"proxies\":[{\"reading\":999,\"room\":4}]},\"verdict\":\"safe\"}",
-        Outcome::NotesDiffer,
-    ),
-    (
-        "{\"events\":[{\"do\":\"client\",\"proxy\":0,\"request\":{\"keys\":[\"k\"],\"kind\":\"get\"}},{\"do\":\"deliver\",\"message\":0,\"now\":999},{\"do\":\"return\",\"reply\":0}],\"format\":1,\"history\":[{\"entry\":\"issued\",\"op\":[0,0,0],\"proxy\":0,\"request\":{\"keys\":[\"k\"],\"kind\":\"get\"}},{\"entry\":\"answered\",\"op\":[0,0,0],\"reply\":{\"items\":[]}}],\"notes\":[{\"issued\":[0,0,0],\"messages\":[0,1]},{\"performed\":0.5},{\"answered\":[0,0,0]}],\"premises\":{\"forward\":true,\"near\":true,\"new_empty\":true,\"same\":true},\"setup\":{\"capacity\":4,\"config\":{\"hash\":\"sum\",\"pools\":{\"new\":{\"servers\":[\"7101\",\"7102\",\"7103\"]},\"old\":{\"servers\":[\"7001\",\"7002\"]}},\"route\":{\"from\":\"PoolRoute|old\",\"interval\":100,\"start_time\":1000,\"to\":\"PoolRoute|new\",\"type\":\"MigrateRoute\"}},\"held\":[],\"proxies\":[{\"reading\":999,\"room\":4}]},\"verdict\":\"safe\"}",
-        Outcome::NotesDiffer,
-    ),
-    (
-        "{\"events\":[{\"do\":\"client\",\"proxy\":0,\"request\":{\"keys\":[\"k\"],\"kind\":\"get\"}},{\"do\":\"deliver\",\"message\":0,\"now\":999},{\"do\":\"return\",\"reply\":0}],\"format\":1,\"history\":[{\"entry\":\"issued\",\"op\":[0,0,0],\"proxy\":0,\"request\":{\"keys\":[\"k\"],\"kind\":\"get\"}},{\"entry\":\"answered\",\"op\":[0,0,0],\"reply\":{\"items\":[]}}],\"notes\":[{\"issued\":[0,0,0],\"messages\":[0,1]},{\"more\":1,\"performed\":0},{\"answered\":[0,0,0]}],\"premises\":{\"forward\":true,\"near\":true,\"new_empty\":true,\"same\":true},\"setup\":{\"capacity\":4,\"config\":{\"hash\":\"sum\",\"pools\":{\"new\":{\"servers\":[\"7101\",\"7102\",\"7103\"]},\"old\":{\"servers\":[\"7001\",\"7002\"]}},\"route\":{\"from\":\"PoolRoute|old\",\"interval\":100,\"start_time\":1000,\"to\":\"PoolRoute|new\",\"type\":\"MigrateRoute\"}},\"held\":[],\"proxies\":[{\"reading\":999,\"room\":4}]},\"verdict\":\"safe\"}",
-        Outcome::NotesDiffer,
-    ),
-    (
-        "{\"events\":[{\"do\":\"client\",\"proxy\":0,\"request\":{\"keys\":[\"k\"],\"kind\":\"get\"}},{\"do\":\"deliver\",\"message\":0,\"now\":999},{\"do\":\"return\",\"reply\":0}],\"format\":1,\"history\":[{\"entry\":\"issued\",\"op\":[0,0,0],\"proxy\":0,\"request\":{\"keys\":[\"k\"],\"kind\":\"get\"}},{\"entry\":\"answered\",\"op\":[0,0,0],\"reply\":{\"items\":[]}}],\"notes\":[{\"issued\":[0,0,0],\"messages\":[0,1]},{\"performed\":0},{\"answered\":[0,0,0]},\"nothing\"],\"premises\":{\"forward\":true,\"near\":true,\"new_empty\":true,\"same\":true},\"setup\":{\"capacity\":4,\"config\":{\"hash\":\"sum\",\"pools\":{\"new\":{\"servers\":[\"7101\",\"7102\",\"7103\"]},\"old\":{\"servers\":[\"7001\",\"7002\"]}},\"route\":{\"from\":\"PoolRoute|old\",\"interval\":100,\"start_time\":1000,\"to\":\"PoolRoute|new\",\"type\":\"MigrateRoute\"}},\"held\":[],\"proxies\":[{\"reading\":999,\"room\":4}]},\"verdict\":\"safe\"}",
-        Outcome::NotesDiffer,
-    ),
-    (
-        "{\"events\":[{\"do\":\"client\",\"proxy\":0,\"request\":{\"keys\":[\"k\"],\"kind\":\"get\"}},{\"do\":\"deliver\",\"message\":0,\"now\":999},{\"do\":\"return\",\"reply\":0}],\"format\":1,\"history\":[{\"entry\":\"issued\",\"op\":[0,0,0],\"proxy\":0,\"request\":{\"keys\":[\"k\"],\"kind\":\"get\"}},{\"entry\":\"answered\",\"op\":[0,0,0],\"reply\":{\"items\":[]}}],\"notes\":[{\"issued\":[0,0,0],\"messages\":[0,1]},{\"performed\":0},{\"answered\":[0,0,0]}],\"premises\":{\"forward\":true,\"near\":false,\"new_empty\":true,\"same\":true},\"setup\":{\"capacity\":4,\"config\":{\"hash\":\"sum\",\"pools\":{\"new\":{\"servers\":[\"7101\",\"7102\",\"7103\"]},\"old\":{\"servers\":[\"7001\",\"7002\"]}},\"route\":{\"from\":\"PoolRoute|old\",\"interval\":100,\"start_time\":1000,\"to\":\"PoolRoute|new\",\"type\":\"MigrateRoute\"}},\"held\":[],\"proxies\":[{\"reading\":999,\"room\":4}]},\"verdict\":\"safe\"}",
-        Outcome::PremisesDiffer,
-    ),
-    (
-        "{\"events\":[{\"do\":\"client\",\"proxy\":0,\"request\":{\"keys\":[\"k\"],\"kind\":\"get\"}},{\"do\":\"deliver\",\"message\":0,\"now\":999},{\"do\":\"return\",\"reply\":0}],\"format\":1,\"history\":[{\"entry\":\"issued\",\"op\":[0,0,0],\"proxy\":0,\"request\":{\"keys\":[\"k\"],\"kind\":\"get\"}},{\"entry\":\"answered\",\"op\":[0,0,0],\"reply\":{\"items\":[]}}],\"notes\":[{\"issued\":[0,0,0],\"messages\":[0,1]},{\"performed\":0},{\"answered\":[0,0,0]}],\"premises\":{\"forward\":true,\"near\":false,\"new_empty\":true,\"same\":true},\"setup\":{\"capacity\":4,\"config\":{\"hash\":\"sum\",\"pools\":{\"new\":{\"servers\":[\"7101\",\"7102\",\"7103\"]},\"old\":{\"servers\":[\"7001\",\"7002\"]}},\"route\":{\"from\":\"PoolRoute|old\",\"interval\":100,\"start_time\":1000,\"to\":\"PoolRoute|new\",\"type\":\"MigrateRoute\"}},\"held\":[],\"proxies\":[{\"reading\":999,\"room\":4}]},\"verdict\":\"no\"}",
-        Outcome::PremisesDiffer,
-    ),
-    (
-        " { \"verdict\" : \"safe\" ,\n \"premises\" : {\"same\":true,\"near\":true,\"forward\":true,\"new_empty\":true},\"setup\": {\"capacity\": 4, \"config\": {\"hash\": \"sum\", \"pools\": {\"new\": {\"servers\": [\"7101\", \"7102\", \"7103\"]}, \"old\": {\"servers\": [\"7001\", \"7002\"]}}, \"route\": {\"from\": \"PoolRoute|old\", \"interval\": 100, \"start_time\": 1000, \"to\": \"PoolRoute|new\", \"type\": \"MigrateRoute\"}}, \"held\": [], \"proxies\": [{\"reading\": 999, \"room\": 4}]}, \"notes\": [{\"issued\": [0, 0, 0], \"messages\": [0, 1]}, {\"performed\": 0}, {\"answered\": [0, 0, 0]}], \"history\": [{\"entry\": \"issued\", \"op\": [0, 0, 0], \"proxy\": 0, \"request\": {\"keys\": [\"k\"], \"kind\": \"get\"}}, {\"entry\": \"answered\", \"op\": [0, 0, 0], \"reply\": {\"items\": []}}], \"format\": 1, \"events\": [{\"do\": \"client\", \"proxy\": 0, \"request\": {\"keys\": [\"k\"], \"kind\": \"get\"}}, {\"do\": \"deliver\", \"message\": 0, \"now\": 999}, {\"do\": \"return\", \"reply\": 0}]}",
-        Outcome::Accepted,
-    ),
-];
-
-#[test]
-fn each_outcome_is_found(rt: HostRuntime) {
-    for (text, wanted) in &CHECKED {
-        is_found(&rt, rt.alloc(), text, Ok(*wanted), text);
-    }
-}
-
 /// A played script: its text, whether the premises hold (the same, the new pool empty, forward, near), the get and the
 /// delete of a stale verdict, and what a check of its transcript finds.
 type Played = (
@@ -89,7 +34,7 @@ type Played = (
     Outcome,
 );
 
-const PLAYED: [Played; 6] = [
+static PLAYED: [Played; 2] = [
     (
         "{\"events\":[{\"do\":\"client\",\"proxy\":1,\"request\":{\"data\":\"v\",\"exptime\":0,\"flags\":0,\"key\":\"k\",\"kind\":\"set\"}},{\"do\":\"deliver\",\"message\":0,\"now\":1100},{\"do\":\"return\",\"reply\":0},{\"do\":\"client\",\"proxy\":0,\"request\":{\"key\":\"k\",\"kind\":\"delete\"}},{\"do\":\"deliver\",\"message\":1,\"now\":1000},{\"do\":\"return\",\"reply\":1},{\"do\":\"deliver\",\"message\":2,\"now\":1000},{\"do\":\"return\",\"reply\":2},{\"do\":\"client\",\"proxy\":1,\"request\":{\"keys\":[\"k\"],\"kind\":\"get\"}},{\"do\":\"deliver\",\"message\":3,\"now\":1100},{\"do\":\"return\",\"reply\":3}],\"format\":1,\"setup\":{\"capacity\":4,\"config\":{\"hash\":\"sum\",\"pools\":{\"new\":{\"servers\":[\"7101\",\"7102\",\"7103\"]},\"old\":{\"servers\":[\"7001\",\"7002\"]}},\"route\":{\"from\":\"PoolRoute|old\",\"interval\":100,\"start_time\":1000,\"to\":\"PoolRoute|new\",\"type\":\"MigrateRoute\"}},\"held\":[],\"proxies\":[{\"reading\":1000,\"room\":4},{\"reading\":1100,\"room\":4}]}}",
         [true, true, true, true],
@@ -100,30 +45,6 @@ const PLAYED: [Played; 6] = [
         "{\"events\":[{\"do\":\"client\",\"proxy\":1,\"request\":{\"data\":\"v\",\"exptime\":0,\"flags\":0,\"key\":\"k\",\"kind\":\"set\"}},{\"do\":\"deliver\",\"message\":0,\"now\":1100},{\"do\":\"return\",\"reply\":0},{\"do\":\"client\",\"proxy\":0,\"request\":{\"key\":\"k\",\"kind\":\"delete\"}},{\"do\":\"deliver\",\"message\":1,\"now\":999},{\"do\":\"return\",\"reply\":1},{\"do\":\"client\",\"proxy\":1,\"request\":{\"keys\":[\"k\"],\"kind\":\"get\"}},{\"do\":\"deliver\",\"message\":2,\"now\":1100},{\"do\":\"return\",\"reply\":2}],\"format\":1,\"setup\":{\"capacity\":4,\"config\":{\"hash\":\"sum\",\"pools\":{\"new\":{\"servers\":[\"7101\",\"7102\",\"7103\"]},\"old\":{\"servers\":[\"7001\",\"7002\"]}},\"route\":{\"from\":\"PoolRoute|old\",\"interval\":100,\"start_time\":1000,\"to\":\"PoolRoute|new\",\"type\":\"MigrateRoute\"}},\"held\":[],\"proxies\":[{\"reading\":999,\"room\":4},{\"reading\":1100,\"room\":4}]}}",
         [true, true, true, false],
         Some(([1, 0, 1], [0, 0, 0])),
-        Outcome::PremiseFalse,
-    ),
-    (
-        "{\"events\":[{\"do\":\"client\",\"proxy\":0,\"request\":{\"data\":\"v\",\"exptime\":0,\"flags\":0,\"key\":\"k\",\"kind\":\"set\"}},{\"do\":\"deliver\",\"message\":0,\"now\":999},{\"do\":\"return\",\"reply\":0},{\"do\":\"client\",\"proxy\":0,\"request\":{\"key\":\"k\",\"kind\":\"delete\"}},{\"do\":\"deliver\",\"message\":1,\"now\":999},{\"do\":\"return\",\"reply\":1},{\"do\":\"deliver\",\"message\":0,\"now\":999},{\"do\":\"client\",\"proxy\":0,\"request\":{\"keys\":[\"k\"],\"kind\":\"get\"}},{\"do\":\"deliver\",\"message\":2,\"now\":999},{\"do\":\"return\",\"reply\":3}],\"format\":1,\"setup\":{\"capacity\":4,\"config\":{\"hash\":\"sum\",\"pools\":{\"new\":{\"servers\":[\"7101\",\"7102\",\"7103\"]},\"old\":{\"servers\":[\"7001\",\"7002\"]}},\"route\":{\"from\":\"PoolRoute|old\",\"interval\":100,\"start_time\":1000,\"to\":\"PoolRoute|new\",\"type\":\"MigrateRoute\"}},\"held\":[],\"proxies\":[{\"reading\":999,\"room\":4}]}}",
-        [true, true, true, true],
-        None,
-        Outcome::Accepted,
-    ),
-    (
-        "{\"events\":[{\"do\":\"client\",\"proxy\":0,\"request\":{\"key\":\"k\",\"kind\":\"delete\"}},{\"do\":\"deliver\",\"message\":0,\"now\":1000},{\"do\":\"deliver\",\"message\":1,\"now\":1000},{\"do\":\"proxy_restart\",\"proxy\":0},{\"do\":\"client\",\"proxy\":0,\"request\":{\"key\":\"k\",\"kind\":\"delete\"}},{\"do\":\"return\",\"reply\":0},{\"do\":\"return\",\"reply\":1}],\"format\":1,\"setup\":{\"capacity\":4,\"config\":{\"hash\":\"sum\",\"pools\":{\"new\":{\"servers\":[\"7101\",\"7102\",\"7103\"]},\"old\":{\"servers\":[\"7001\",\"7002\"]}},\"route\":{\"from\":\"PoolRoute|old\",\"interval\":100,\"start_time\":1000,\"to\":\"PoolRoute|new\",\"type\":\"MigrateRoute\"}},\"held\":[],\"proxies\":[{\"reading\":1000,\"room\":4}]}}",
-        [true, true, true, true],
-        None,
-        Outcome::Accepted,
-    ),
-    (
-        "{\"events\":[{\"do\":\"client\",\"proxy\":0,\"request\":{\"key\":\"k\",\"kind\":\"delete\"}},{\"do\":\"deliver\",\"message\":0,\"now\":999},{\"do\":\"return\",\"reply\":0},{\"do\":\"clock\",\"proxy\":0,\"reading\":1100},{\"do\":\"client\",\"proxy\":0,\"request\":{\"keys\":[\"k\"],\"kind\":\"get\"}},{\"do\":\"deliver\",\"message\":1,\"now\":1100},{\"do\":\"return\",\"reply\":1}],\"format\":1,\"setup\":{\"capacity\":4,\"config\":{\"hash\":\"sum\",\"pools\":{\"new\":{\"servers\":[\"7101\",\"7102\",\"7103\"]},\"old\":{\"servers\":[\"7001\",\"7002\"]}},\"route\":{\"from\":\"PoolRoute|old\",\"interval\":100,\"start_time\":1000,\"to\":\"PoolRoute|new\",\"type\":\"MigrateRoute\"}},\"held\":[{\"data\":\"v\",\"flags\":0,\"key\":\"k\",\"node\":\"7103\"}],\"proxies\":[{\"reading\":999,\"room\":4}]}}",
-        [true, false, true, true],
-        Some(([0, 0, 1], [0, 0, 0])),
-        Outcome::PremiseFalse,
-    ),
-    (
-        "{\"events\":[{\"do\":\"client\",\"proxy\":0,\"request\":{\"keys\":[\"k\"],\"kind\":\"get\"}},{\"do\":\"deliver\",\"message\":0,\"now\":1000},{\"do\":\"return\",\"reply\":0},{\"do\":\"clock\",\"proxy\":0,\"reading\":999},{\"do\":\"client\",\"proxy\":0,\"request\":{\"key\":\"k\",\"kind\":\"delete\"}},{\"do\":\"deliver\",\"message\":1,\"now\":999},{\"do\":\"return\",\"reply\":1},{\"do\":\"deliver\",\"message\":2,\"now\":999},{\"do\":\"return\",\"reply\":2}],\"format\":1,\"setup\":{\"capacity\":4,\"config\":{\"hash\":\"sum\",\"pools\":{\"new\":{\"servers\":[\"7101\",\"7102\",\"7103\"]},\"old\":{\"servers\":[\"7001\",\"7002\"]}},\"route\":{\"from\":\"PoolRoute|old\",\"interval\":100,\"start_time\":1000,\"to\":\"PoolRoute|new\",\"type\":\"MigrateRoute\"}},\"held\":[],\"proxies\":[{\"reading\":1000,\"room\":4}]}}",
-        [true, true, false, true],
-        None,
         Outcome::PremiseFalse,
     ),
 ];
