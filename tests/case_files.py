@@ -220,24 +220,26 @@ def slot(field):
     return re.sub(r" of \S+$| json$| added$", "", field)
 
 
-def cases_in(path):
-    """The cases of one file, in order."""
+def cases_in(path, word):
+    """The cases of one file whose names contain a word, in order."""
     try:
         (_, head), *rest = sections(path.read_text(encoding="utf-8").split("\n"))
         if not rest:
             raise BadCase("it holds no case")
-        for name, own in rest:
+        for short_name, own in rest:
             said = {slot(field) for field in own}
             fields = {**{field: it for field, it in head.items() if slot(field) not in said}, **own}
-            case = case_of(f"{path.relative_to(CASES).with_suffix('')}: {name}", fields)
-            yield case
-            if "checked" in fields:
-                yield checked(case, value(*fields["checked"]))
+            name = f"{path.relative_to(CASES).with_suffix('')}: {short_name}"
+            if word in name:
+                case = case_of(name, fields)
+                yield case
+                if "checked" in fields:
+                    yield checked(case, value(*fields["checked"]))
     except (BadCase, ValueError) as error:
         raise BadCase(f"{path.relative_to(CASES)}: {error}") from error
 
 
-def all_cases():
-    """Every case, in the order of folders, files and places."""
+def all_cases(word):
+    """Every case whose name contains a word, in the order of folders, files and places."""
     for path in sorted(CASES.glob("*/*.case")):
-        yield from cases_in(path)
+        yield from cases_in(path, word)
