@@ -6,10 +6,9 @@ mod crowd;
 mod fleet;
 mod loss;
 
-ghost use Rattle.std.specs.Prelude.{IfOk};
 ghost use Rattle.mr_proxy.specs.ProxyView.{IsFresh};
 
-use crate::tests::must;
+use super::{is, must};
 use mr_clock::FixedClock;
 use mr_node::CacheNode;
 use mr_phases::Schedule;
@@ -18,66 +17,72 @@ use mr_proxy::ProxyCore;
 use mr_sockets::{OverListener, SocketCarrier, serve_node, serve_proxy};
 use mr_workers::{Desk, SharedNode};
 use std::alloc::Global;
-use std::fmt::Debug;
 use std::io;
 use std::io::{Read, Write};
 use std::net::{Net, OpenStream, Shutdown, SocketAddr, TcpListener, TcpStream};
 use std::process::Abort;
 use std::sync::Wait;
-use std::test::Fail;
 use std::thread::Threads;
 use std::time::Clock;
-
-/// Asserts which value there is.
-fn is<T: PartialEq + Debug + Drop>(rt: &impl Abort, value: T, wanted: T) {
-    assert_eq!(rt; value, wanted);
-}
 
 /// How many reads each connection is allowed.
 const TURNS: u64 = 1_000_000;
 
 /// A socket that listens on a free port of this machine.
-fn listener<R: Net<Listener = TcpListener, Stream = TcpStream>>(rt: &R) -> io::Result<TcpListener> {
-    TcpListener::bind(rt, "127.0.0.1:0")
+fn listener<R: Net<Listener = TcpListener, Stream = TcpStream> + Abort>(rt: &R) -> TcpListener {
+    must(rt, TcpListener::bind(rt, "127.0.0.1:0"))
+}
+
+/// Where it listens.
+fn address_of(rt: &impl Abort, listener: &TcpListener) -> SocketAddr {
+    must(rt, listener.local_addr())
 }
 
 /// The name of the node that listens there.
-fn name_of(alloc: Global, listener: &TcpListener) -> Result<NodeName, Fail> {
-    let name = format!(in alloc; "{}", listener.local_addr()?)?;
-    Ok(NodeName::new(alloc, name.as_bytes())?)
+fn name_of(rt: &impl Abort, alloc: Global, listener: &TcpListener) -> NodeName {
+    let name = must(rt, format!(in alloc; "{}", address_of(rt, listener)));
+    must(rt, NodeName::new(alloc, name.as_bytes()))
 }
 
 /// The pool of the nodes that listen there.
-fn pool(alloc: Global, listeners: &[TcpListener]) -> Result<Pool, Fail> {
+fn pool(rt: &impl Abort, alloc: Global, listeners: &[TcpListener]) -> Pool {
     let mut names = Vec::new(alloc);
     for listener in listeners {
-        names.push(name_of(alloc, listener)?)?;
+        must(rt, names.push(name_of(rt, alloc, listener)));
     }
-    Ok(Pool::new(names)?)
+    must(rt, Pool::new(names))
 }
 
 /// The routing from some nodes to others.
 fn routing(rt: &impl Abort, alloc: Global, old: &[TcpListener], new: &[TcpListener]) -> Routing {
+    let old = pool(rt, alloc, old);
     must(
         rt,
-        Routing::new(
-            must(rt, pool(alloc, old)),
-            must(rt, pool(alloc, new)),
-            NamedHash::Sum,
-        ),
+        Routing::new(old, pool(rt, alloc, new), NamedHash::Sum),
     )
 }
 
 /// A proxy of this number.
-fn core_of(alloc: Global, number: u32, routing: &Routing) -> Result<ProxyCore, Fail>
-    ensures { IfOk result IsFresh }
+fn core_of(rt: &impl Abort, alloc: Global, number: u32, routing: &Routing) -> ProxyCore
+    ensures { IsFresh result }
 {
-    let schedule = Schedule::new(1000, 100)?;
-    Ok(ProxyCore::new(alloc, number, 0, routing.copy()?, schedule, 64))
+    let schedule = must(rt, Schedule::new(1000, 100));
+    ProxyCore::new(alloc, number, 0, must(rt, routing.copy()), schedule, 64)
 }
 
-fn node(alloc: Global) -> Result<SharedNode, Fail> {
-    Ok(SharedNode::new(CacheNode::new(alloc, 16)?))
+fn node(rt: &impl Abort, alloc: Global) -> SharedNode {
+    SharedNode::new(must(rt, CacheNode::new(alloc, 16)))
+}
+
+/// Asserts what was answered, and how many connections ended without a fault.
+fn answered_so(
+    rt: &impl Abort,
+    number: usize,
+    answers: io::Result<Vec<u8>>,
+    wanted: &str,
+) {
+    let answers = must(rt, answers);
+    is_at(rt, number, "answers", &must(rt, str::from_utf8(&answers)), &wanted);
 }
 
 /// Serves so many connections of a node, whose clock shows 999, and gives how many ended without a fault.
