@@ -46,7 +46,10 @@ fn is<T: PartialEq + Debug>(rt: &impl Abort, said: &str, there: &T, wanted: &T) 
 
 /// Asserts what there is, in the row of this number of a table.
 fn is_at<T: PartialEq + Debug>(rt: &impl Abort, row: usize, said: &str, there: &T, wanted: &T) {
-    assert!(rt; there == wanted, "row {row}: {said}: {there:?} in place of {wanted:?}");
+    assert!(rt;
+        there == wanted,
+        "row {row}: {said}: {there:?} in place of {wanted:?}"
+    );
 }
 
 /// A pool of the nodes of these names. They are allowed, so it fails for want of memory alone; likewise below.

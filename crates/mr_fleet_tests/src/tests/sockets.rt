@@ -4,11 +4,10 @@ mod clients;
 mod connections;
 mod crowd;
 mod fleet;
-mod loss;
 
 ghost use Rattle.mr_proxy.specs.ProxyView.{IsFresh};
 
-use super::{is, must};
+use super::{is_at, must};
 use mr_clock::FixedClock;
 use mr_node::CacheNode;
 use mr_phases::Schedule;
@@ -17,7 +16,6 @@ use mr_proxy::ProxyCore;
 use mr_sockets::{OverListener, SocketCarrier, serve_node, serve_proxy};
 use mr_workers::{Desk, SharedNode};
 use std::alloc::Global;
-use std::io;
 use std::io::{Read, Write};
 use std::net::{Net, OpenStream, Shutdown, SocketAddr, TcpListener, TcpStream};
 use std::process::Abort;
@@ -56,10 +54,7 @@ fn pool(rt: &impl Abort, alloc: Global, listeners: &[TcpListener]) -> Pool {
 /// The routing from some nodes to others.
 fn routing(rt: &impl Abort, alloc: Global, old: &[TcpListener], new: &[TcpListener]) -> Routing {
     let old = pool(rt, alloc, old);
-    must(
-        rt,
-        Routing::new(old, pool(rt, alloc, new), NamedHash::Sum),
-    )
+    must(rt, Routing::new(old, pool(rt, alloc, new), NamedHash::Sum))
 }
 
 /// A proxy of this number.
@@ -74,15 +69,9 @@ fn node(rt: &impl Abort, alloc: Global) -> SharedNode {
     SharedNode::new(must(rt, CacheNode::new(alloc, 16)))
 }
 
-/// Asserts what was answered, and how many connections ended without a fault.
-fn answered_so(
-    rt: &impl Abort,
-    number: usize,
-    answers: io::Result<Vec<u8>>,
-    wanted: &str,
-) {
-    let answers = must(rt, answers);
-    is_at(rt, number, "answers", &must(rt, str::from_utf8(&answers)), &wanted);
+/// Asserts what was answered, in the row of this number.
+fn were_told(rt: &impl Abort, row: usize, answers: &[u8], wanted: &str) {
+    is_at(rt, row, "told", &must(rt, str::from_utf8(answers)), &wanted);
 }
 
 /// Serves so many connections of a node, whose clock shows 999, and gives how many ended without a fault.
@@ -133,42 +122,49 @@ fn proxy_serves<
     served
 }
 
+/// A connection to this address, without delay of small packets.
+fn connected<R: Net + Abort>(rt: &R, address: SocketAddr) -> R::Stream {
+    let stream = must(rt, TcpStream::connect(rt, address));
+    must(rt, stream.set_nodelay(true));
+    stream
+}
+
 /// What is answered to a client that sends these pieces, each by a call of its own, then sends no more and reads to the end.
-fn answers<R: Net>(
+fn answers<R: Net + Abort>(
     rt: &R,
     alloc: Global,
     address: SocketAddr,
     pieces: &[&[u8]],
-) -> io::Result<Vec<u8>> {
-    let mut stream = TcpStream::connect(rt, address)?;
-    stream.set_nodelay(true)?;
+) -> Vec<u8> {
+    let mut stream = connected(rt, address);
     for piece in pieces {
-        stream.write_all(piece)?;
+        must(rt, stream.write_all(piece));
     }
-    rest_of(alloc, stream)
+    rest_of(rt, alloc, stream)
 }
 
 /// What is answered to the end of a connection, over which no more is sent.
-fn rest_of<S: Read + OpenStream + Drop>(alloc: Global, mut stream: S) -> io::Result<Vec<u8>> {
+fn rest_of<S: Read + OpenStream + Drop>(rt: &impl Abort, alloc: Global, mut stream: S) -> Vec<u8> {
     let _ = stream.shutdown(Shutdown::Write);
     let mut answers = Vec::new(alloc);
-    stream.read_to_end(&mut answers)?;
-    Ok(answers)
+    must(rt, stream.read_to_end(&mut answers));
+    answers
 }
 
 /// A connection over which half a request was sent.
-fn half_asked<R: Net>(rt: &R, address: SocketAddr, half: &[u8]) -> io::Result<R::Stream> {
-    let mut stream = TcpStream::connect(rt, address)?;
-    stream.write_all(half)?;
-    Ok(stream)
+fn half_asked<R: Net + Abort>(rt: &R, address: SocketAddr, half: &[u8]) -> R::Stream {
+    let mut stream = connected(rt, address);
+    must(rt, stream.write_all(half));
+    stream
 }
 
 /// What is answered over it once the other half is sent too.
 fn asked_whole<S: Read + Write + OpenStream + Drop>(
+    rt: &impl Abort,
     alloc: Global,
     mut stream: S,
     half: &[u8],
-) -> io::Result<Vec<u8>> {
-    stream.write_all(half)?;
-    rest_of(alloc, stream)
+) -> Vec<u8> {
+    must(rt, stream.write_all(half));
+    rest_of(rt, alloc, stream)
 }

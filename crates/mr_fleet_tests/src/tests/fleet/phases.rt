@@ -317,8 +317,12 @@ fn client<'x, R: Wait>(
 type Client<'x, R> = FleetClient<Ahead<'x>, OverReader<Asks<'x, R>>, OverWriter<Told<'x, R>>>;
 
 /// A proxy of the fleet.
-type Proxy<'x, R> =
-    FleetProxy<ToNode<'x, R>, Ahead<'x>, OverReader<Asks<'x, R>>, OverWriter<Told<'x, R>>>;
+type Proxy<'x, R> = FleetProxy<
+    ToNode<'x, R>,
+    Ahead<'x>,
+    OverReader<Asks<'x, R>>,
+    OverWriter<Told<'x, R>>,
+>;
 
 /// The clients of a proxy, each with a log of its own, the first of this number.
 fn clients<'x, R: Wait + Abort>(

@@ -1,18 +1,19 @@
 //! Several clients at once through two proxies, which have one old node and one new one.
 use super::{
-    answers, asked_whole, core_of, half_asked, is, listener, node, node_serves, proxy_serves,
-    routing,
+    address_of, answers, asked_whole, core_of, half_asked, listener, node, node_serves,
+    proxy_serves, routing, were_told,
 };
-use crate::tests::must;
+use crate::tests::{is, must};
 use mr_pools::Routing;
 use mr_sockets::SocketCarrier;
 use mr_workers::{Desk, SharedNode, SharedProxy};
 use std::alloc::{AllocError, Global};
 use std::net::{Net, SocketAddr, TcpListener, TcpStream};
+use std::process::Abort;
 use std::sync::Wait;
+use std::thread;
 use std::thread::Threads;
 use std::time::Clock;
-use std::{io, thread};
 
 /// How many clients there are at once at each proxy.
 const CLIENTS: usize = 3;
@@ -29,37 +30,34 @@ fn wanted(alloc: Global, client: usize) -> Result<String, AllocError> {
     format!(in alloc; "STORED\r\nVALUE key{client} 0 1\r\n{client}\r\nEND\r\nDELETED\r\nEND\r\n")
 }
 
-/// Whether the client of a number is answered what it has to be.
-fn is_answered<N: Net>(net: &N, alloc: Global, address: SocketAddr, client: usize) -> bool {
-    let (Ok(sent), Ok(wanted)) = (requests(alloc, client), wanted(alloc, client)) else {
-        return false;
-    };
-    match answers(net, alloc, address, &[sent.as_bytes()]) {
-        Ok(got) => got.as_slice() == wanted.as_bytes(),
-        Err(_) => false,
-    }
+/// Asserts that the client of a number is answered what it has to be.
+fn is_answered<N: Net + Abort>(net: &N, alloc: Global, address: SocketAddr, client: usize) {
+    let sent = must(net, requests(alloc, client));
+    let wanted = must(net, wanted(alloc, client));
+    let told = answers(net, alloc, address, &[sent.as_bytes()]);
+    were_told(net, client, &told, &wanted);
 }
 
 /// All clients at once, while one at the second proxy waits in the middle of a get; then one more at the first, which sets
-/// what that one gets: whether each was answered what it has to be.
-fn crowd<
-    N: Net<Listener = TcpListener, Stream = TcpStream> + Copy + Send + Sync,
-    R: Threads + Sync,
->(rt: &R, alloc: Global, net: N, addresses: [SocketAddr; 2]) -> io::Result<bool> {
-    let waiting = half_asked(&net, addresses[1], b"get ")?;
+/// what that one gets. Asserts that each is answered what it has to be.
+fn crowd<N: Net + Abort + Sync, R: Threads + Abort + Sync>(
+    rt: &R,
+    alloc: Global,
+    net: &N,
+    addresses: [SocketAddr; 2],
+) {
+    let waiting = half_asked(net, addresses[1], b"get ");
     let each = thread::map_indices(
         rt,
         alloc,
         2 * CLIENTS,
-        &|client| { is_answered(&net, alloc, addresses[client % 2], client) },
-    )?;
-    let set = answers(&net, alloc, addresses[0], &[b"set x 7 0 2\r\nhi\r\n"])?;
-    let got = asked_whole(alloc, waiting, b"x\r\n")?;
-    Ok(
-        set.as_slice() == b"STORED\r\n".as_slice()
-            && got.as_slice() == b"VALUE x 7 2\r\nhi\r\nEND\r\n".as_slice()
-            && each.iter().all(|answered| *answered),
-    )
+        &|client| { is_answered(net, alloc, addresses[client % 2], client) },
+    );
+    is(rt, "clients", &must(rt, each).len(), &(2 * CLIENTS));
+    let set = answers(net, alloc, addresses[0], &[b"set x 7 0 2\r\nhi\r\n"]);
+    were_told(rt, 6, &set, "STORED\r\n");
+    let got = asked_whole(rt, alloc, waiting, b"x\r\n");
+    were_told(rt, 7, &got, "VALUE x 7 2\r\nhi\r\nEND\r\n");
 }
 
 /// What each proxy served.
@@ -84,12 +82,11 @@ fn proxies<
     )
 }
 
-/// The node, the proxies and the clients at once: how many connections node and proxies served, and whether each client was
-/// answered what it has to be.
+/// The node, the proxies and the clients at once: how many connections node and proxies served.
 fn play<
-    N: Net<Listener = TcpListener, Stream = TcpStream> + Copy + Send + Sync,
+    N: Net<Listener = TcpListener, Stream = TcpStream> + Abort + Copy + Send + Sync,
     D: Desk<SocketCarrier<N>> + Sync,
-    R: Threads + Wait + Clock + Sync,
+    R: Threads + Wait + Clock + Abort + Sync,
 >(
     rt: &R,
     alloc: Global,
@@ -99,43 +96,36 @@ fn play<
     listeners: (TcpListener, TcpListener),
     desks: &(D, D),
     routing: &Routing,
-    addresses: [SocketAddr; 2],
-) -> (u64, (u64, u64), io::Result<bool>) {
+) -> (u64, ((u64, u64), ())) {
+    let addresses = [address_of(rt, &listeners.0), address_of(rt, &listeners.1)];
     let all = 2 * (CLIENTS as u64 + 1);
-    let (by_node, (by_proxies, answered)) = thread::join(
+    thread::join(
         rt,
         move || node_serves(rt, alloc, node_listener, node, all),
         move || {
             thread::join(
                 rt,
                 move || proxies(rt, alloc, net, listeners, desks, routing),
-                move || crowd(rt, alloc, net, addresses),
+                move || crowd(rt, alloc, &net, addresses),
             )
         },
-    );
-    (by_node, by_proxies, answered)
+    )
 }
 
 #[test]
 fn several_clients_through_two_proxies(rt: HostRuntime) {
     let alloc = rt.alloc();
-    let old = [must(&rt, listener(&rt))];
-    let new = [must(&rt, listener(&rt))];
-    let routing = routing(&rt, alloc, &old, &new);
+    let old = [listener(&rt)];
+    let routing = routing(&rt, alloc, &old, &[listener(&rt)]);
     let desks = (
-        SharedProxy::new(must(&rt, core_of(alloc, 0, &routing))),
-        SharedProxy::new(must(&rt, core_of(alloc, 1, &routing))),
+        SharedProxy::new(core_of(&rt, alloc, 0, &routing)),
+        SharedProxy::new(core_of(&rt, alloc, 1, &routing)),
     );
-    let listeners = (must(&rt, listener(&rt)), must(&rt, listener(&rt)));
-    let addresses = [
-        must(&rt, listeners.0.local_addr()),
-        must(&rt, listeners.1.local_addr()),
-    ];
-    let node = must(&rt, node(alloc));
+    let node = node(&rt, alloc);
     let [old] = old;
-    let (by_node, by_proxies, answered) = play(
-        &rt, alloc, &rt, old, &node, listeners, &desks, &routing, addresses,
+    let listeners = (listener(&rt), listener(&rt));
+    let (by_node, (by_proxies, ())) = play(
+        &rt, alloc, &rt, old, &node, listeners, &desks, &routing,
     );
-    is(&rt, (by_node, by_proxies), (8, (4, 4)));
-    is(&rt, must(&rt, answered), true);
+    is(&rt, "served", &(by_node, by_proxies), &(8, (4, 4)));
 }

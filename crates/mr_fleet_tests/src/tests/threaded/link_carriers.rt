@@ -84,12 +84,7 @@ fn links(rt: &impl Abort, alloc: Global, old_node: Link, new_node: Link) -> Link
 }
 
 /// Sends a leg, and asserts whether it is handed back.
-fn sends<R: Wait + Abort>(
-    rt: &R,
-    carriers: &mut LinkCarriers<Refuses, R>,
-    leg: Leg,
-    back: bool,
-) {
+fn sends<R: Wait + Abort>(rt: &R, carriers: &mut LinkCarriers<Refuses, R>, leg: Leg, back: bool) {
     is(rt, "handed back", &carriers.send(leg).is_some(), &back);
 }
 

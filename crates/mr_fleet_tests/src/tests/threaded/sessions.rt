@@ -200,10 +200,7 @@ fn direct<'x, R: Wait>(
     alloc: Global,
     nodes: &'x Nodes,
 ) -> Result<DirectCarriers<ToNode<'x, R>>, AllocError> {
-    Ok(DirectCarriers::new(
-        alloc,
-        carriers_to_all(rt, alloc, nodes)?,
-    ))
+    Ok(DirectCarriers::new(alloc, carriers_to_all(rt, alloc, nodes)?))
 }
 
 /// Asserts how the session of a row goes at a fresh proxy, over these caches.

@@ -11,10 +11,7 @@ const CLIENT: Row = Row {
 };
 
 /// The answer to its get of two keys.
-const OF_TWO_KEYS: Kept = Kept {
-    legs: 2,
-    ..IN_TIME
-};
+const OF_TWO_KEYS: Kept = Kept { legs: 2, ..IN_TIME };
 
 /// Where the first read fails, the second, and so on, of 16 bytes each. The read that fails doesn't come to the device.
 static READS: [Row; 5] = [

@@ -44,11 +44,7 @@ fn place_of(left: &Left) -> Option<usize> {
 }
 
 /// The session of a client at a fresh proxy, over these caches.
-fn serve_over<'x, R: Wait>(
-    rt: &'x R,
-    alloc: Global,
-    nodes: &'x Nodes,
-) -> Result<Left, AllocError> {
+fn serve_over<'x, R: Wait>(rt: &'x R, alloc: Global, nodes: &'x Nodes) -> Result<Left, AllocError> {
     let desk: RecordedProxy<ToNode<'x, R>> = recorded(alloc, 0, &NEW, 20)?;
     let mut carriers = direct(rt, alloc, nodes)?;
     let sends = b"set k 5 0 1\r\nv\r\nget k\r\nquit\r\n";
@@ -73,6 +69,11 @@ fn refused_memory_is_answered_or_ends_the_session(rt: HostRuntime) -> Result<(),
         // Memory for the caches, the proxy or the writer was refused.
         Err(_) => {}
     }
-    is(&rt, "the next outcome", &outcome(&rt, rt.alloc())?, &Some(0));
+    is(
+        &rt,
+        "the next outcome",
+        &outcome(&rt, rt.alloc())?,
+        &Some(0),
+    );
     Ok(())
 }

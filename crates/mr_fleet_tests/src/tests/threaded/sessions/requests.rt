@@ -52,10 +52,7 @@ const THREE: Row = Row {
     ..SILENT
 };
 
-const OF_THREE_KEYS: Kept = Kept {
-    legs: 3,
-    ..IN_TIME
-};
+const OF_THREE_KEYS: Kept = Kept { legs: 3, ..IN_TIME };
 
 /// These 78 bytes in one piece, and in pieces that end in a line, in a block, and within an end of line.
 static PIECES: [Row; 6] = [
@@ -70,10 +67,7 @@ static PIECES: [Row; 6] = [
         ..THREE
     },
     Row {
-        given: Given {
-            length: 7,
-            ..WHOLE
-        },
+        given: Given { length: 7, ..WHOLE },
         reads: 13,
         ..THREE
     },

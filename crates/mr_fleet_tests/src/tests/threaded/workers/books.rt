@@ -67,7 +67,13 @@ fn come_so(rt: &(impl Abort + Wait), alloc: Global, limit: u64, steps: &[Step]) 
     let mut share = desk.share();
     for (number, (asked, refused, issued)) in steps.iter().enumerate() {
         let came = asks(rt, alloc, &desk, &mut share, number, *asked);
-        is_at(rt, number, "step", &(came, share.count()), &(*refused, *issued));
+        is_at(
+            rt,
+            number,
+            "step",
+            &(came, share.count()),
+            &(*refused, *issued),
+        );
     }
 }
 
@@ -122,7 +128,12 @@ fn take(rt: &impl Abort, state: &mut RecordedState<Broken>, carried: &Carried<Br
 /// Takes what came of the leg of a get, twice: the second is a stranger.
 fn take_twice(rt: &impl Abort, state: &mut RecordedState<Broken>, leg: Leg) {
     let carried = Carried::of(&mut Broken::new(), leg);
-    is(rt, "taken", &take(rt, state, &carried), &Took::Answer(FIRST));
+    is(
+        rt,
+        "taken",
+        &take(rt, state, &carried),
+        &Took::Answer(FIRST),
+    );
     is(rt, "again", &take(rt, state, &carried), &Took::Stranger);
 }
 
@@ -140,10 +151,20 @@ fn has_one_answer(rt: &impl Abort, alloc: Global, state: RecordedState<Broken>) 
     let answers = must(rt, state.answers(alloc));
     is(rt, "answers", &answers.len(), &1);
     for answer in &answers {
-        is(rt, "an answer", &(answer.op(), answer.given_up()), &(FIRST, false));
+        is(
+            rt,
+            "an answer",
+            &(answer.op(), answer.given_up()),
+            &(FIRST, false),
+        );
     }
     let book = state.into_book();
-    is(rt, "the book", &(book.steps.len(), book.core.next()), &(2, 1));
+    is(
+        rt,
+        "the book",
+        &(book.steps.len(), book.core.next()),
+        &(2, 1),
+    );
 }
 
 #[test]

@@ -264,7 +264,12 @@ fn keeps(
     let key = must(rt, Key::new(alloc, name));
     let reply = must(rt, node.desk(rt).get(0, &key));
     is(rt, "flags", &flags_of(&reply), &wanted);
-    is(rt, "missed", &matches!(reply, LegReply::Miss), &wanted.is_none());
+    is(
+        rt,
+        "missed",
+        &matches!(reply, LegReply::Miss),
+        &wanted.is_none(),
+    );
 }
 
 #[test]
@@ -284,12 +289,7 @@ fn one_leg(rt: &(impl Wait + Abort), alloc: Global) -> Leg {
 }
 
 /// Asserts that a carrier to this cache whose clock fails says so.
-fn says_so<'x, R: Wait + Abort>(
-    rt: &'x R,
-    alloc: Global,
-    node: &'x SharedNode,
-    sheet: &LegSheet,
-) {
+fn says_so<'x, R: Wait + Abort>(rt: &'x R, alloc: Global, node: &'x SharedNode, sheet: &LegSheet) {
     let clock = ListClock::new(Vec::new(alloc));
     let reply = must(rt, LocalCarrier::new(rt, node, clock).carry(sheet));
     let fails = matches!(reply, LegReply::Failed(Cause::ClockFault));
