@@ -98,3 +98,25 @@ fn went_well<C: Carrier, K: Clock, S: Source, W: Sink>(
         is_at(rt, proxy, "client", &client.result, &Ok(Ended::Ended));
     }
 }
+
+/// Runs a fleet of two proxies, and asserts that its clients went well: how many requests each of either proxy issued.
+fn goes_well<
+    C: Carrier + Send + Drop,
+    K: Clock + Send + Drop,
+    S: Source + Send + Drop,
+    W: Sink + Send + Drop,
+    G: Gate + Sync,
+    R: Threads + Wait + Abort + Sync,
+>(
+    rt: &R,
+    alloc: Global,
+    first: FleetProxy<C, K, S, W>,
+    second: FleetProxy<C, K, S, W>,
+    gate: &G,
+    issued: &[&[u64]],
+) {
+    let ends = run(rt, alloc, first, second, gate);
+    for (proxy, (end, counts)) in ends.iter().zip(issued).enumerate() {
+        went_well(rt, proxy, end, counts);
+    }
+}

@@ -16,6 +16,7 @@ use mr_proxy::ProxyCore;
 use mr_sockets::{OverListener, SocketCarrier, serve_node, serve_proxy};
 use mr_workers::{Desk, SharedNode};
 use std::alloc::Global;
+use std::io;
 use std::io::{Read, Write};
 use std::net::{Net, OpenStream, Shutdown, SocketAddr, TcpListener, TcpStream};
 use std::process::Abort;
@@ -123,48 +124,47 @@ fn proxy_serves<
 }
 
 /// A connection to this address, without delay of small packets.
-fn connected<R: Net + Abort>(rt: &R, address: SocketAddr) -> R::Stream {
-    let stream = must(rt, TcpStream::connect(rt, address));
-    must(rt, stream.set_nodelay(true));
-    stream
+fn connected<N: Net>(net: &N, address: SocketAddr) -> io::Result<N::Stream> {
+    let stream = TcpStream::connect(net, address)?;
+    stream.set_nodelay(true)?;
+    Ok(stream)
 }
 
 /// What is answered to a client that sends these pieces, each by a call of its own, then sends no more and reads to the end.
-fn answers<R: Net + Abort>(
-    rt: &R,
+fn answers<N: Net>(
+    net: &N,
     alloc: Global,
     address: SocketAddr,
     pieces: &[&[u8]],
-) -> Vec<u8> {
-    let mut stream = connected(rt, address);
+) -> io::Result<Vec<u8>> {
+    let mut stream = connected(net, address)?;
     for piece in pieces {
-        must(rt, stream.write_all(piece));
+        stream.write_all(piece)?;
     }
-    rest_of(rt, alloc, stream)
+    rest_of(alloc, stream)
 }
 
 /// What is answered to the end of a connection, over which no more is sent.
-fn rest_of<S: Read + OpenStream + Drop>(rt: &impl Abort, alloc: Global, mut stream: S) -> Vec<u8> {
+fn rest_of<S: Read + OpenStream + Drop>(alloc: Global, mut stream: S) -> io::Result<Vec<u8>> {
     let _ = stream.shutdown(Shutdown::Write);
     let mut answers = Vec::new(alloc);
-    must(rt, stream.read_to_end(&mut answers));
-    answers
+    stream.read_to_end(&mut answers)?;
+    Ok(answers)
 }
 
 /// A connection over which half a request was sent.
-fn half_asked<R: Net + Abort>(rt: &R, address: SocketAddr, half: &[u8]) -> R::Stream {
-    let mut stream = connected(rt, address);
-    must(rt, stream.write_all(half));
-    stream
+fn half_asked<N: Net>(net: &N, address: SocketAddr, half: &[u8]) -> io::Result<N::Stream> {
+    let mut stream = connected(net, address)?;
+    stream.write_all(half)?;
+    Ok(stream)
 }
 
 /// What is answered over it once the other half is sent too.
 fn asked_whole<S: Read + Write + OpenStream + Drop>(
-    rt: &impl Abort,
     alloc: Global,
     mut stream: S,
     half: &[u8],
-) -> Vec<u8> {
-    must(rt, stream.write_all(half));
-    rest_of(rt, alloc, stream)
+) -> io::Result<Vec<u8>> {
+    stream.write_all(half)?;
+    rest_of(alloc, stream)
 }

@@ -8,8 +8,8 @@ use mr_fleet::{FleetEnd, FleetProxy};
 use mr_fleet_clients::FleetClient;
 use mr_node::NodeCommand;
 use mr_proxy::LegSheet;
-use mr_text::{GhostBytes, GhostCount, OverReader, Sink, WriteFault};
-use mr_workers::Gate;
+use mr_text::{GhostBytes, GhostCount, OverReader, Sink, Source, WriteFault};
+use mr_workers::{Carrier, Gate};
 use std::alloc::Global;
 use std::io::Read;
 use std::process::Abort;
@@ -186,10 +186,8 @@ impl<'x, R: Wait> Sink for Told<'x, R> {
 /// A client of the fleet.
 type Client<'x, R> = FleetClient<FixedClock, OverReader<Asks<'x, R>>, Told<'x, R>>;
 
-/// A proxy of the fleet, and how one ended.
+/// A proxy of the fleet.
 type Proxy<'x, R> = FleetProxy<ToNode<'x, R>, FixedClock, OverReader<Asks<'x, R>>, Told<'x, R>>;
-
-type End<'x, R> = FleetEnd<ToNode<'x, R>, FixedClock, OverReader<Asks<'x, R>>, Told<'x, R>>;
 
 /// A client whose clock shows 999. Where it waits until a leg is held, that leg waits for its answers.
 fn client<'x, R: Wait + Clock>(
@@ -266,22 +264,55 @@ static WANTED: [(&[u64], &[&str]); 2] = [
     (&[1], &["END\r\n"]),
 ];
 
+/// What tells which answers it was written.
+trait IsTold {
+    /// The answers so far.
+    fn text(&self) -> &[u8];
+}
+
+impl<'x, R> IsTold for Told<'x, R> {
+    fn text(&self) -> &[u8] {
+        &self.kept
+    }
+}
+
 /// Asserts that the clients of a proxy went well, issued so many requests, and were told so.
-fn were_told<'x, R: Wait + Clock + Abort>(
-    rt: &R,
+fn were_told<C: Carrier, K: mr_clock::Clock, S: Source, W: Sink + IsTold>(
+    rt: &impl Abort,
     proxy: usize,
-    end: &End<'x, R>,
+    end: &FleetEnd<C, K, S, W>,
     issued: &[u64],
     told: &[&str],
 ) {
     went_well(rt, proxy, end, issued);
     for (client, wanted) in end.ends.iter().zip(told) {
-        let told = must(rt, str::from_utf8(&client.writer.kept));
+        let told = must(rt, str::from_utf8(client.writer.text()));
         is_at(rt, proxy, "told", &told, wanted);
     }
 }
 
-/// Runs the fleet over these caches, with a gate that holds the leg of `get b`, and asserts what came of it.
+/// Runs the fleet, and asserts what came of it.
+fn goes_so<
+    C: Carrier + Send + Drop,
+    K: mr_clock::Clock + Send + Drop,
+    S: Source + Send + Drop,
+    W: Sink + IsTold + Send + Drop,
+    G: Gate + Sync,
+    R: Threads + Wait + Abort + Sync,
+>(
+    rt: &R,
+    alloc: Global,
+    first: FleetProxy<C, K, S, W>,
+    second: FleetProxy<C, K, S, W>,
+    gate: &G,
+) {
+    let ends = run(rt, alloc, first, second, gate);
+    for (proxy, (end, (issued, told))) in ends.iter().zip(&WANTED).enumerate() {
+        were_told(rt, proxy, end, issued, told);
+    }
+}
+
+/// The same over these caches, with a gate that holds the leg of `get b`.
 fn play<'x, R: Threads + Wait + Clock + Abort + Sync>(
     rt: &'x R,
     alloc: Global,
@@ -290,10 +321,7 @@ fn play<'x, R: Threads + Wait + Clock + Abort + Sync>(
 ) {
     let first = first(rt, alloc, nodes, flags);
     let second = second(rt, alloc, nodes, flags);
-    let ends = run(rt, alloc, first, second, &HoldsGetOfB { rt, flags });
-    for (number, (end, (issued, told))) in ends.iter().zip(&WANTED).enumerate() {
-        were_told(rt, number, end, issued, told);
-    }
+    goes_so(rt, alloc, first, second, &HoldsGetOfB { rt, flags });
 }
 
 #[test]

@@ -1,5 +1,5 @@
 //! Many clients at once, while the migration goes through all four phases.
-use super::{proxy_of, run, went_well};
+use super::{goes_well, proxy_of};
 use crate::tests::{Nodes, ToNode, carriers_to_all, is, make_nodes, must};
 use mr_clock::{Clock, ClockFault};
 use mr_fleet::FleetProxy;
@@ -389,9 +389,8 @@ fn play<'x, R: Threads + Wait + Abort + Sync>(
 ) {
     let first = proxy(rt, alloc, nodes, course, 0, 0, &logs[0]);
     let second = proxy(rt, alloc, nodes, course, 1, ahead, &logs[1]);
-    for (number, end) in run(rt, alloc, first, second, &OpenGate).iter().enumerate() {
-        went_well(rt, number, end, &[REQUESTS; CLIENTS]);
-    }
+    let issued = [REQUESTS; CLIENTS];
+    goes_well(rt, alloc, first, second, &OpenGate, &[&issued, &issued]);
 }
 
 /// Asserts that some gets found something, and none what it may not.

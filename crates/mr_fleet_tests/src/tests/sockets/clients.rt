@@ -41,16 +41,17 @@ fn answers_to_each<R: Net + Abort>(
 ) -> Vec<Vec<u8>> {
     let mut all = Vec::new(alloc);
     for pieces in clients {
-        must(rt, all.push(answers(rt, alloc, address, pieces)));
+        let got = must(rt, answers(rt, alloc, address, pieces));
+        must(rt, all.push(got));
     }
     all
 }
 
 /// Asks for so many answers of more than 8,000 bytes each, and leaves without reading one.
-fn ask_and_leave<R: Net + Abort>(rt: &R, alloc: Global, address: SocketAddr) -> io::Result<()> {
-    let mut stream = connected(rt, address);
+fn ask_and_leave<N: Net>(net: &N, alloc: Global, address: SocketAddr) -> io::Result<()> {
+    let mut stream = connected(net, address)?;
     let mut block = Vec::new(alloc);
-    must(rt, block.resize(8192, b'v'));
+    block.resize(8192, b'v')?;
     stream.write_all(b"set k 0 0 8192\r\n")?;
     stream.write_all(&block)?;
     stream.write_all(b"\r\n")?;
@@ -62,9 +63,10 @@ fn ask_and_leave<R: Net + Abort>(rt: &R, alloc: Global, address: SocketAddr) -> 
 
 /// The answers to the other client, and to the one that waits.
 fn wait_and_go_on<R: Net + Abort>(rt: &R, alloc: Global, address: SocketAddr) -> Vec<Vec<u8>> {
-    let waiting = half_asked(rt, address, b"get ");
+    let waiting = must(rt, half_asked(rt, address, b"get "));
     let mut all = answers_to_each(rt, alloc, address, &[&[b"set k 0 0 1\r\nv\r\n"]]);
-    must(rt, all.push(asked_whole(rt, alloc, waiting, b"k\r\n")));
+    let waited = must(rt, asked_whole(alloc, waiting, b"k\r\n"));
+    must(rt, all.push(waited));
     all
 }
 

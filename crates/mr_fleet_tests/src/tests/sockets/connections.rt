@@ -168,13 +168,13 @@ impl Listener for FailsFirst {
 
 /// A node that three clients are served of, of which two can't be accepted, and a client: how many connections were served, and
 /// what the client was answered.
-fn play_failing<R: Net + Threads + Wait + Clock + Abort + Sync>(
+fn play_failing<R: Net + Threads + Wait + Clock + Sync>(
     rt: &R,
     alloc: Global,
     listener: FailsFirst,
     node: &SharedNode,
     address: SocketAddr,
-) -> (u64, Vec<u8>) {
+) -> (u64, io::Result<Vec<u8>>) {
     thread::join(
         rt,
         move || {
@@ -203,6 +203,6 @@ fn a_client_that_cannot_be_accepted_is_waited_after(rt: HostRuntime) {
     let (served, got) = play_failing(&rt, rt.alloc(), fails_twice(inner), &node, address);
     let taken = must(&rt, rt.monotonic()).saturating_sub(begun).as_millis();
     is(&rt, "served", &served, &1);
-    were_told(&rt, 0, &got, "END\r\n");
+    were_told(&rt, 0, &must(&rt, got), "END\r\n");
     is(&rt, "pauses", &(200..10_000).contains(&taken), &true);
 }

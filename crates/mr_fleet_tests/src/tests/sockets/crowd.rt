@@ -11,9 +11,9 @@ use std::alloc::{AllocError, Global};
 use std::net::{Net, SocketAddr, TcpListener, TcpStream};
 use std::process::Abort;
 use std::sync::Wait;
-use std::thread;
 use std::thread::Threads;
 use std::time::Clock;
+use std::{io, thread};
 
 /// How many clients there are at once at each proxy.
 const CLIENTS: usize = 3;
@@ -30,34 +30,68 @@ fn wanted(alloc: Global, client: usize) -> Result<String, AllocError> {
     format!(in alloc; "STORED\r\nVALUE key{client} 0 1\r\n{client}\r\nEND\r\nDELETED\r\nEND\r\n")
 }
 
-/// Asserts that the client of a number is answered what it has to be.
-fn is_answered<N: Net + Abort>(net: &N, alloc: Global, address: SocketAddr, client: usize) {
-    let sent = must(net, requests(alloc, client));
-    let wanted = must(net, wanted(alloc, client));
-    let told = answers(net, alloc, address, &[sent.as_bytes()]);
-    were_told(net, client, &told, &wanted);
+/// What the client of a number is answered.
+fn answers_to<N: Net>(
+    net: &N,
+    alloc: Global,
+    address: SocketAddr,
+    client: usize,
+) -> io::Result<Vec<u8>> {
+    let sent = requests(alloc, client)?;
+    answers(net, alloc, address, &[sent.as_bytes()])
 }
 
-/// All clients at once, while one at the second proxy waits in the middle of a get; then one more at the first, which sets
-/// what that one gets. Asserts that each is answered what it has to be.
-fn crowd<N: Net + Abort + Sync, R: Threads + Abort + Sync>(
+/// What all clients are answered, at once.
+fn answers_to_all<
+    N: Net<Listener = TcpListener, Stream = TcpStream> + Copy + Send + Sync,
+    R: Threads + Abort + Sync,
+>(
     rt: &R,
     alloc: Global,
-    net: &N,
+    net: N,
     addresses: [SocketAddr; 2],
-) {
-    let waiting = half_asked(net, addresses[1], b"get ");
+) -> Vec<io::Result<Vec<u8>>> {
     let each = thread::map_indices(
         rt,
         alloc,
         2 * CLIENTS,
-        &|client| { is_answered(net, alloc, addresses[client % 2], client) },
+        &|client| { answers_to(&net, alloc, addresses[client % 2], client) },
     );
-    is(rt, "clients", &must(rt, each).len(), &(2 * CLIENTS));
-    let set = answers(net, alloc, addresses[0], &[b"set x 7 0 2\r\nhi\r\n"]);
-    were_told(rt, 6, &set, "STORED\r\n");
-    let got = asked_whole(rt, alloc, waiting, b"x\r\n");
-    were_told(rt, 7, &got, "VALUE x 7 2\r\nhi\r\nEND\r\n");
+    must(rt, each)
+}
+
+/// Asserts that each client is answered what it has to be.
+fn are_answered(rt: &impl Abort, alloc: Global, all: Vec<io::Result<Vec<u8>>>) {
+    is(rt, "clients", &all.len(), &(2 * CLIENTS));
+    let mut client = 0_usize;
+    for told in all {
+        were_told(
+            rt,
+            client,
+            &must(rt, told),
+            &must(rt, wanted(alloc, client)),
+        );
+        client = client.wrapping_add(1);
+    }
+}
+
+/// All clients at once, while one at the second proxy waits in the middle of a get; then one more at the first, which sets
+/// what that one gets. Asserts that each is answered what it has to be.
+fn crowd<
+    N: Net<Listener = TcpListener, Stream = TcpStream> + Copy + Send + Sync,
+    R: Threads + Abort + Sync,
+>(
+    rt: &R,
+    alloc: Global,
+    net: N,
+    addresses: [SocketAddr; 2],
+) {
+    let waiting = must(rt, half_asked(&net, addresses[1], b"get "));
+    are_answered(rt, alloc, answers_to_all(rt, alloc, net, addresses));
+    let set = answers(&net, alloc, addresses[0], &[b"set x 7 0 2\r\nhi\r\n"]);
+    were_told(rt, 6, &must(rt, set), "STORED\r\n");
+    let got = asked_whole(alloc, waiting, b"x\r\n");
+    were_told(rt, 7, &must(rt, got), "VALUE x 7 2\r\nhi\r\nEND\r\n");
 }
 
 /// What each proxy served.
@@ -84,7 +118,7 @@ fn proxies<
 
 /// The node, the proxies and the clients at once: how many connections node and proxies served.
 fn play<
-    N: Net<Listener = TcpListener, Stream = TcpStream> + Abort + Copy + Send + Sync,
+    N: Net<Listener = TcpListener, Stream = TcpStream> + Copy + Send + Sync,
     D: Desk<SocketCarrier<N>> + Sync,
     R: Threads + Wait + Clock + Abort + Sync,
 >(
@@ -106,7 +140,7 @@ fn play<
             thread::join(
                 rt,
                 move || proxies(rt, alloc, net, listeners, desks, routing),
-                move || crowd(rt, alloc, &net, addresses),
+                move || crowd(rt, alloc, net, addresses),
             )
         },
     )

@@ -12,9 +12,9 @@ use std::io::{Read, Write};
 use std::net::{Net, SocketAddr, TcpListener, TcpStream};
 use std::process::Abort;
 use std::sync::Wait;
-use std::thread;
 use std::thread::Threads;
 use std::time::Clock;
+use std::{io, thread};
 
 /// Whether the second old node goes away in the middle of its first leg and comes back, what a client of the proxy sends,
 /// and what it has to be answered.
@@ -47,7 +47,7 @@ fn node_part<R: Threads + Wait + Clock + Abort + Sync>(
 
 /// The node, the proxy and the client at once: how many connections node and proxy served, and what the client was answered.
 fn play<
-    N: Net<Listener = TcpListener, Stream = TcpStream> + Abort + Copy + Send + Sync,
+    N: Net<Listener = TcpListener, Stream = TcpStream> + Copy + Send + Sync,
     D: Desk<SocketCarrier<N>> + Sync,
     R: Threads + Wait + Clock + Abort + Sync,
 >(
@@ -60,7 +60,7 @@ fn play<
     desk: &D,
     routing: &Routing,
     row: &Row,
-) -> (u64, (u64, Vec<u8>)) {
+) -> (u64, (u64, io::Result<Vec<u8>>)) {
     let address = address_of(rt, &proxy_listener);
     thread::join(
         rt,
@@ -101,7 +101,7 @@ fn goes_so<
     let proxy = listener(&net);
     let (by_node, (by_proxy, told)) = play(rt, alloc, net, last, &node, proxy, &desk, routing, row);
     is(rt, "served", &(by_node, by_proxy), &(1, 1));
-    were_told(rt, 0, &told, row.told);
+    were_told(rt, 0, &must(rt, told), row.told);
 }
 
 /// Asserts what comes of a client at the worked fleet. The other nodes serve nobody.

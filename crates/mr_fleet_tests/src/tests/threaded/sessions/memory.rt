@@ -40,7 +40,12 @@ static OUTCOMES: [Outcome; 8] = [
 fn place_of(left: &Left) -> Option<usize> {
     let issued = left.served.share.count();
     let there = (left.served.ended, left.written.as_slice(), issued);
-    OUTCOMES.iter().position(|outcome| *outcome == there)
+    for (number, outcome) in OUTCOMES.iter().enumerate() {
+        if *outcome == there {
+            return Some(number);
+        }
+    }
+    None
 }
 
 /// The session of a client at a fresh proxy, over these caches.

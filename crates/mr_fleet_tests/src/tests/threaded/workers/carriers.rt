@@ -104,20 +104,6 @@ struct Answered<'a> {
     told: &'a str,
 }
 
-/// Asserts which answer there is.
-fn is_answer(rt: &impl Abort, alloc: Global, number: usize, answer: Answer, wanted: &Answered) {
-    let legs = answer.slots().len();
-    let given_up = answer.given_up();
-    let text = must(rt, reply_text(alloc, &answer.into_reply()));
-    let told = must(rt, str::from_utf8(&text));
-    let answered = Answered {
-        legs,
-        given_up,
-        told,
-    };
-    is_at(rt, number, "answer", &answered, wanted);
-}
-
 /// What is asked of a proxy, at a second of the phase in which deletes go to both sides and gets to the old one.
 #[derive(Clone, Copy)]
 enum Asked {
@@ -138,7 +124,30 @@ impl Asked {
 }
 
 /// What is asked, and how it has to be answered.
-type Row = (Asked, Answered<'static>);
+struct Row {
+    asked: Asked,
+    legs: usize,
+    given_up: bool,
+    told: &'static str,
+}
+
+/// Asserts how the request of a row was answered.
+fn is_answer(rt: &impl Abort, alloc: Global, number: usize, answer: Answer, row: &Row) {
+    let legs = answer.slots().len();
+    let given_up = answer.given_up();
+    let text = must(rt, reply_text(alloc, &answer.into_reply()));
+    let answered = Answered {
+        legs,
+        given_up,
+        told: must(rt, str::from_utf8(&text)),
+    };
+    let wanted = Answered {
+        legs: row.legs,
+        given_up: row.given_up,
+        told: row.told,
+    };
+    is_at(rt, number, "answer", &answered, &wanted);
+}
 
 /// Asserts how requests are answered whose legs go through these carriers.
 fn answers_so<C: Carrier, D: Desk<C>, L: Carriers<C>, R: Wait + Abort>(
@@ -148,39 +157,33 @@ fn answers_so<C: Carrier, D: Desk<C>, L: Carriers<C>, R: Wait + Abort>(
     carriers: &mut L,
     rows: &[Row],
 ) {
-    for (number, (asked, wanted)) in rows.iter().enumerate() {
-        let answer = answer_to(rt, desk, carriers, &asked.request(rt, alloc));
-        is_answer(rt, alloc, number, answer, wanted);
+    for (number, row) in rows.iter().enumerate() {
+        let answer = answer_to(rt, desk, carriers, &row.asked.request(rt, alloc));
+        is_answer(rt, alloc, number, answer, row);
     }
 }
 
 /// A get finds what the node that its key names keeps, a delete takes it from there, and the next get finds nothing. The sum
 /// of the bytes of `k` is odd, so the second cache of the old pool keeps it, and the one of the new pool doesn't.
 static UNTIL_DELETED: [Row; 3] = [
-    (
-        Asked::Get,
-        Answered {
-            legs: 1,
-            given_up: false,
-            told: "VALUE k 7 1\r\nv\r\nEND\r\n",
-        },
-    ),
-    (
-        Asked::Delete,
-        Answered {
-            legs: 2,
-            given_up: false,
-            told: "NOT_FOUND\r\n",
-        },
-    ),
-    (
-        Asked::Get,
-        Answered {
-            legs: 1,
-            given_up: false,
-            told: "END\r\n",
-        },
-    ),
+    Row {
+        asked: Asked::Get,
+        legs: 1,
+        given_up: false,
+        told: "VALUE k 7 1\r\nv\r\nEND\r\n",
+    },
+    Row {
+        asked: Asked::Delete,
+        legs: 2,
+        given_up: false,
+        told: "NOT_FOUND\r\n",
+    },
+    Row {
+        asked: Asked::Get,
+        legs: 1,
+        given_up: false,
+        told: "END\r\n",
+    },
 ];
 
 /// Asserts so at a proxy over these caches.
@@ -217,28 +220,24 @@ fn loses(rt: &(impl Wait + Abort), alloc: Global, counts: &[usize], rows: &[Row]
     is(rt, "came", &carriers.receive().is_some(), &false);
 }
 
-static LOST: [Row; 1] = [(
-    Asked::Delete,
-    Answered {
-        legs: 2,
-        given_up: false,
-        told: "SERVER_ERROR leg lost\r\n",
-    },
-)];
+static LOST: [Row; 1] = [Row {
+    asked: Asked::Delete,
+    legs: 2,
+    given_up: false,
+    told: "SERVER_ERROR leg lost\r\n",
+}];
 
 #[test]
 fn a_leg_whose_link_is_broken_is_lost(rt: HostRuntime) {
     loses(&rt, rt.alloc(), &[2, 1], &LOST);
 }
 
-static HANDED_BACK: [Row; 1] = [(
-    Asked::Get,
-    Answered {
-        legs: 1,
-        given_up: true,
-        told: "SERVER_ERROR leg lost\r\n",
-    },
-)];
+static HANDED_BACK: [Row; 1] = [Row {
+    asked: Asked::Get,
+    legs: 1,
+    given_up: true,
+    told: "SERVER_ERROR leg lost\r\n",
+}];
 
 #[test]
 fn a_leg_without_a_carrier_is_handed_back(rt: HostRuntime) {
