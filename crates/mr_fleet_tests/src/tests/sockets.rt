@@ -4,12 +4,10 @@ mod clients;
 mod connections;
 mod crowd;
 mod fleet;
-mod loss;
 
-ghost use Rattle.std.specs.Prelude.{IfOk};
 ghost use Rattle.mr_proxy.specs.ProxyView.{IsFresh};
 
-use crate::tests::must;
+use super::{is_at, must};
 use mr_clock::FixedClock;
 use mr_node::CacheNode;
 use mr_phases::Schedule;
@@ -18,66 +16,63 @@ use mr_proxy::ProxyCore;
 use mr_sockets::{OverListener, SocketCarrier, serve_node, serve_proxy};
 use mr_workers::{Desk, SharedNode};
 use std::alloc::Global;
-use std::fmt::Debug;
 use std::io;
 use std::io::{Read, Write};
 use std::net::{Net, OpenStream, Shutdown, SocketAddr, TcpListener, TcpStream};
 use std::process::Abort;
 use std::sync::Wait;
-use std::test::Fail;
 use std::thread::Threads;
 use std::time::Clock;
-
-/// Asserts which value there is.
-fn is<T: PartialEq + Debug + Drop>(rt: &impl Abort, value: T, wanted: T) {
-    assert_eq!(rt; value, wanted);
-}
 
 /// How many reads each connection is allowed.
 const TURNS: u64 = 1_000_000;
 
 /// A socket that listens on a free port of this machine.
-fn listener<R: Net<Listener = TcpListener, Stream = TcpStream>>(rt: &R) -> io::Result<TcpListener> {
-    TcpListener::bind(rt, "127.0.0.1:0")
+fn listener<R: Net<Listener = TcpListener, Stream = TcpStream> + Abort>(rt: &R) -> TcpListener {
+    must(rt, TcpListener::bind(rt, "127.0.0.1:0"))
+}
+
+/// Where it listens.
+fn address_of(rt: &impl Abort, listener: &TcpListener) -> SocketAddr {
+    must(rt, listener.local_addr())
 }
 
 /// The name of the node that listens there.
-fn name_of(alloc: Global, listener: &TcpListener) -> Result<NodeName, Fail> {
-    let name = format!(in alloc; "{}", listener.local_addr()?)?;
-    Ok(NodeName::new(alloc, name.as_bytes())?)
+fn name_of(rt: &impl Abort, alloc: Global, listener: &TcpListener) -> NodeName {
+    let name = must(rt, format!(in alloc; "{}", address_of(rt, listener)));
+    must(rt, NodeName::new(alloc, name.as_bytes()))
 }
 
 /// The pool of the nodes that listen there.
-fn pool(alloc: Global, listeners: &[TcpListener]) -> Result<Pool, Fail> {
+fn pool(rt: &impl Abort, alloc: Global, listeners: &[TcpListener]) -> Pool {
     let mut names = Vec::new(alloc);
     for listener in listeners {
-        names.push(name_of(alloc, listener)?)?;
+        must(rt, names.push(name_of(rt, alloc, listener)));
     }
-    Ok(Pool::new(names)?)
+    must(rt, Pool::new(names))
 }
 
 /// The routing from some nodes to others.
 fn routing(rt: &impl Abort, alloc: Global, old: &[TcpListener], new: &[TcpListener]) -> Routing {
-    must(
-        rt,
-        Routing::new(
-            must(rt, pool(alloc, old)),
-            must(rt, pool(alloc, new)),
-            NamedHash::Sum,
-        ),
-    )
+    let old = pool(rt, alloc, old);
+    must(rt, Routing::new(old, pool(rt, alloc, new), NamedHash::Sum))
 }
 
 /// A proxy of this number.
-fn core_of(alloc: Global, number: u32, routing: &Routing) -> Result<ProxyCore, Fail>
-    ensures { IfOk result IsFresh }
+fn core_of(rt: &impl Abort, alloc: Global, number: u32, routing: &Routing) -> ProxyCore
+    ensures { IsFresh result }
 {
-    let schedule = Schedule::new(1000, 100)?;
-    Ok(ProxyCore::new(alloc, number, 0, routing.copy()?, schedule, 64))
+    let schedule = must(rt, Schedule::new(1000, 100));
+    ProxyCore::new(alloc, number, 0, must(rt, routing.copy()), schedule, 64)
 }
 
-fn node(alloc: Global) -> Result<SharedNode, Fail> {
-    Ok(SharedNode::new(CacheNode::new(alloc, 16)?))
+fn node(rt: &impl Abort, alloc: Global) -> SharedNode {
+    SharedNode::new(must(rt, CacheNode::new(alloc, 16)))
+}
+
+/// Asserts what was answered, in the row of this number.
+fn were_told(rt: &impl Abort, row: usize, answers: &[u8], wanted: &str) {
+    is_at(rt, row, "told", &must(rt, str::from_utf8(answers)), &wanted);
 }
 
 /// Serves so many connections of a node, whose clock shows 999, and gives how many ended without a fault.
@@ -128,15 +123,21 @@ fn proxy_serves<
     served
 }
 
+/// A connection to this address, without delay of small packets.
+fn connected<N: Net>(net: &N, address: SocketAddr) -> io::Result<N::Stream> {
+    let stream = TcpStream::connect(net, address)?;
+    stream.set_nodelay(true)?;
+    Ok(stream)
+}
+
 /// What is answered to a client that sends these pieces, each by a call of its own, then sends no more and reads to the end.
-fn answers<R: Net>(
-    rt: &R,
+fn answers<N: Net>(
+    net: &N,
     alloc: Global,
     address: SocketAddr,
     pieces: &[&[u8]],
 ) -> io::Result<Vec<u8>> {
-    let mut stream = TcpStream::connect(rt, address)?;
-    stream.set_nodelay(true)?;
+    let mut stream = connected(net, address)?;
     for piece in pieces {
         stream.write_all(piece)?;
     }
@@ -152,8 +153,8 @@ fn rest_of<S: Read + OpenStream + Drop>(alloc: Global, mut stream: S) -> io::Res
 }
 
 /// A connection over which half a request was sent.
-fn half_asked<R: Net>(rt: &R, address: SocketAddr, half: &[u8]) -> io::Result<R::Stream> {
-    let mut stream = TcpStream::connect(rt, address)?;
+fn half_asked<N: Net>(net: &N, address: SocketAddr, half: &[u8]) -> io::Result<N::Stream> {
+    let mut stream = connected(net, address)?;
     stream.write_all(half)?;
     Ok(stream)
 }

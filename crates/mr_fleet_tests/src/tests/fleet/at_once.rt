@@ -1,8 +1,8 @@
 //! Clients and links that run at the same time: a leg is held until another client of the same proxy has its answers.
 ghost use Rattle.std.specs.Prelude.{◌≡◌, [], false};
 
-use super::{Nodes, carriers, fleet, holds, run, went_well};
-use crate::tests::must;
+use super::{proxy_of, run, went_well};
+use crate::tests::{Nodes, ToNode, carriers_to_all, is, is_at, make_nodes, must};
 use mr_clock::FixedClock;
 use mr_fleet::{FleetEnd, FleetProxy};
 use mr_fleet_clients::FleetClient;
@@ -10,7 +10,7 @@ use mr_node::NodeCommand;
 use mr_proxy::LegSheet;
 use mr_text::{GhostBytes, GhostCount, OverReader, Sink, Source, WriteFault};
 use mr_workers::{Carrier, Gate};
-use std::alloc::{AllocError, Global};
+use std::alloc::Global;
 use std::io::Read;
 use std::process::Abort;
 use std::sync::{Mutex, Wait};
@@ -183,8 +183,11 @@ impl<'x, R: Wait> Sink for Told<'x, R> {
     }
 }
 
-/// What a client reads from.
-type Reader<'x, R> = OverReader<Asks<'x, R>>;
+/// A client of the fleet.
+type Client<'x, R> = FleetClient<FixedClock, OverReader<Asks<'x, R>>, Told<'x, R>>;
+
+/// A proxy of the fleet.
+type Proxy<'x, R> = FleetProxy<ToNode<'x, R>, FixedClock, OverReader<Asks<'x, R>>, Told<'x, R>>;
 
 /// A client whose clock shows 999. Where it waits until a leg is held, that leg waits for its answers.
 fn client<'x, R: Wait + Clock>(
@@ -193,43 +196,73 @@ fn client<'x, R: Wait + Clock>(
     flags: &'x Flags,
     input: &'x [u8],
     waits: bool,
-) -> FleetClient<FixedClock, Reader<'x, R>, Told<'x, R>> {
-    let reader = OverReader::new(Asks {
+) -> Client<'x, R> {
+    let asks = Asks {
         rt,
         flags,
         waits,
         input,
-    });
+    };
     FleetClient::new(
         FixedClock(999),
-        reader,
+        OverReader::new(asks),
         Told::new(rt, alloc, flags, waits),
         3,
     )
 }
 
-/// The clients at the first proxy.
-fn first_clients<'x, R: Wait + Clock>(
+/// The proxy of this number, with these clients.
+fn proxy<'x, R: Wait + Clock + Abort>(
     rt: &'x R,
     alloc: Global,
-    flags: &'x Flags,
-) -> Result<Vec<FleetClient<FixedClock, Reader<'x, R>, Told<'x, R>>>, AllocError> {
-    let mut clients = Vec::new(alloc);
-    clients.push(client(rt, alloc, flags, b"get b\r\n", false))?;
-    clients.push(client(rt, alloc, flags, b"set k 0 0 1\r\nv\r\nget k\r\n", true))?;
-    Ok(clients)
+    nodes: &'x Nodes,
+    number: u32,
+    clients: Vec<Client<'x, R>>,
+) -> Proxy<'x, R> {
+    let carriers = must(rt, carriers_to_all(rt, alloc, nodes));
+    proxy_of(rt, alloc, number, clients, carriers)
 }
 
-/// The client at the second proxy.
-fn second_clients<'x, R: Wait + Clock>(
+/// The first proxy: the leg of one client waits for the answers of the other.
+fn first<'x, R: Wait + Clock + Abort>(
     rt: &'x R,
     alloc: Global,
+    nodes: &'x Nodes,
     flags: &'x Flags,
-) -> Result<Vec<FleetClient<FixedClock, Reader<'x, R>, Told<'x, R>>>, AllocError> {
+) -> Proxy<'x, R> {
     let mut clients = Vec::new(alloc);
-    clients.push(client(rt, alloc, flags, b"get a\r\n", false))?;
-    Ok(clients)
+    must(
+        rt,
+        clients.push(client(rt, alloc, flags, b"get b\r\n", false)),
+    );
+    let requests = b"set k 0 0 1\r\nv\r\nget k\r\n";
+    must(rt, clients.push(client(rt, alloc, flags, requests, true)));
+    proxy(rt, alloc, nodes, 0, clients)
 }
+
+/// The second proxy, with one client.
+fn second<'x, R: Wait + Clock + Abort>(
+    rt: &'x R,
+    alloc: Global,
+    nodes: &'x Nodes,
+    flags: &'x Flags,
+) -> Proxy<'x, R> {
+    let mut clients = Vec::new(alloc);
+    must(
+        rt,
+        clients.push(client(rt, alloc, flags, b"get a\r\n", false)),
+    );
+    proxy(rt, alloc, nodes, 1, clients)
+}
+
+/// How many requests the clients of each proxy issue, and what they are told.
+static WANTED: [(&[u64], &[&str]); 2] = [
+    (
+        &[1, 2],
+        &["END\r\n", "STORED\r\nVALUE k 0 1\r\nv\r\nEND\r\n"],
+    ),
+    (&[1], &["END\r\n"]),
+];
 
 /// What tells which answers it was written.
 trait IsTold {
@@ -246,59 +279,56 @@ impl<'x, R> IsTold for Told<'x, R> {
 /// Asserts that the clients of a proxy went well, issued so many requests, and were told so.
 fn were_told<C: Carrier, K: mr_clock::Clock, S: Source, W: Sink + IsTold>(
     rt: &impl Abort,
+    proxy: usize,
     end: &FleetEnd<C, K, S, W>,
     issued: &[u64],
-    told: &[&[u8]],
+    told: &[&str],
 ) {
-    went_well(rt, end, issued);
-    for (client, text) in end.ends.iter().zip(told) {
-        assert_eq!(rt; client.writer.text(), *text);
+    went_well(rt, proxy, end, issued);
+    for (client, wanted) in end.ends.iter().zip(told) {
+        let told = must(rt, str::from_utf8(client.writer.text()));
+        is_at(rt, proxy, "told", &told, wanted);
     }
 }
 
 /// Runs the fleet, and asserts what came of it.
-fn play<
+fn goes_so<
     C: Carrier + Send + Drop,
     K: mr_clock::Clock + Send + Drop,
     S: Source + Send + Drop,
     W: Sink + IsTold + Send + Drop,
     G: Gate + Sync,
     R: Threads + Wait + Abort + Sync,
->(rt: &R, alloc: Global, proxies: Vec<FleetProxy<C, K, S, W>>, gate: &G) {
-    let ends = must(rt, run(rt, alloc, proxies, gate));
-    assert_eq!(rt; ends.len(), 2);
-    if let Some(first) = ends.first() {
-        let told: [&[u8]; 2] = [b"END\r\n", b"STORED\r\nVALUE k 0 1\r\nv\r\nEND\r\n"];
-        were_told(rt, first, &[1, 2], &told);
-    }
-    if let Some(second) = ends.get(1) {
-        let told: [&[u8]; 1] = [b"END\r\n"];
-        were_told(rt, second, &[1], &told);
+>(
+    rt: &R,
+    alloc: Global,
+    first: FleetProxy<C, K, S, W>,
+    second: FleetProxy<C, K, S, W>,
+    gate: &G,
+) {
+    let ends = run(rt, alloc, first, second, gate);
+    for (proxy, (end, (issued, told))) in ends.iter().zip(&WANTED).enumerate() {
+        were_told(rt, proxy, end, issued, told);
     }
 }
 
 /// The same over these caches, with a gate that holds the leg of `get b`.
-fn play_over<'x, R: Threads + Wait + Clock + Abort + Sync>(
+fn play<'x, R: Threads + Wait + Clock + Abort + Sync>(
     rt: &'x R,
     alloc: Global,
     nodes: &'x Nodes,
     flags: &'x Flags,
 ) {
-    let gate = HoldsGetOfB { rt, flags };
-    let first_carriers = must(rt, carriers(rt, alloc, nodes));
-    let second_carriers = must(rt, carriers(rt, alloc, nodes));
-    let first = must(rt, first_clients(rt, alloc, flags));
-    let second = must(rt, second_clients(rt, alloc, flags));
-    let proxies = fleet(rt, alloc, first, first_carriers, second, second_carriers);
-    play(rt, alloc, proxies, &gate);
+    let first = first(rt, alloc, nodes, flags);
+    let second = second(rt, alloc, nodes, flags);
+    goes_so(rt, alloc, first, second, &HoldsGetOfB { rt, flags });
 }
 
 #[test]
 fn a_held_leg_holds_no_other_client(rt: HostRuntime) {
-    let alloc = rt.alloc();
-    let nodes = must(&rt, Nodes::new(alloc));
+    let nodes = must(&rt, make_nodes(rt.alloc(), 3));
     let flags = Flags::new();
-    play_over(&rt, alloc, &nodes, &flags);
-    holds(&rt, is_set(&rt, &flags.held));
-    holds(&rt, !is_set(&rt, &flags.in_vain));
+    play(&rt, rt.alloc(), &nodes, &flags);
+    is(&rt, "held", &is_set(&rt, &flags.held), &true);
+    is(&rt, "in vain", &is_set(&rt, &flags.in_vain), &false);
 }

@@ -1,11 +1,11 @@
 //! Many clients at once, while the migration goes through all four phases.
-use super::{Nodes, carriers, fleet, holds, run, went_well};
-use crate::tests::must;
+use super::{goes_well, proxy_of};
+use crate::tests::{Nodes, ToNode, carriers_to_all, is, make_nodes, must};
 use mr_clock::{Clock, ClockFault};
 use mr_fleet::FleetProxy;
 use mr_fleet_clients::FleetClient;
-use mr_text::{OverReader, OverWriter, Sink, Source};
-use mr_workers::{Carrier, OpenGate};
+use mr_text::{OverReader, OverWriter};
+use mr_workers::OpenGate;
 use std::alloc::{AllocError, Global};
 use std::io;
 use std::io::{Read, Write};
@@ -288,41 +288,77 @@ fn count_hits(logs: &[Vec<Exchange>]) -> (u64, u64) {
     (hits, wrong)
 }
 
-/// What a client reads from.
-type Reader<'x, R> = OverReader<Asks<'x, R>>;
-
-/// What a client is answered by.
-type Writer<'x, R> = OverWriter<Told<'x, R>>;
-
-/// The clients of the proxy of this number, each with a log of its own.
-fn clients<'x, R: Wait>(
+/// A client of this number, whose clock is ahead by so many seconds.
+fn client<'x, R: Wait>(
     rt: &'x R,
     alloc: Global,
     course: &'x Course,
-    ahead: u64,
-    number: u32,
+    seconds: u64,
+    client: u64,
+    log: &'x Log,
+) -> Client<'x, R> {
+    let asks = Asks {
+        rt,
+        alloc,
+        course,
+        log,
+        client,
+        sent: 0,
+    };
+    FleetClient::new(
+        Ahead { course, seconds },
+        OverReader::new(asks),
+        OverWriter::new(Told { rt, course, log }),
+        REQUESTS.saturating_add(1),
+    )
+}
+
+/// A client of a fleet.
+type Client<'x, R> = FleetClient<Ahead<'x>, OverReader<Asks<'x, R>>, OverWriter<Told<'x, R>>>;
+
+/// A proxy of the fleet.
+type Proxy<'x, R> = FleetProxy<
+    ToNode<'x, R>,
+    Ahead<'x>,
+    OverReader<Asks<'x, R>>,
+    OverWriter<Told<'x, R>>,
+>;
+
+/// The clients of a proxy, each with a log of its own, the first of this number.
+fn clients<'x, R: Wait + Abort>(
+    rt: &'x R,
+    alloc: Global,
+    course: &'x Course,
+    seconds: u64,
+    first: u64,
     logs: &'x [Log],
-) -> Result<Vec<FleetClient<Ahead<'x>, Reader<'x, R>, Writer<'x, R>>>, AllocError> {
+) -> Vec<Client<'x, R>> {
     let mut clients = Vec::new(alloc);
-    let mut client = u64::from(number).wrapping_mul(CLIENTS as u64);
+    let mut number = first;
     for log in logs {
-        let reader = OverReader::new(Asks {
+        must(
             rt,
-            alloc,
-            course,
-            log,
-            client,
-            sent: 0,
-        });
-        let writer = OverWriter::new(Told { rt, course, log });
-        let clock = Ahead {
-            course,
-            seconds: ahead.wrapping_mul(u64::from(number)),
-        };
-        clients.push(FleetClient::new(clock, reader, writer, REQUESTS.saturating_add(1)))?;
-        client = client.wrapping_add(1);
+            clients.push(client(rt, alloc, course, seconds, number, log)),
+        );
+        number = number.wrapping_add(1);
     }
-    Ok(clients)
+    clients
+}
+
+/// The proxy of this number, whose clients' clocks are ahead by so many seconds.
+fn proxy<'x, R: Wait + Abort>(
+    rt: &'x R,
+    alloc: Global,
+    nodes: &'x Nodes,
+    course: &'x Course,
+    number: u32,
+    seconds: u64,
+    logs: &'x [Log],
+) -> Proxy<'x, R> {
+    let carriers = must(rt, carriers_to_all(rt, alloc, nodes));
+    let first = u64::from(number).wrapping_mul(CLIENTS as u64);
+    let clients = clients(rt, alloc, course, seconds, first, logs);
+    proxy_of(rt, alloc, number, clients, carriers)
 }
 
 /// The logs of all clients of one proxy.
@@ -341,52 +377,40 @@ fn add_exchanges(rt: &impl Abort, logs: Vec<Log>, all: &mut Vec<Vec<Exchange>>) 
     }
 }
 
-/// Runs the fleet, and asserts that each client has all its answers.
-fn play<
-    C: Carrier + Send + Drop,
-    K: Clock + Send + Drop,
-    S: Source + Send + Drop,
-    W: Sink + Send + Drop,
-    R: Threads + Wait + Abort + Sync,
->(rt: &R, alloc: Global, proxies: Vec<FleetProxy<C, K, S, W>>) {
-    let ends = must(rt, run(rt, alloc, proxies, &OpenGate));
-    assert_eq!(rt; ends.len(), 2);
-    for end in &ends {
-        went_well(rt, end, &[REQUESTS; CLIENTS]);
-    }
-}
-
-/// The same over these caches, where the second proxy is ahead by so many seconds.
-fn play_over<'x, R: Threads + Wait + Abort + Sync>(
+/// Runs the fleet over these caches, where the second proxy is ahead by so many seconds, and asserts that each client has all
+/// its answers.
+fn play<'x, R: Threads + Wait + Abort + Sync>(
     rt: &'x R,
     alloc: Global,
     nodes: &'x Nodes,
     course: &'x Course,
     ahead: u64,
-    first: &'x [Log],
-    second: &'x [Log],
+    logs: &'x [Vec<Log>; 2],
 ) {
-    let first_carriers = must(rt, carriers(rt, alloc, nodes));
-    let second_carriers = must(rt, carriers(rt, alloc, nodes));
-    let first = must(rt, clients(rt, alloc, course, ahead, 0, first));
-    let second = must(rt, clients(rt, alloc, course, ahead, 1, second));
-    let proxies = fleet(rt, alloc, first, first_carriers, second, second_carriers);
-    play(rt, alloc, proxies);
+    let first = proxy(rt, alloc, nodes, course, 0, 0, &logs[0]);
+    let second = proxy(rt, alloc, nodes, course, 1, ahead, &logs[1]);
+    let issued = [REQUESTS; CLIENTS];
+    goes_well(rt, alloc, first, second, &OpenGate, &[&issued, &issued]);
+}
+
+/// Asserts that some gets found something, and none what it may not.
+fn are_right(rt: &impl Abort, all: &[Vec<Exchange>]) {
+    let (hits, wrong) = count_hits(all);
+    is(rt, "some hits", &(hits > 0), &true);
+    is(rt, "wrong hits", &wrong, &0);
 }
 
 #[test]
 fn no_get_finds_what_an_acknowledged_delete_took_away(rt: HostRuntime) {
-    let alloc = rt.alloc();
-    let nodes = must(&rt, Nodes::new(alloc));
+    let nodes = must(&rt, make_nodes(rt.alloc(), 3));
     let course = Course::new();
-    let first = logs(&rt, alloc);
-    let second = logs(&rt, alloc);
-    play_over(&rt, alloc, &nodes, &course, AHEAD, &first, &second);
-    holds(&rt, course.seconds.load(Ordering::SeqCst) >= 1200);
-    let mut all = Vec::new(alloc);
+    let logs = [logs(&rt, rt.alloc()), logs(&rt, rt.alloc())];
+    play(&rt, rt.alloc(), &nodes, &course, AHEAD, &logs);
+    let seconds = course.seconds.load(Ordering::SeqCst);
+    is(&rt, "all phases", &(seconds >= 1200), &true);
+    let [first, second] = logs;
+    let mut all = Vec::new(rt.alloc());
     add_exchanges(&rt, first, &mut all);
     add_exchanges(&rt, second, &mut all);
-    let (hits, wrong) = count_hits(&all);
-    holds(&rt, hits > 0);
-    assert_eq!(rt; wrong, 0);
+    are_right(&rt, &all);
 }

@@ -2,8 +2,8 @@
 //! accepted.
 ghost use Rattle.std.specs.Prelude.{◌+◌};
 
-use super::{TURNS, answers, is, listener, name_of, node, node_serves};
-use crate::tests::must;
+use super::{TURNS, address_of, answers, listener, name_of, node, node_serves, were_told};
+use crate::tests::{is, is_at, must};
 use mr_clock::FixedClock;
 use mr_history::OpId;
 use mr_join::LegReply;
@@ -12,23 +12,23 @@ use mr_phases::Side;
 use mr_pools::NodeName;
 use mr_proxy::{LegId, LegSheet};
 use mr_sockets::{AcceptFault, Listener, OverListener, SocketCarrier, serve_node};
-use mr_text::{GhostCount, Key, TextError};
+use mr_text::{GhostCount, Key};
 use mr_workers::{Carrier, SharedNode};
 use std::alloc::Global;
 use std::net::{Net, SocketAddr, TcpListener, TcpStream};
+use std::process::Abort;
 use std::sync::{Mutex, Wait};
-use std::test::Fail;
 use std::thread::Threads;
 use std::time::Clock;
 use std::{io, thread};
 
 #[test]
 fn an_accepted_connection_is_without_delay(rt: HostRuntime) {
-    let listener = must(&rt, listener(&rt));
-    let address = must(&rt, listener.local_addr());
+    let listener = listener(&rt);
+    let address = address_of(&rt, &listener);
     let _client = must(&rt, TcpStream::connect(&rt, address));
     let stream = must(&rt, OverListener::new(listener).accept());
-    is(&rt, must(&rt, stream.nodelay()), true);
+    is(&rt, "without delay", &must(&rt, stream.nodelay()), &true);
 }
 
 /// A network, with a second handle of each connection that was made by it.
@@ -54,15 +54,14 @@ impl<'a, R: Net<Listener = TcpListener, Stream = TcpStream> + Wait> Net for Watc
 
     fn connect(&self, addr: SocketAddr) -> io::Result<TcpStream> {
         let stream = self.rt.connect(addr)?;
-        let mut made = self.made.lock(self.rt);
-        made.push(stream.try_clone()?)?;
+        self.made.lock(self.rt).push(stream.try_clone()?)?;
         Ok(stream)
     }
 }
 
 /// The leg of a get of the key `k`.
-fn get(alloc: Global) -> Result<LegSheet, TextError> {
-    Ok(LegSheet {
+fn get(rt: &impl Abort, alloc: Global) -> LegSheet {
+    LegSheet {
         id: LegId {
             op: OpId {
                 proxy: 0,
@@ -73,41 +72,57 @@ fn get(alloc: Global) -> Result<LegSheet, TextError> {
         },
         side: Side::Old,
         node: 0,
-        command: NodeCommand::Get(Key::new(alloc, b"k")?),
-    })
+        command: NodeCommand::Get(must(rt, Key::new(alloc, b"k"))),
+    }
 }
 
-/// Carries two legs to the node of a name, each a get. Gives their replies, and for each connection that was made whether it
-/// was one without delay.
-fn carry_two<R: Net<Listener = TcpListener, Stream = TcpStream> + Wait>(
+/// Carries two gets to the node of a name, and asserts that each misses.
+fn miss_twice<N: Net + Copy>(rt: &impl Abort, alloc: Global, net: N, name: &NodeName) {
+    let mut carrier = must(rt, SocketCarrier::new(net, alloc, name, TURNS));
+    let sheet = get(rt, alloc);
+    for number in 0..2 {
+        let reply = must(rt, carrier.carry(&sheet));
+        is_at(
+            rt,
+            number,
+            "a miss",
+            &matches!(reply, LegReply::Miss),
+            &true,
+        );
+    }
+}
+
+/// Whether each of these connections is one without delay.
+fn without_delay(rt: &impl Abort, alloc: Global, made: &[TcpStream]) -> Vec<bool> {
+    let mut all = Vec::new(alloc);
+    for stream in made {
+        must(rt, all.push(must(rt, stream.nodelay())));
+    }
+    all
+}
+
+/// Carries two legs to the node of a name, and says for each connection that was made whether it was one without delay.
+fn carry_two<R: Net<Listener = TcpListener, Stream = TcpStream> + Wait + Abort>(
     rt: &R,
     alloc: Global,
     name: &NodeName,
-) -> Result<([LegReply; 2], Vec<bool>), Fail> {
+) -> Vec<bool> {
     let net = Watched {
         rt,
         made: Mutex::new(Vec::new(alloc)),
     };
-    let mut carrier = SocketCarrier::new(&net, alloc, name, TURNS)?;
-    let sheet = get(alloc)?;
-    let first = carrier.carry(&sheet)?;
-    let second = carrier.carry(&sheet)?;
-    let mut without_delay = Vec::new(alloc);
-    let made = net.made.lock(rt);
-    for stream in made.iter() {
-        without_delay.push(stream.nodelay()?)?;
-    }
-    Ok(([first, second], without_delay))
+    miss_twice(rt, alloc, &net, name);
+    without_delay(rt, alloc, &net.made.lock(rt))
 }
 
 /// The node, and two legs that are carried to it.
-fn play<R: Net<Listener = TcpListener, Stream = TcpStream> + Threads + Wait + Clock + Sync>(
+fn play<R: Net<Listener = TcpListener, Stream = TcpStream> + Threads + Wait + Clock + Abort + Sync>(
     rt: &R,
     alloc: Global,
     listener: TcpListener,
     node: &SharedNode,
     name: &NodeName,
-) -> (u64, Result<([LegReply; 2], Vec<bool>), Fail>) {
+) -> (u64, Vec<bool>) {
     thread::join(
         rt,
         move || node_serves(rt, alloc, listener, node, 1),
@@ -117,19 +132,12 @@ fn play<R: Net<Listener = TcpListener, Stream = TcpStream> + Threads + Wait + Cl
 
 #[test]
 fn legs_share_one_connection_without_delay(rt: HostRuntime) {
-    let alloc = rt.alloc();
-    let listener = must(&rt, listener(&rt));
-    let name = must(&rt, name_of(alloc, &listener));
-    let node = must(&rt, node(alloc));
-    let (served, carried) = play(&rt, alloc, listener, &node, &name);
-    let (replies, without_delay) = must(&rt, carried);
-    is(&rt, served, 1);
-    is(
-        &rt,
-        matches!(replies, [LegReply::Miss, LegReply::Miss]),
-        true,
-    );
-    is(&rt, without_delay.as_slice(), [true].as_slice());
+    let listener = listener(&rt);
+    let name = name_of(&rt, rt.alloc(), &listener);
+    let node = node(&rt, rt.alloc());
+    let (served, made) = play(&rt, rt.alloc(), listener, &node, &name);
+    is(&rt, "served", &served, &1);
+    is(&rt, "without delay", &made.as_slice(), &[true].as_slice());
 }
 
 /// A listener that fails so often before it accepts.
@@ -160,7 +168,7 @@ impl Listener for FailsFirst {
 
 /// A node that three clients are served of, of which two can't be accepted, and a client: how many connections were served, and
 /// what the client was answered.
-fn play_failing<R: Net<Listener = TcpListener, Stream = TcpStream> + Threads + Wait + Clock + Sync>(
+fn play_failing<R: Net + Threads + Wait + Clock + Sync>(
     rt: &R,
     alloc: Global,
     listener: FailsFirst,
@@ -177,21 +185,24 @@ fn play_failing<R: Net<Listener = TcpListener, Stream = TcpStream> + Threads + W
     )
 }
 
-#[test]
-fn a_client_that_cannot_be_accepted_is_waited_after(rt: HostRuntime) {
-    let alloc = rt.alloc();
-    let inner = must(&rt, listener(&rt));
-    let address = must(&rt, inner.local_addr());
-    let listener = FailsFirst {
+/// A listener that fails twice before it accepts.
+fn fails_twice(inner: TcpListener) -> FailsFirst {
+    FailsFirst {
         inner: OverListener::new(inner),
         failing: 2,
         failures: GhostCount::new(),
-    };
-    let node = must(&rt, node(alloc));
+    }
+}
+
+#[test]
+fn a_client_that_cannot_be_accepted_is_waited_after(rt: HostRuntime) {
+    let inner = listener(&rt);
+    let address = address_of(&rt, &inner);
+    let node = node(&rt, rt.alloc());
     let begun = must(&rt, rt.monotonic());
-    let (served, got) = play_failing(&rt, alloc, listener, &node, address);
+    let (served, got) = play_failing(&rt, rt.alloc(), fails_twice(inner), &node, address);
     let taken = must(&rt, rt.monotonic()).saturating_sub(begun).as_millis();
-    is(&rt, served, 1);
-    is(&rt, must(&rt, got).as_slice(), b"END\r\n".as_slice());
-    is(&rt, (200..10_000).contains(&taken), true);
+    is(&rt, "served", &served, &1);
+    were_told(&rt, 0, &must(&rt, got), "END\r\n");
+    is(&rt, "pauses", &(200..10_000).contains(&taken), &true);
 }

@@ -1,14 +1,15 @@
 //! Several clients at once through two proxies, which have one old node and one new one.
 use super::{
-    answers, asked_whole, core_of, half_asked, is, listener, node, node_serves, proxy_serves,
-    routing,
+    address_of, answers, asked_whole, core_of, half_asked, listener, node, node_serves,
+    proxy_serves, routing, were_told,
 };
-use crate::tests::must;
+use crate::tests::{is, must};
 use mr_pools::Routing;
 use mr_sockets::SocketCarrier;
 use mr_workers::{Desk, SharedNode, SharedProxy};
 use std::alloc::{AllocError, Global};
 use std::net::{Net, SocketAddr, TcpListener, TcpStream};
+use std::process::Abort;
 use std::sync::Wait;
 use std::thread::Threads;
 use std::time::Clock;
@@ -29,37 +30,68 @@ fn wanted(alloc: Global, client: usize) -> Result<String, AllocError> {
     format!(in alloc; "STORED\r\nVALUE key{client} 0 1\r\n{client}\r\nEND\r\nDELETED\r\nEND\r\n")
 }
 
-/// Whether the client of a number is answered what it has to be.
-fn is_answered<N: Net>(net: &N, alloc: Global, address: SocketAddr, client: usize) -> bool {
-    let (Ok(sent), Ok(wanted)) = (requests(alloc, client), wanted(alloc, client)) else {
-        return false;
-    };
-    match answers(net, alloc, address, &[sent.as_bytes()]) {
-        Ok(got) => got.as_slice() == wanted.as_bytes(),
-        Err(_) => false,
-    }
+/// What the client of a number is answered.
+fn answers_to<N: Net>(
+    net: &N,
+    alloc: Global,
+    address: SocketAddr,
+    client: usize,
+) -> io::Result<Vec<u8>> {
+    let sent = requests(alloc, client)?;
+    answers(net, alloc, address, &[sent.as_bytes()])
 }
 
-/// All clients at once, while one at the second proxy waits in the middle of a get; then one more at the first, which sets
-/// what that one gets: whether each was answered what it has to be.
-fn crowd<
+/// What all clients are answered, at once.
+fn answers_to_all<
     N: Net<Listener = TcpListener, Stream = TcpStream> + Copy + Send + Sync,
-    R: Threads + Sync,
->(rt: &R, alloc: Global, net: N, addresses: [SocketAddr; 2]) -> io::Result<bool> {
-    let waiting = half_asked(&net, addresses[1], b"get ")?;
+    R: Threads + Abort + Sync,
+>(
+    rt: &R,
+    alloc: Global,
+    net: N,
+    addresses: [SocketAddr; 2],
+) -> Vec<io::Result<Vec<u8>>> {
     let each = thread::map_indices(
         rt,
         alloc,
         2 * CLIENTS,
-        &|client| { is_answered(&net, alloc, addresses[client % 2], client) },
-    )?;
-    let set = answers(&net, alloc, addresses[0], &[b"set x 7 0 2\r\nhi\r\n"])?;
-    let got = asked_whole(alloc, waiting, b"x\r\n")?;
-    Ok(
-        set.as_slice() == b"STORED\r\n".as_slice()
-            && got.as_slice() == b"VALUE x 7 2\r\nhi\r\nEND\r\n".as_slice()
-            && each.iter().all(|answered| *answered),
-    )
+        &|client| { answers_to(&net, alloc, addresses[client % 2], client) },
+    );
+    must(rt, each)
+}
+
+/// Asserts that each client is answered what it has to be.
+fn are_answered(rt: &impl Abort, alloc: Global, all: Vec<io::Result<Vec<u8>>>) {
+    is(rt, "clients", &all.len(), &(2 * CLIENTS));
+    let mut client = 0_usize;
+    for told in all {
+        were_told(
+            rt,
+            client,
+            &must(rt, told),
+            &must(rt, wanted(alloc, client)),
+        );
+        client = client.wrapping_add(1);
+    }
+}
+
+/// All clients at once, while one at the second proxy waits in the middle of a get; then one more at the first, which sets
+/// what that one gets. Asserts that each is answered what it has to be.
+fn crowd<
+    N: Net<Listener = TcpListener, Stream = TcpStream> + Copy + Send + Sync,
+    R: Threads + Abort + Sync,
+>(
+    rt: &R,
+    alloc: Global,
+    net: N,
+    addresses: [SocketAddr; 2],
+) {
+    let waiting = must(rt, half_asked(&net, addresses[1], b"get "));
+    are_answered(rt, alloc, answers_to_all(rt, alloc, net, addresses));
+    let set = answers(&net, alloc, addresses[0], &[b"set x 7 0 2\r\nhi\r\n"]);
+    were_told(rt, 6, &must(rt, set), "STORED\r\n");
+    let got = asked_whole(alloc, waiting, b"x\r\n");
+    were_told(rt, 7, &must(rt, got), "VALUE x 7 2\r\nhi\r\nEND\r\n");
 }
 
 /// What each proxy served.
@@ -84,12 +116,11 @@ fn proxies<
     )
 }
 
-/// The node, the proxies and the clients at once: how many connections node and proxies served, and whether each client was
-/// answered what it has to be.
+/// The node, the proxies and the clients at once: how many connections node and proxies served.
 fn play<
     N: Net<Listener = TcpListener, Stream = TcpStream> + Copy + Send + Sync,
     D: Desk<SocketCarrier<N>> + Sync,
-    R: Threads + Wait + Clock + Sync,
+    R: Threads + Wait + Clock + Abort + Sync,
 >(
     rt: &R,
     alloc: Global,
@@ -99,10 +130,10 @@ fn play<
     listeners: (TcpListener, TcpListener),
     desks: &(D, D),
     routing: &Routing,
-    addresses: [SocketAddr; 2],
-) -> (u64, (u64, u64), io::Result<bool>) {
+) -> (u64, ((u64, u64), ())) {
+    let addresses = [address_of(rt, &listeners.0), address_of(rt, &listeners.1)];
     let all = 2 * (CLIENTS as u64 + 1);
-    let (by_node, (by_proxies, answered)) = thread::join(
+    thread::join(
         rt,
         move || node_serves(rt, alloc, node_listener, node, all),
         move || {
@@ -112,30 +143,23 @@ fn play<
                 move || crowd(rt, alloc, net, addresses),
             )
         },
-    );
-    (by_node, by_proxies, answered)
+    )
 }
 
 #[test]
 fn several_clients_through_two_proxies(rt: HostRuntime) {
     let alloc = rt.alloc();
-    let old = [must(&rt, listener(&rt))];
-    let new = [must(&rt, listener(&rt))];
-    let routing = routing(&rt, alloc, &old, &new);
+    let old = [listener(&rt)];
+    let routing = routing(&rt, alloc, &old, &[listener(&rt)]);
     let desks = (
-        SharedProxy::new(must(&rt, core_of(alloc, 0, &routing))),
-        SharedProxy::new(must(&rt, core_of(alloc, 1, &routing))),
+        SharedProxy::new(core_of(&rt, alloc, 0, &routing)),
+        SharedProxy::new(core_of(&rt, alloc, 1, &routing)),
     );
-    let listeners = (must(&rt, listener(&rt)), must(&rt, listener(&rt)));
-    let addresses = [
-        must(&rt, listeners.0.local_addr()),
-        must(&rt, listeners.1.local_addr()),
-    ];
-    let node = must(&rt, node(alloc));
+    let node = node(&rt, alloc);
     let [old] = old;
-    let (by_node, by_proxies, answered) = play(
-        &rt, alloc, &rt, old, &node, listeners, &desks, &routing, addresses,
+    let listeners = (listener(&rt), listener(&rt));
+    let (by_node, (by_proxies, ())) = play(
+        &rt, alloc, &rt, old, &node, listeners, &desks, &routing,
     );
-    is(&rt, (by_node, by_proxies), (8, (4, 4)));
-    is(&rt, must(&rt, answered), true);
+    is(&rt, "served", &(by_node, by_proxies), &(8, (4, 4)));
 }

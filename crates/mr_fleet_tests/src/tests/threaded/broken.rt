@@ -4,7 +4,7 @@ use mr_join::LegReply;
 use mr_proxy::LegSheet;
 use mr_text::GhostCount;
 use mr_workers::{Carrier, DirectCarriers, WorkerError};
-use std::alloc::{AllocError, Global};
+use std::alloc::Global;
 use std::process::Abort;
 
 /// A carrier that never reaches its node.

@@ -2,17 +2,18 @@
 mod losses;
 mod workers;
 
-use super::{core_of, delete_of, first_leg};
+use super::{delete_of, first_leg};
+use crate::tests::{core_of, is, must};
 use crossbeam_channel::{Receiver, Sender};
 use mr_clock::FixedClock;
 use mr_join::LegReply;
-use mr_link_carriers::{Links, Load};
+use mr_link_carriers::{LinkCarriers, Links, Load};
 use mr_proxy::{Leg, LegSheet};
 use mr_text::Cause;
-use mr_workers::{Carrier, Desk, SharedProxy, WorkerError};
+use mr_workers::{Carrier, Carriers, Desk, SharedProxy, WorkerError};
 use std::alloc::Global;
+use std::process::Abort;
 use std::sync::Wait;
-use std::test::Fail;
 
 /// A carrier to a node that refuses every leg: since it is full, or for no reason that it tells.
 #[derive(Clone, Copy)]
@@ -42,19 +43,16 @@ impl Carrier for Refuses {
 }
 
 /// The legs of a delete of `k` in the phase in which deletes go to both sides: to the old node, then to the new one.
-fn legs_of(rt: &impl Wait, alloc: Global) -> Result<Vec<Leg>, Fail> {
-    let desk: SharedProxy<Refuses> = SharedProxy::new(core_of(alloc, &[b"7101"])?);
-    let mut share = desk.share();
-    let request = delete_of(alloc, b"k")?;
-    Ok(
-        desk.issue(rt, &mut share, &mut FixedClock(1000), &request)?
-            .legs,
-    )
+fn legs_of(rt: &(impl Wait + Abort), alloc: Global) -> Vec<Leg> {
+    let desk: SharedProxy<Refuses> = SharedProxy::new(must(rt, core_of(alloc, 0, &[b"7101"])));
+    let request = delete_of(rt, alloc, b"k");
+    let issued = desk.issue(rt, &mut desk.share(), &mut FixedClock(1000), &request);
+    must(rt, issued).legs
 }
 
 /// The first leg of such a delete, which goes to the second node of the old pool.
-fn leg_of(rt: &impl Wait, alloc: Global) -> Result<Leg, Fail> {
-    first_leg(legs_of(rt, alloc)?)
+fn leg_of(rt: &(impl Wait + Abort), alloc: Global) -> Leg {
+    first_leg(rt, legs_of(rt, alloc))
 }
 
 /// The end of a link at which loads come.
@@ -64,20 +62,33 @@ type Loads = Receiver<Load<Refuses>>;
 type Link = Option<Sender<Load<Refuses>>>;
 
 /// A link, and its end.
-fn link(alloc: Global) -> Result<(Link, Loads), Fail> {
-    let (to, loads) = crossbeam_channel::unbounded(alloc)?;
-    Ok((Some(to), loads))
+fn link(rt: &impl Abort, alloc: Global) -> (Link, Loads) {
+    let (to, loads) = must(rt, crossbeam_channel::unbounded(alloc));
+    (Some(to), loads)
 }
 
-/// Links to the second node of the old pool and to that of the new one.
-fn links(alloc: Global, old_node: Link, new_node: Link) -> Result<Links<Refuses>, Fail> {
-    let mut old = Vec::new(alloc);
-    old.push(None)?;
-    old.push(old_node)?;
-    let mut new = Vec::new(alloc);
-    new.push(new_node)?;
+/// Links to the nodes of a pool.
+fn links_of(rt: &impl Abort, alloc: Global, first: Link, second: Link) -> Vec<Link> {
+    let mut links = Vec::new(alloc);
+    must(rt, links.push(first));
+    must(rt, links.push(second));
+    links
+}
+
+/// Links to the second node of the old pool and to the first of the new one.
+fn links(rt: &impl Abort, alloc: Global, old_node: Link, new_node: Link) -> Links<Refuses> {
     let mut pools = Vec::new(alloc);
-    pools.push(old)?;
-    pools.push(new)?;
-    Ok(Links::new(pools))
+    must(rt, pools.push(links_of(rt, alloc, None, old_node)));
+    must(rt, pools.push(links_of(rt, alloc, new_node, None)));
+    Links::new(pools)
+}
+
+/// Sends a leg, and asserts whether it is handed back.
+fn sends<R: Wait + Abort>(rt: &R, carriers: &mut LinkCarriers<Refuses, R>, leg: Leg, back: bool) {
+    is(rt, "handed back", &carriers.send(leg).is_some(), &back);
+}
+
+/// Asserts that nothing comes back.
+fn brings_nothing<R: Wait + Abort>(rt: &R, carriers: &mut LinkCarriers<Refuses, R>) {
+    is(rt, "came", &carriers.receive().is_some(), &false);
 }

@@ -4,7 +4,7 @@ mod breaks;
 mod memory;
 
 use super::devices::{Given, Pieces, Reads, reader, writer};
-use crate::tests::must;
+use crate::tests::{is_at, must};
 use mr_history::OpId;
 use mr_join::LegReply;
 use mr_node::NodeCommand;
@@ -57,7 +57,7 @@ impl Told {
 }
 
 /// What came of a leg.
-#[derive(Clone, Copy, PartialEq, Eq)]
+#[derive(Clone, Copy, Debug, PartialEq, Eq)]
 enum Came {
     /// The flags 5 and the data `v`.
     Hit,
@@ -142,60 +142,84 @@ fn carried_by<C: Carrier>(rt: &impl Abort, alloc: Global, carrier: &mut C, told:
     Came::of(&carrier.carry(&sheet))
 }
 
-/// Legs that are carried one after another, what the node answers, over which devices; what has to come of each leg, what
-/// has to be written, in how many calls, and how many bytes have to be left unread.
-type Row<'a> = (
-    &'a [Told],
-    &'a [u8],
-    Given,
-    &'a [Came],
-    &'a [u8],
-    usize,
-    usize,
-);
-
-/// Whether each of the legs that a link carries comes to what it has to.
-fn come_so(
-    rt: &impl Abort,
-    alloc: Global,
-    link: &mut Link,
-    legs: &[Told],
-    wanted: &[Came],
-) -> bool {
-    let mut results = Vec::new(alloc);
-    for told in legs {
-        must(rt, results.push(carried_by(rt, alloc, link, *told)));
-    }
-    results.as_slice() == wanted
+/// Legs that a link carries one after another, each with what has to come of it; what the node answers, over which devices;
+/// and what the link has to leave: what it wrote, in how many calls, and how many bytes it left unread.
+#[derive(Clone, Copy)]
+struct Row {
+    legs: &'static [(Told, Came)],
+    answered: &'static [u8],
+    given: Given,
+    written: &'static str,
+    calls: usize,
+    unread: usize,
 }
 
-/// Whether that was written, in so many calls.
-fn wrote(link: Link, output: &[u8], calls: usize) -> bool {
-    let (_, writer) = link.into_parts();
-    let writer = writer.into_inner().into_inner();
-    writer.kept.as_slice() == output && writer.calls == calls
-}
+/// A get whose node answers nothing yet.
+const GET: Row = Row {
+    legs: &[],
+    answered: b"",
+    given: AMPLE,
+    written: "get k\r\n",
+    calls: 1,
+    unread: 0,
+};
 
-/// Asserts something of the row with this input.
-fn holds_at(rt: &impl Abort, input: &[u8], fact: bool) {
-    assert!(rt; fact, "at {input:?}");
+const SET: Row = Row {
+    written: "set k 5 0 1\r\nv\r\n",
+    ..GET
+};
+
+const DELETE: Row = Row {
+    written: "delete k\r\n",
+    ..GET
+};
+
+/// What a link left.
+#[derive(Clone, Copy, Debug, PartialEq, Eq)]
+struct Left<'a> {
+    written: &'a str,
+    calls: usize,
+    unread: usize,
 }
 
 /// Asserts what comes of the legs of a row. A link is broken where its last leg is a fault.
-fn is_row(rt: &impl Abort, alloc: Global, row: &Row) {
-    let (legs, input, given, wanted, output, calls, left) = *row;
-    let reads = Reads::of(input.len());
-    let mut link = link(alloc, input, &reads, Vec::new(alloc), given);
-    holds_at(rt, input, come_so(rt, alloc, &mut link, legs, wanted));
-    let broken = matches!(wanted.last(), Some(Came::Fault(_)));
-    holds_at(rt, input, link.is_broken() == broken);
-    holds_at(rt, input, wrote(link, output, calls));
-    holds_at(rt, input, reads.left.get() == left);
+fn come_so(rt: &impl Abort, alloc: Global, link: &mut Link, number: usize, row: &Row) {
+    let mut broken = false;
+    for (told, came) in row.legs {
+        is_at(rt, number, "leg", &carried_by(rt, alloc, link, *told), came);
+        broken = matches!(came, Came::Fault(_));
+    }
+    is_at(rt, number, "broken", &link.is_broken(), &broken);
 }
 
-/// Asserts what comes of the legs of each row.
+/// Asserts what the link of a row left.
+fn left_so(rt: &impl Abort, link: Link, unread: usize, number: usize, row: &Row) {
+    let (_, writer) = link.into_parts();
+    let writer = writer.into_inner().into_inner();
+    let left = Left {
+        written: must(rt, str::from_utf8(&writer.kept)),
+        calls: writer.calls,
+        unread,
+    };
+    let wanted = Left {
+        written: row.written,
+        calls: row.calls,
+        unread: row.unread,
+    };
+    is_at(rt, number, "link", &left, &wanted);
+}
+
+/// Asserts what comes of the legs of a row, and what their link leaves.
+fn is_row(rt: &impl Abort, alloc: Global, number: usize, row: &Row) {
+    let reads = Reads::of(row.answered.len());
+    let mut link = link(alloc, row.answered, &reads, Vec::new(alloc), row.given);
+    come_so(rt, alloc, &mut link, number, row);
+    left_so(rt, link, reads.left.get(), number, row);
+}
+
+/// Asserts the same of each row.
 fn are_rows(rt: &impl Abort, alloc: Global, rows: &[Row]) {
-    for row in rows {
-        is_row(rt, alloc, row);
+    for (number, row) in rows.iter().enumerate() {
+        is_row(rt, alloc, number, row);
     }
 }

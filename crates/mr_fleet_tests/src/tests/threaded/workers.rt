@@ -7,21 +7,21 @@ ghost use Rattle.std.specs.Prelude.{◌≢◌};
 ghost use Rattle.mr_text.specs.declared.request.Request.{Request};
 
 use super::broken::Broken;
-use super::recorded;
+use crate::tests::{must, recorded};
 use mr_clock::FixedClock;
-use mr_history::OpId;
 use mr_proxy::Issued;
 use mr_text::Request;
 use mr_workers::{Desk, DeskError, RecordedProxy, Share};
-use std::alloc::{AllocError, Global};
+use std::alloc::Global;
+use std::process::Abort;
 use std::sync::Wait;
 
 /// The nodes of the new pool.
 const NEW: [&[u8]; 1] = [b"7101"];
 
 /// A proxy whose carriers never reach their nodes, and whose book keeps at most so many steps.
-fn desk_of(alloc: Global, limit: u64) -> Result<RecordedProxy<Broken>, AllocError> {
-    recorded(alloc, &NEW, limit)
+fn desk_of(rt: &impl Abort, alloc: Global, limit: u64) -> RecordedProxy<Broken> {
+    must(rt, recorded(alloc, 0, &NEW, limit))
 }
 
 /// Issues a request at a second of the phase in which deletes go to both sides and gets to the old one.
@@ -34,16 +34,4 @@ fn issue(
     requires { request.now ≢ Request.Quit }
 {
     desk.issue(rt, share, &mut FixedClock(1000), request)
-}
-
-/// The same, of which only the name of the request is wanted.
-fn issue_op(
-    rt: &impl Wait,
-    desk: &RecordedProxy<Broken>,
-    share: &mut Share,
-    request: Request,
-) -> Result<OpId, DeskError>
-    requires { request ≢ Request.Quit }
-{
-    Ok(issue(rt, desk, share, &request)?.op)
 }

@@ -1,12 +1,11 @@
 //! Legs that are carried at the ends of their links.
-use super::{Refuses, legs_of, link, links};
-use crate::tests::must;
-use crate::tests::threaded::holds;
+use super::{Loads, Refuses, brings_nothing, legs_of, link, links, sends};
+use crate::tests::{is, must};
 use mr_join::LegReply;
-use mr_link_carriers::{LinkCarriers, carry_loads};
+use mr_link_carriers::{LinkCarriers, Links, carry_loads};
 use mr_proxy::{Leg, LegSheet};
 use mr_text::Cause;
-use mr_workers::{Carried, Carriers, Gate};
+use mr_workers::{Carriers, Gate};
 use std::alloc::Global;
 use std::process::Abort;
 use std::sync::Wait;
@@ -14,37 +13,56 @@ use std::sync::atomic::{AtomicU64, Ordering};
 use std::thread;
 use std::thread::Threads;
 
-/// Whether a leg came back from the node that is full.
-fn is_from_full(carried: Option<Carried<Refuses>>) -> bool {
-    match carried {
-        Some(carried) => matches!(carried.back().reply, LegReply::Failed(Cause::Busy)),
-        None => false,
+/// Which node a leg came back from.
+#[derive(Clone, Copy, Debug, PartialEq, Eq)]
+enum Origin {
+    Full,
+    Other,
+    Neither,
+}
+
+/// Asserts from which node the next leg comes back.
+fn brings<R: Wait + Abort>(rt: &R, carriers: &mut LinkCarriers<Refuses, R>, wanted: Origin) {
+    let Some(carried) = carriers.receive() else {
+        rt.panic("no leg came back");
+    };
+    let from = match &carried.back().reply {
+        LegReply::Failed(Cause::Busy) => Origin::Full,
+        LegReply::Failed(Cause::NodeRefused) => Origin::Other,
+        _ => Origin::Neither,
+    };
+    is(rt, "from", &from, &wanted);
+}
+
+/// Asserts that the legs come back in order: from the old node, which is full, and from the new one.
+fn bring_both<R: Wait + Abort>(rt: &R, carriers: &mut LinkCarriers<Refuses, R>) {
+    brings(rt, carriers, Origin::Full);
+    brings(rt, carriers, Origin::Other);
+    brings_nothing(rt, carriers);
+}
+
+/// Sends all legs.
+fn send_all<R: Wait + Abort>(rt: &R, carriers: &mut LinkCarriers<Refuses, R>, legs: Vec<Leg>) {
+    for leg in legs {
+        sends(rt, carriers, leg, false);
     }
 }
 
-/// Whether a leg came back from the other node.
-fn is_from_other(carried: Option<Carried<Refuses>>) -> bool {
-    match carried {
-        Some(carried) => matches!(carried.back().reply, LegReply::Failed(Cause::NodeRefused)),
-        None => false,
-    }
+/// Carries the load that came.
+fn carry_one(rt: &(impl Wait + Abort), loads: &Loads, is_full: bool) {
+    must(rt, loads.recv(rt)).carry(rt, &mut Refuses { is_full });
 }
 
+/// The later leg is carried first.
 #[test]
 fn replies_come_in_the_order_of_their_legs(rt: HostRuntime) {
-    let alloc = rt.alloc();
-    let (to_old, at_old) = must(&rt, link(alloc));
-    let (to_new, at_new) = must(&rt, link(alloc));
-    let mut carriers = LinkCarriers::new(&rt, alloc, must(&rt, links(alloc, to_old, to_new)));
-    for leg in must(&rt, legs_of(&rt, alloc)) {
-        holds(&rt, carriers.send(leg).is_none());
-    }
-    // the later leg is carried first
-    must(&rt, at_new.recv(&rt)).carry(&rt, &mut Refuses { is_full: false });
-    must(&rt, at_old.recv(&rt)).carry(&rt, &mut Refuses { is_full: true });
-    holds(&rt, is_from_full(carriers.receive()));
-    holds(&rt, is_from_other(carriers.receive()));
-    holds(&rt, carriers.receive().is_none());
+    let (to_old, at_old) = link(&rt, rt.alloc());
+    let (to_new, at_new) = link(&rt, rt.alloc());
+    let mut carriers = LinkCarriers::new(&rt, rt.alloc(), links(&rt, rt.alloc(), to_old, to_new));
+    send_all(&rt, &mut carriers, legs_of(&rt, rt.alloc()));
+    carry_one(&rt, &at_new, false);
+    carry_one(&rt, &at_old, true);
+    bring_both(&rt, &mut carriers);
 }
 
 /// A gate that counts how often it is called.
@@ -59,44 +77,60 @@ impl Gate for Counting {
     }
 }
 
-/// Sends the legs of one request after the other to two threads, one for each node, and takes what comes back.
+/// Sends the legs of one request after the other, and takes what comes back.
+fn send_each<R: Wait + Abort>(
+    rt: &R,
+    alloc: Global,
+    links: Links<Refuses>,
+    requests: Vec<Vec<Leg>>,
+) {
+    let mut carriers = LinkCarriers::new(rt, alloc, links);
+    for legs in requests {
+        send_all(rt, &mut carriers, legs);
+        bring_both(rt, &mut carriers);
+    }
+}
+
+/// The same, over links whose ends two threads own, one for each node.
 fn play<G: Gate + Sync, R: Threads + Wait + Abort + Sync>(
     rt: &R,
     alloc: Global,
+    links: Links<Refuses>,
+    at_old: Loads,
+    at_new: Loads,
     requests: Vec<Vec<Leg>>,
     gate: &G,
 ) {
-    let (to_old, at_old) = must(rt, link(alloc));
-    let (to_new, at_new) = must(rt, link(alloc));
-    let first = must(rt, links(alloc, to_old, to_new));
-    let copied = must(rt, first.copy(alloc));
-    drop(first);
     thread::scope(thread::scope_env(), rt, move |scope| {
         let full = scope.spawn(move || carry_loads(rt, Refuses { is_full: true }, at_old, gate));
         let other = scope.spawn(move || carry_loads(rt, Refuses { is_full: false }, at_new, gate));
-        holds(rt, full.is_ok());
-        holds(rt, other.is_ok());
-        let mut carriers = LinkCarriers::new(rt, alloc, copied);
-        for legs in requests {
-            for leg in legs {
-                holds(rt, carriers.send(leg).is_none());
-            }
-            holds(rt, is_from_full(carriers.receive()));
-            holds(rt, is_from_other(carriers.receive()));
-            holds(rt, carriers.receive().is_none());
-        }
+        is(rt, "threads", &(full.is_ok(), other.is_ok()), &(true, true));
+        send_each(rt, alloc, links, requests);
     });
+}
+
+/// The legs of two requests.
+fn requests_of(rt: &(impl Wait + Abort), alloc: Global) -> Vec<Vec<Leg>> {
+    let mut requests = Vec::new(alloc);
+    must(rt, requests.push(legs_of(rt, alloc)));
+    must(rt, requests.push(legs_of(rt, alloc)));
+    requests
+}
+
+/// A copy of these links, which are dropped.
+fn copied(rt: &impl Abort, alloc: Global, links: Links<Refuses>) -> Links<Refuses> {
+    must(rt, links.copy(alloc))
 }
 
 #[test]
 fn threads_carry_each_leg_once_and_end_with_their_links(rt: HostRuntime) {
-    let alloc = rt.alloc();
-    let mut requests = Vec::new(alloc);
-    must(&rt, requests.push(must(&rt, legs_of(&rt, alloc))));
-    must(&rt, requests.push(must(&rt, legs_of(&rt, alloc))));
     let gate = Counting {
         calls: AtomicU64::new(0),
     };
-    play(&rt, alloc, requests, &gate);
-    holds(&rt, gate.calls.load(Ordering::SeqCst) == 4);
+    let (to_old, at_old) = link(&rt, rt.alloc());
+    let (to_new, at_new) = link(&rt, rt.alloc());
+    let links = copied(&rt, rt.alloc(), links(&rt, rt.alloc(), to_old, to_new));
+    let requests = requests_of(&rt, rt.alloc());
+    play(&rt, rt.alloc(), links, at_old, at_new, requests, &gate);
+    is(&rt, "calls", &gate.calls.load(Ordering::SeqCst), &4);
 }

@@ -1,153 +1,113 @@
 //! What a link says of a node's replies.
-use super::{AMPLE, BY_BYTES, Came, Row, Told, are_rows};
+use super::{AMPLE, BY_BYTES, Came, DELETE, GET, Row, SET, Told, are_rows};
 use crate::tests::threaded::devices::Given;
 
 /// Each reply that answers its leg.
-const ANSWERS: [Row<'static>; 11] = [
-    (
-        &[Told::Get],
-        b"END\r\n",
-        AMPLE,
-        &[Came::Miss],
-        b"get k\r\n",
-        1,
-        0,
-    ),
-    (
-        &[Told::Get],
-        b"VALUE k 5 1\r\nv\r\nEND\r\n",
-        AMPLE,
-        &[Came::Hit],
-        b"get k\r\n",
-        1,
-        0,
-    ),
-    (
-        &[Told::Set(0)],
-        b"STORED\r\n",
-        AMPLE,
-        &[Came::Stored],
-        b"set k 5 0 1\r\nv\r\n",
-        1,
-        0,
-    ),
-    (
-        &[Told::Set(-1)],
-        b"STORED\r\n",
-        AMPLE,
-        &[Came::Stored],
-        b"set k 5 -1 1\r\nv\r\n",
-        1,
-        0,
-    ),
-    (
-        &[Told::Set(2_592_001)],
-        b"STORED\r\n",
-        AMPLE,
-        &[Came::Stored],
-        b"set k 5 2592001 1\r\nv\r\n",
-        1,
-        0,
-    ),
-    (
-        &[Told::Delete],
-        b"DELETED\r\n",
-        AMPLE,
-        &[Came::Deleted],
-        b"delete k\r\n",
-        1,
-        0,
-    ),
-    (
-        &[Told::Delete],
-        b"NOT_FOUND\r\n",
-        AMPLE,
-        &[Came::NotFound],
-        b"delete k\r\n",
-        1,
-        0,
-    ),
-    (
-        &[Told::Get],
-        b"SERVER_ERROR out of memory\r\n",
-        AMPLE,
-        &[Came::NoMemory],
-        b"get k\r\n",
-        1,
-        0,
-    ),
-    (
-        &[Told::Set(0)],
-        b"CLIENT_ERROR no room\r\n",
-        AMPLE,
-        &[Came::Unnamed],
-        b"set k 5 0 1\r\nv\r\n",
-        1,
-        0,
-    ),
-    (
-        &[Told::Delete],
-        b"ERROR\r\n",
-        AMPLE,
-        &[Came::Refused],
-        b"delete k\r\n",
-        1,
-        0,
-    ),
+static ANSWERS: [Row; 11] = [
+    Row {
+        legs: &[(Told::Get, Came::Miss)],
+        answered: b"END\r\n",
+        ..GET
+    },
+    Row {
+        legs: &[(Told::Get, Came::Hit)],
+        answered: b"VALUE k 5 1\r\nv\r\nEND\r\n",
+        ..GET
+    },
+    Row {
+        legs: &[(Told::Set(0), Came::Stored)],
+        answered: b"STORED\r\n",
+        ..SET
+    },
+    Row {
+        legs: &[(Told::Set(-1), Came::Stored)],
+        answered: b"STORED\r\n",
+        written: "set k 5 -1 1\r\nv\r\n",
+        ..SET
+    },
+    Row {
+        legs: &[(Told::Set(2_592_001), Came::Stored)],
+        answered: b"STORED\r\n",
+        written: "set k 5 2592001 1\r\nv\r\n",
+        ..SET
+    },
+    Row {
+        legs: &[(Told::Delete, Came::Deleted)],
+        answered: b"DELETED\r\n",
+        ..DELETE
+    },
+    Row {
+        legs: &[(Told::Delete, Came::NotFound)],
+        answered: b"NOT_FOUND\r\n",
+        ..DELETE
+    },
+    Row {
+        legs: &[(Told::Get, Came::NoMemory)],
+        answered: b"SERVER_ERROR out of memory\r\n",
+        ..GET
+    },
+    Row {
+        legs: &[(Told::Set(0), Came::Unnamed)],
+        answered: b"CLIENT_ERROR no room\r\n",
+        ..SET
+    },
+    Row {
+        legs: &[(Told::Delete, Came::Refused)],
+        answered: b"ERROR\r\n",
+        ..DELETE
+    },
     // a reply that comes a byte at a time, in just so many reads
-    (
-        &[Told::Get],
-        b"VALUE k 5 1\r\nv\r\nEND\r\n",
-        Given {
+    Row {
+        legs: &[(Told::Get, Came::Hit)],
+        answered: b"VALUE k 5 1\r\nv\r\nEND\r\n",
+        given: Given {
             turns: 21,
             ..BY_BYTES
         },
-        &[Came::Hit],
-        b"get k\r\n",
-        1,
-        0,
-    ),
+        ..GET
+    },
 ];
 
 /// Replies that stand one behind the other.
-const ROWS: [Row<'static>; 3] = [
+static ROWS: [Row; 3] = [
     // both come in one read, and the second leg needs none
-    (
-        &[Told::Get, Told::Delete],
-        b"END\r\nDELETED\r\n",
-        Given {
+    Row {
+        legs: &[(Told::Get, Came::Miss), (Told::Delete, Came::Deleted)],
+        answered: b"END\r\nDELETED\r\n",
+        given: Given {
             read_fails: 2,
             turns: 1,
             ..AMPLE
         },
-        &[Came::Miss, Came::Deleted],
-        b"get k\r\ndelete k\r\n",
-        2,
-        0,
-    ),
+        written: "get k\r\ndelete k\r\n",
+        calls: 2,
+        unread: 0,
+    },
     // the reads of each leg are counted by themselves, and none goes beyond its reply
-    (
-        &[Told::Get, Told::Get],
-        b"END\r\nEND\r\nEND\r\n",
-        Given {
+    Row {
+        legs: &[(Told::Get, Came::Miss), (Told::Get, Came::Miss)],
+        answered: b"END\r\nEND\r\nEND\r\n",
+        given: Given {
             turns: 5,
             ..BY_BYTES
         },
-        &[Came::Miss, Came::Miss],
-        b"get k\r\nget k\r\n",
-        2,
-        5,
-    ),
+        written: "get k\r\nget k\r\n",
+        calls: 2,
+        unread: 5,
+    },
     // a node's failure breaks nothing
-    (
-        &[Told::Get, Told::Get, Told::Set(0)],
-        b"SERVER_ERROR out of memory\r\nERROR\r\nSTORED\r\n",
-        AMPLE,
-        &[Came::NoMemory, Came::Refused, Came::Stored],
-        b"get k\r\nget k\r\nset k 5 0 1\r\nv\r\n",
-        3,
-        0,
-    ),
+    Row {
+        legs: &[
+            (Told::Get, Came::NoMemory),
+            (Told::Get, Came::Refused),
+            (Told::Set(0), Came::Stored),
+        ],
+        answered: b"SERVER_ERROR out of memory\r\nERROR\r\nSTORED\r\n",
+        given: AMPLE,
+        written: "get k\r\nget k\r\nset k 5 0 1\r\nv\r\n",
+        calls: 3,
+        unread: 0,
+    },
 ];
 
 #[test]

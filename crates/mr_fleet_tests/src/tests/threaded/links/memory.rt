@@ -1,11 +1,22 @@
 //! Refused memory. In the gate no allocation is refused; `refused-memory` refuses each in turn.
 use super::{BY_BYTES, Came, Told, link};
+use crate::tests::is;
 use crate::tests::threaded::devices::Reads;
 use mr_workers::{Carrier, WorkerError};
 use std::alloc::Global;
-use std::test::Fail;
 
-/// What a get and a delete come to, whose answers come a byte at a time; nothing where memory was refused before them.
+/// What a get and a delete may come to, whose answers come a byte at a time. Both are answered, or the one whose memory was
+/// refused says so and breaks the link.
+static OUTCOMES: [[Came; 2]; 3] = [
+    [Came::Hit, Came::Deleted],
+    [
+        Came::Fault(WorkerError::OutOfMemory),
+        Came::Fault(WorkerError::LinkBroken),
+    ],
+    [Came::Hit, Came::Fault(WorkerError::OutOfMemory)],
+];
+
+/// What they come to; nothing where memory was refused before them.
 fn came(alloc: Global) -> Option<[Came; 2]> {
     let get = Told::Get.sheet(alloc).ok()?;
     let delete = Told::Delete.sheet(alloc).ok()?;
@@ -18,21 +29,11 @@ fn came(alloc: Global) -> Option<[Came; 2]> {
     Some([first, second])
 }
 
-/// Whether both legs are answered, or the one whose memory was refused says so and breaks the link.
-fn is_told(came: [Came; 2]) -> bool {
-    came == [Came::Hit, Came::Deleted]
-        || came
-            == [
-                Came::Fault(WorkerError::OutOfMemory),
-                Came::Fault(WorkerError::LinkBroken),
-            ]
-        || came == [Came::Hit, Came::Fault(WorkerError::OutOfMemory)]
-}
-
 #[test]
-fn refused_memory_breaks_a_link(rt: HostRuntime) -> Result<(), Fail> {
-    match came(rt.alloc()) {
-        Some(came) if !is_told(came) => Err(Fail::from("another fault")),
-        _ => Ok(()),
+fn refused_memory_breaks_a_link(rt: HostRuntime) {
+    if let Some(came) = came(rt.alloc()) {
+        if !OUTCOMES.contains(&came) {
+            is(&rt, "both", &came, &OUTCOMES[0]);
+        }
     }
 }

@@ -1,14 +1,14 @@
 //! Carriers that bring a leg late, when its request was given up.
 ghost use Rattle.std.specs.Prelude.{◌≡◌, ◌+◌, MatchOption, IfSome};
 
-use super::{NEW, WHOLE, serve, went_so, were_given_up};
-use crate::tests::must;
-use crate::tests::threaded::{carriers, make_nodes, recorded};
-use mr_clock::FixedClock;
-use mr_node::Ended;
+use super::{IN_TIME, Kept, NEW, Row, SILENT, direct, goes_so};
+use crate::tests::{Nodes, ToNode, make_nodes, must, recorded};
 use mr_proxy::Leg;
 use mr_text::GhostCount;
-use mr_workers::{Carried, Carrier, Carriers, DirectCarriers};
+use mr_workers::{Carried, Carrier, Carriers, DirectCarriers, RecordedProxy};
+use std::alloc::Global;
+use std::process::Abort;
+use std::sync::Wait;
 
 /// Carriers that bring nothing the first time they are asked, and from then on what came, the leg that was late first.
 struct Late<C: Carrier> {
@@ -46,30 +46,35 @@ impl<C: Carrier> Carriers<C> for Late<C> {
     }
 }
 
-#[test]
-fn a_late_leg_is_dropped(rt: HostRuntime) {
-    let alloc = rt.alloc();
-    let nodes = must(&rt, make_nodes(alloc, 3));
+/// The set was performed, but nothing of it came back in time.
+static SET: Row = Row {
+    sends: b"set k 7 0 1\r\nv\r\nget k\r\nget k\r\n",
+    told: "SERVER_ERROR leg lost\r\nVALUE k 7 1\r\nv\r\nEND\r\nVALUE k 7 1\r\nv\r\nEND\r\n",
+    reads: 2,
+    kept: &[
+        Kept {
+            given_up: true,
+            ..IN_TIME
+        },
+        IN_TIME,
+        IN_TIME,
+    ],
+    ..SILENT
+};
+
+/// Asserts how the session of that client goes over these caches.
+fn play<'x, R: Wait + Abort>(rt: &'x R, alloc: Global, nodes: &'x Nodes) {
+    let desk: RecordedProxy<ToNode<'x, R>> = must(rt, recorded(alloc, 0, &NEW, 20));
     let mut carriers = Late {
-        inner: must(&rt, carriers(&rt, alloc, 999, &[&nodes.old, &nodes.new])),
+        inner: must(rt, direct(rt, alloc, nodes)),
         was_asked: false,
         withheld: GhostCount::new(),
     };
-    let desk = must(&rt, recorded(alloc, &NEW, 20));
-    let left = must(
-        &rt,
-        serve(
-            &rt,
-            alloc,
-            &desk,
-            &mut FixedClock(999),
-            &mut carriers,
-            b"set k 7 0 1\r\nv\r\nget k\r\nget k\r\n",
-            WHOLE,
-        ),
-    );
-    // The set was performed, but nothing of it came back in time.
-    let told = b"SERVER_ERROR leg lost\r\nVALUE k 7 1\r\nv\r\nEND\r\nVALUE k 7 1\r\nv\r\nEND\r\n";
-    went_so(&rt, &left, Ok(Ended::Ended), told, 3);
-    were_given_up(&rt, &left, &[true, false, false]);
+    let _ = goes_so(rt, alloc, &desk, &mut carriers, 0, &SET);
+}
+
+#[test]
+fn a_late_leg_is_dropped(rt: HostRuntime) {
+    let nodes = must(&rt, make_nodes(rt.alloc(), 3));
+    play(&rt, rt.alloc(), &nodes);
 }

@@ -1,142 +1,176 @@
 //! How much a book has room for.
-ghost use Rattle.std.specs.Prelude.{◌≢◌};
-ghost use Rattle.mr_text.specs.declared.request.Request.{Request};
-
-use super::{NEW, desk_of, issue, issue_op};
-use crate::tests::must;
+use super::{NEW, desk_of, issue};
 use crate::tests::threaded::broken::Broken;
-use crate::tests::threaded::{core_of, delete_of, get_of, holds};
+use crate::tests::threaded::{delete_of, get_of};
+use crate::tests::{core_of, is, is_at, must};
 use mr_clock::FixedClock;
 use mr_history::OpId;
-use mr_proxy::{Issued, Leg, Taken};
-use mr_text::Request;
+use mr_proxy::{Leg, Taken};
 use mr_workers::{Carried, Desk, DeskError, RecordedProxy, RecordedState, Share};
-use std::alloc::{AllocError, Global};
+use std::alloc::Global;
 use std::process::Abort;
 use std::sync::Wait;
-use std::test::Fail;
 
-/// Asserts that a request is refused, since the book is full.
-fn is_refused(
+/// What a session asks of a proxy.
+#[derive(Clone, Copy)]
+enum Asked {
+    /// A get of `k`, which takes two steps of the book: its issue, and what comes of its leg.
+    Get,
+    /// A delete of `k`, which takes three.
+    Delete,
+    /// To give up its first request.
+    GiveUp,
+}
+
+/// What a session asks of a proxy, why that is refused, if it is, and how many requests were issued then.
+type Step = (Asked, Option<DeskError>, u64);
+
+const FULL: Option<DeskError> = Some(DeskError::BookFull);
+
+/// The name of the first request of a proxy.
+const FIRST: OpId = OpId {
+    proxy: 0,
+    incarnation: 0,
+    number: 0,
+};
+
+/// Asserts that the first request is given up.
+fn gives_up(rt: &(impl Abort + Wait), desk: &RecordedProxy<Broken>, number: usize) {
+    match desk.give_up(rt, FIRST) {
+        Some(answer) => is_at(rt, number, "given up", &answer.given_up(), &true),
+        None => rt.panic("not under way"),
+    }
+}
+
+/// Asks that of a proxy, and says why it was refused, if it was.
+fn asks(
     rt: &(impl Abort + Wait),
+    alloc: Global,
     desk: &RecordedProxy<Broken>,
     share: &mut Share,
-    request: Request,
-)
-    requires { request ≢ Request.Quit }
-{
-    let refused = issue(rt, desk, share, &request).err();
-    holds(rt, refused == Some(DeskError::BookFull));
+    number: usize,
+    asked: Asked,
+) -> Option<DeskError> {
+    match asked {
+        Asked::Get => issue(rt, desk, share, &get_of(rt, alloc, &[b"k"])).err(),
+        Asked::Delete => issue(rt, desk, share, &delete_of(rt, alloc, b"k")).err(),
+        Asked::GiveUp => {
+            gives_up(rt, desk, number);
+            None
+        }
+    }
 }
 
-/// Asserts that a get is refused, since the book is full, and that the share stays.
-fn is_full(rt: &(impl Abort + Wait), alloc: Global, desk: &RecordedProxy<Broken>) {
+/// Asserts what comes of these steps at a proxy whose book keeps at most so many steps.
+fn come_so(rt: &(impl Abort + Wait), alloc: Global, limit: u64, steps: &[Step]) {
+    let desk = desk_of(rt, alloc, limit);
     let mut share = desk.share();
-    is_refused(rt, desk, &mut share, must(rt, get_of(alloc, &[b"k"])));
-    holds(rt, share.count() == 0);
+    for (number, (asked, refused, issued)) in steps.iter().enumerate() {
+        let came = asks(rt, alloc, &desk, &mut share, number, *asked);
+        is_at(
+            rt,
+            number,
+            "step",
+            &(came, share.count()),
+            &(*refused, *issued),
+        );
+    }
 }
 
-/// Asserts that a request is given up.
-fn is_given_up(rt: &(impl Abort + Wait), desk: &RecordedProxy<Broken>, op: OpId) {
-    let given_up = desk.give_up(rt, op);
-    holds(rt, given_up.is_some_and(|answer| answer.given_up()));
-}
+static FREE_AGAIN: [Step; 5] = [
+    (Asked::Delete, None, 1),
+    (Asked::Get, FULL, 1),
+    (Asked::GiveUp, None, 1),
+    (Asked::Get, None, 2),
+    (Asked::Get, FULL, 2),
+];
 
 #[test]
 fn room_that_a_request_did_not_use_is_free_again(rt: HostRuntime) {
-    let alloc = rt.alloc();
-    let desk = must(&rt, desk_of(alloc, 4));
-    let mut share = desk.share();
-    let op = must(
-        &rt,
-        issue_op(&rt, &desk, &mut share, must(&rt, delete_of(alloc, b"k"))),
-    );
-    is_full(&rt, alloc, &desk);
-    is_given_up(&rt, &desk, op);
-    must(
-        &rt,
-        issue_op(&rt, &desk, &mut share, must(&rt, get_of(alloc, &[b"k"]))),
-    );
-    is_full(&rt, alloc, &desk);
-    holds(&rt, share.count() == 2);
+    come_so(&rt, rt.alloc(), 4, &FREE_AGAIN);
 }
+
+static DELETED: [Step; 2] = [(Asked::Delete, None, 1), (Asked::Get, FULL, 1)];
 
 #[test]
 fn a_request_may_fill_the_book(rt: HostRuntime) {
-    let alloc = rt.alloc();
-    let desk = must(&rt, desk_of(alloc, 3));
-    let mut share = desk.share();
-    must(
-        &rt,
-        issue_op(&rt, &desk, &mut share, must(&rt, delete_of(alloc, b"k"))),
-    );
-    is_full(&rt, alloc, &desk);
+    come_so(&rt, rt.alloc(), 3, &DELETED);
 }
+
+static GOT: [Step; 3] = [
+    (Asked::Delete, FULL, 0),
+    (Asked::Get, None, 1),
+    (Asked::Get, FULL, 1),
+];
 
 #[test]
 fn one_get_fills_a_book_of_two_steps(rt: HostRuntime) {
-    let alloc = rt.alloc();
-    let desk = must(&rt, desk_of(alloc, 2));
-    let mut share = desk.share();
-    is_refused(&rt, &desk, &mut share, must(&rt, delete_of(alloc, b"k")));
-    must(
-        &rt,
-        issue_op(&rt, &desk, &mut share, must(&rt, get_of(alloc, &[b"k"]))),
+    come_so(&rt, rt.alloc(), 2, &GOT);
+}
+
+/// What a taken leg is.
+#[derive(Clone, Copy, Debug, PartialEq, Eq)]
+enum Took {
+    Waiting,
+    Answer(OpId),
+    Stranger,
+}
+
+/// What a leg that came back is taken as.
+fn take(rt: &impl Abort, state: &mut RecordedState<Broken>, carried: &Carried<Broken>) -> Took {
+    match must(rt, state.take(carried)) {
+        Taken::Waiting => Took::Waiting,
+        Taken::Answered(answer) => Took::Answer(answer.op()),
+        Taken::Stranger(_) => Took::Stranger,
+    }
+}
+
+/// Takes what came of the leg of a get, twice: the second is a stranger.
+fn take_twice(rt: &impl Abort, state: &mut RecordedState<Broken>, leg: Leg) {
+    let carried = Carried::of(&mut Broken::new(), leg);
+    is(
+        rt,
+        "taken",
+        &take(rt, state, &carried),
+        &Took::Answer(FIRST),
     );
-    is_full(&rt, alloc, &desk);
+    is(rt, "again", &take(rt, state, &carried), &Took::Stranger);
 }
 
-/// Whether what came back is the answer to its request.
-fn is_answer(
-    rt: &impl Abort,
-    state: &mut RecordedState<Broken>,
-    carried: &Carried<Broken>,
-) -> bool {
-    let taken = must(rt, state.take(carried));
-    matches!(taken, Taken::Answered(_))
-}
-
-/// Whether what came back is a stranger.
-fn is_stranger(
-    rt: &impl Abort,
-    state: &mut RecordedState<Broken>,
-    carried: &Carried<Broken>,
-) -> bool {
-    let taken = must(rt, state.take(carried));
-    matches!(taken, Taken::Stranger(_))
-}
-
-/// Takes what came of the legs of a get, each twice: the second is a stranger.
-fn take_twice(rt: &impl Abort, state: &mut RecordedState<Broken>, legs: Vec<Leg>) {
-    for leg in legs {
-        let carried = Carried::of(&mut Broken::new(), leg);
-        holds(rt, is_answer(rt, state, &carried));
-        holds(rt, is_stranger(rt, state, &carried));
+/// Issues the get of `k`, and takes what comes of its leg twice.
+fn get_twice(rt: &impl Abort, alloc: Global, state: &mut RecordedState<Broken>) {
+    let mut share = desk_of(rt, alloc, 4).share();
+    let get = get_of(rt, alloc, &[b"k"]);
+    for leg in must(rt, state.issue(&mut share, &mut FixedClock(1000), &get)).legs {
+        take_twice(rt, state, leg);
     }
 }
 
 /// Asserts that a book has the one answer of its one request, in two steps.
-fn has_one_answer(rt: &impl Abort, alloc: Global, state: RecordedState<Broken>, op: OpId) {
+fn has_one_answer(rt: &impl Abort, alloc: Global, state: RecordedState<Broken>) {
     let answers = must(rt, state.answers(alloc));
-    holds(rt, answers.len() == 1);
-    holds(rt, answers.iter().all(|answer| answer.op() == op));
+    is(rt, "answers", &answers.len(), &1);
+    for answer in &answers {
+        is(
+            rt,
+            "an answer",
+            &(answer.op(), answer.given_up()),
+            &(FIRST, false),
+        );
+    }
     let book = state.into_book();
-    holds(rt, book.steps.len() == 2);
-    holds(rt, book.core.next() == 1);
-}
-
-/// Issues the get of `k`.
-fn issue_get(rt: &impl Abort, alloc: Global, state: &mut RecordedState<Broken>) -> Issued {
-    let mut share = must(rt, desk_of(alloc, 4)).share();
-    let get = must(rt, get_of(alloc, &[b"k"]));
-    must(rt, state.issue(&mut share, &mut FixedClock(1000), &get))
+    is(
+        rt,
+        "the book",
+        &(book.steps.len(), book.core.next()),
+        &(2, 1),
+    );
 }
 
 #[test]
 fn a_book_gives_its_answers_again(rt: HostRuntime) {
-    let alloc = rt.alloc();
-    let mut state = RecordedState::new(alloc, must(&rt, core_of(alloc, &NEW)), 4);
-    let Issued { op, legs } = issue_get(&rt, alloc, &mut state);
-    take_twice(&rt, &mut state, legs);
-    has_one_answer(&rt, alloc, state, op);
+    let core = must(&rt, core_of(rt.alloc(), 0, &NEW));
+    let mut state = RecordedState::new(rt.alloc(), core, 4);
+    get_twice(&rt, rt.alloc(), &mut state);
+    has_one_answer(&rt, rt.alloc(), state);
 }

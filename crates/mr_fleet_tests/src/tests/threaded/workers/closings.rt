@@ -2,17 +2,16 @@
 ghost use Rattle.std.specs.Prelude.{◌≢◌};
 ghost use Rattle.mr_text.specs.declared.request.Request.{Request};
 
-use super::{desk_of, issue, issue_op};
-use crate::tests::must;
+use super::{desk_of, issue};
 use crate::tests::threaded::broken::Broken;
-use crate::tests::threaded::{delete_of, get_of, holds};
+use crate::tests::threaded::{delete_of, get_of};
+use crate::tests::{is, must};
 use mr_proxy::{Answer, Leg, Taken};
 use mr_text::Request;
 use mr_workers::{Carried, Closed, Desk, RecordedProxy, Share, close};
-use std::alloc::{AllocError, Global};
+use std::alloc::Global;
 use std::process::Abort;
 use std::sync::Wait;
-use std::test::Fail;
 
 /// A proxy, and what its sessions did: their shares, and the answers that they took.
 #[derive(Drop)]
@@ -22,118 +21,125 @@ struct Sessions {
     answers: Vec<Vec<Answer>>,
 }
 
-/// Loses a leg, and takes the answer.
+/// What a session of a proxy did.
+#[derive(Drop)]
+struct Session {
+    share: Share,
+    answers: Vec<Answer>,
+}
+
+/// Loses a leg, and keeps the answer.
 fn lose(
-    rt: &impl Wait,
+    rt: &(impl Wait + Abort),
     desk: &RecordedProxy<Broken>,
     leg: Leg,
     answers: &mut Vec<Answer>,
-) -> Result<(), AllocError> {
+) {
     let mut carried = Carried::of(&mut Broken::new(), leg);
-    if let Taken::Answered(answer) = desk.take(rt, &mut carried)? {
-        answers.push(answer)?;
+    if let Taken::Answered(answer) = must(rt, desk.take(rt, &mut carried)) {
+        must(rt, answers.push(answer));
     }
-    Ok(())
 }
 
-/// Issues a request, gives it up, and takes the answer.
-fn give_up(
-    rt: &impl Wait,
+/// Issues a get, and loses its leg.
+fn get(
+    rt: &(impl Wait + Abort),
     desk: &RecordedProxy<Broken>,
-    share: &mut Share,
-    request: Request,
-    answers: &mut Vec<Answer>,
-) -> Result<(), Fail>
-    requires { request ≢ Request.Quit }
+    session: &mut Session,
+    request: &Request,
+)
+    requires { request.now ≢ Request.Quit }
 {
-    let op = issue_op(rt, desk, share, request)?;
-    if let Some(answer) = desk.give_up(rt, op) {
-        answers.push(answer)?;
+    for leg in must(rt, issue(rt, desk, &mut session.share, request)).legs {
+        lose(rt, desk, leg, &mut session.answers);
     }
-    Ok(())
 }
 
-/// What a session does that gets a key, whose leg is lost, and gives the delete of a key up.
-fn session(
-    rt: &impl Wait,
-    alloc: Global,
+/// Issues a request, and gives it up.
+fn give_up(
+    rt: &(impl Wait + Abort),
     desk: &RecordedProxy<Broken>,
-    share: &mut Share,
-) -> Result<Vec<Answer>, Fail> {
-    let mut answers = Vec::new(alloc);
-    for leg in issue(rt, desk, share, &get_of(alloc, &[b"k"])?)?.legs {
-        lose(rt, desk, leg, &mut answers)?;
+    session: &mut Session,
+    request: &Request,
+)
+    requires { request.now ≢ Request.Quit }
+{
+    let op = must(rt, issue(rt, desk, &mut session.share, request)).op;
+    match desk.give_up(rt, op) {
+        Some(answer) => must(rt, session.answers.push(answer)),
+        None => rt.panic("not under way"),
     }
-    give_up(rt, desk, share, delete_of(alloc, b"k")?, &mut answers)?;
-    Ok(answers)
 }
 
-/// Whether the book of a proxy stands with what its sessions did; it has the eight steps of two sessions.
-fn stands(alloc: Global, sessions: Sessions) -> Result<bool, Fail> {
+/// A session that gets a key, whose leg is lost, and gives the delete of a key up.
+fn play_session(rt: &(impl Wait + Abort), alloc: Global, desk: &RecordedProxy<Broken>) -> Session {
+    let mut session = Session {
+        share: desk.share(),
+        answers: Vec::new(alloc),
+    };
+    get(rt, desk, &mut session, &get_of(rt, alloc, &[b"k"]));
+    give_up(rt, desk, &mut session, &delete_of(rt, alloc, b"k"));
+    session
+}
+
+/// Asserts whether the book of a proxy stands with what its sessions did: then it has so many steps.
+fn closes_so(rt: &impl Abort, alloc: Global, sessions: Sessions, wanted: Option<usize>) {
     let Sessions {
         desk,
         shares,
         answers,
     } = sessions;
-    match close(alloc, desk, &shares, &answers) {
-        Ok(Closed::Whole(book)) => Ok(book.steps.len() == 8),
-        Ok(Closed::Differs(_)) => Ok(false),
-        Err(_) => Err(Fail::from("no memory")),
-    }
+    let steps = match must(rt, close(alloc, desk, &shares, &answers)) {
+        Closed::Whole(book) => Some(book.steps.len()),
+        Closed::Differs(_) => None,
+    };
+    is(rt, "steps", &steps, &wanted);
 }
 
-/// Two sessions of one proxy.
-fn two_sessions(rt: &impl Wait, alloc: Global) -> Result<Sessions, Fail> {
+/// Adds what a session did, and asserts how many answers it took.
+fn add(rt: &impl Abort, sessions: &mut Sessions, session: Session, answers: usize) {
+    is(rt, "answers", &session.answers.len(), &answers);
+    must(rt, sessions.shares.push(session.share));
+    must(rt, sessions.answers.push(session.answers));
+}
+
+/// Two sessions of one proxy, of four steps each.
+fn two_sessions(rt: &(impl Wait + Abort), alloc: Global) -> Sessions {
     let mut sessions = Sessions {
-        desk: desk_of(alloc, 20)?,
+        desk: desk_of(rt, alloc, 20),
         shares: Vec::new(alloc),
         answers: Vec::new(alloc),
     };
     for _ in 0..2 {
-        let mut share = sessions.desk.share();
-        let answers = session(rt, alloc, &sessions.desk, &mut share)?;
-        sessions.shares.push(share)?;
-        sessions.answers.push(answers)?;
+        let session = play_session(rt, alloc, &sessions.desk);
+        add(rt, &mut sessions, session, 2);
     }
-    Ok(sessions)
+    sessions
 }
 
 #[test]
 fn a_book_stands_with_its_sessions(rt: HostRuntime) {
-    let alloc = rt.alloc();
-    let sessions = must(&rt, two_sessions(&rt, alloc));
-    holds(
-        &rt,
-        sessions.answers.iter().all(|session| session.len() == 2),
-    );
-    holds(&rt, must(&rt, stands(alloc, sessions)));
+    let sessions = two_sessions(&rt, rt.alloc());
+    closes_so(&rt, rt.alloc(), sessions, Some(8));
 }
 
-/// The share of a session of another proxy.
-fn foreign_share(rt: &impl Wait, alloc: Global) -> Result<Share, Fail> {
-    let other = desk_of(alloc, 4)?;
-    let mut share = other.share();
-    issue_op(rt, &other, &mut share, get_of(alloc, &[b"a"])?)?;
-    Ok(share)
+/// The share of a session of another proxy, which issued two requests.
+fn foreign_share(rt: &(impl Wait + Abort), alloc: Global) -> Share {
+    play_session(rt, alloc, &desk_of(rt, alloc, 20)).share
 }
 
 #[test]
 fn a_share_of_another_proxy_differs(rt: HostRuntime) {
-    let alloc = rt.alloc();
-    let mut sessions = must(&rt, two_sessions(&rt, alloc));
-    must(
-        &rt,
-        sessions.shares.push(must(&rt, foreign_share(&rt, alloc))),
-    );
-    holds(&rt, !must(&rt, stands(alloc, sessions)));
+    let mut sessions = two_sessions(&rt, rt.alloc());
+    must(&rt, sessions.shares.push(foreign_share(&rt, rt.alloc())));
+    closes_so(&rt, rt.alloc(), sessions, None);
 }
 
 #[test]
 fn a_share_that_is_missing_differs(rt: HostRuntime) {
-    let alloc = rt.alloc();
-    let mut sessions = must(&rt, two_sessions(&rt, alloc));
-    holds(&rt, sessions.shares.pop().is_some());
-    holds(&rt, !must(&rt, stands(alloc, sessions)));
+    let mut sessions = two_sessions(&rt, rt.alloc());
+    is(&rt, "a share", &sessions.shares.pop().is_some(), &true);
+    closes_so(&rt, rt.alloc(), sessions, None);
 }
 
 /// A copy of the first answer of each session.
@@ -149,31 +155,27 @@ fn copies(rt: &impl Abort, alloc: Global, sessions: &[Vec<Answer>]) -> Vec<Answe
 
 #[test]
 fn an_answer_and_its_copy_differ(rt: HostRuntime) {
-    let alloc = rt.alloc();
-    let mut sessions = must(&rt, two_sessions(&rt, alloc));
-    let copies = copies(&rt, alloc, &sessions.answers);
+    let mut sessions = two_sessions(&rt, rt.alloc());
+    let copies = copies(&rt, rt.alloc(), &sessions.answers);
     must(&rt, sessions.answers.push(copies));
-    holds(&rt, !must(&rt, stands(alloc, sessions)));
+    closes_so(&rt, rt.alloc(), sessions, None);
 }
 
 /// The answer to the third request of another proxy, which has the name of one here, and another key.
-fn foreign_answers(rt: &impl Wait, alloc: Global) -> Result<Vec<Answer>, Fail> {
-    let other = desk_of(alloc, 20)?;
-    let mut share = other.share();
-    session(rt, alloc, &other, &mut share)?;
-    let mut answers = Vec::new(alloc);
-    let get = get_of(alloc, &[b"b"])?;
-    give_up(rt, &other, &mut share, get, &mut answers)?;
-    Ok(answers)
+fn foreign_answers(rt: &(impl Wait + Abort), alloc: Global) -> Vec<Answer> {
+    let other = desk_of(rt, alloc, 20);
+    let mut session = play_session(rt, alloc, &other);
+    session.answers.clear();
+    give_up(rt, &other, &mut session, &get_of(rt, alloc, &[b"b"]));
+    session.answers
 }
 
 #[test]
 fn an_answer_of_another_proxy_differs(rt: HostRuntime) {
-    let alloc = rt.alloc();
-    let mut sessions = must(&rt, two_sessions(&rt, alloc));
-    let alone = must(&rt, foreign_answers(&rt, alloc));
-    holds(&rt, alone.len() == 1);
+    let mut sessions = two_sessions(&rt, rt.alloc());
     sessions.answers.clear();
-    must(&rt, sessions.answers.push(alone));
-    holds(&rt, !must(&rt, stands(alloc, sessions)));
+    let answers = foreign_answers(&rt, rt.alloc());
+    is(&rt, "answers", &answers.len(), &1);
+    must(&rt, sessions.answers.push(answers));
+    closes_so(&rt, rt.alloc(), sessions, None);
 }
