@@ -1,7 +1,5 @@
 //! What is read of the input, byte by byte.
-use super::{
-    ByteByByte, PLACES, SCRIPT, TRANSCRIPT, byte_by_byte, expect_row, expect_run, is, run_over,
-};
+use super::{PLACES, SCRIPT, TRANSCRIPT, byte_by_byte, expect_row, expect_run, is, run_over};
 use crate::tests::commands::files_at::FilesAt;
 use crate::tests::must;
 use mr_text::{FailsAt, OverReader, Source};
