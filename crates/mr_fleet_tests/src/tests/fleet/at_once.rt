@@ -299,13 +299,7 @@ fn goes_so<
     W: Sink + IsTold + Send + Drop,
     G: Gate + Sync,
     R: Threads + Wait + Abort + Sync,
->(
-    rt: &R,
-    alloc: Global,
-    first: FleetProxy<C, K, S, W>,
-    second: FleetProxy<C, K, S, W>,
-    gate: &G,
-) {
+>(rt: &R, alloc: Global, first: FleetProxy<C, K, S, W>, second: FleetProxy<C, K, S, W>, gate: &G) {
     let ends = run(rt, alloc, first, second, gate);
     for (proxy, (end, (issued, told))) in ends.iter().zip(&WANTED).enumerate() {
         were_told(rt, proxy, end, issued, told);

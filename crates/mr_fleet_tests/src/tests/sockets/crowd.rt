@@ -45,12 +45,7 @@ fn answers_to<N: Net>(
 fn answers_to_all<
     N: Net<Listener = TcpListener, Stream = TcpStream> + Copy + Send + Sync,
     R: Threads + Abort + Sync,
->(
-    rt: &R,
-    alloc: Global,
-    net: N,
-    addresses: [SocketAddr; 2],
-) -> Vec<io::Result<Vec<u8>>> {
+>(rt: &R, alloc: Global, net: N, addresses: [SocketAddr; 2]) -> Vec<io::Result<Vec<u8>>> {
     let each = thread::map_indices(
         rt,
         alloc,
@@ -80,12 +75,7 @@ fn are_answered(rt: &impl Abort, alloc: Global, all: Vec<io::Result<Vec<u8>>>) {
 fn crowd<
     N: Net<Listener = TcpListener, Stream = TcpStream> + Copy + Send + Sync,
     R: Threads + Abort + Sync,
->(
-    rt: &R,
-    alloc: Global,
-    net: N,
-    addresses: [SocketAddr; 2],
-) {
+>(rt: &R, alloc: Global, net: N, addresses: [SocketAddr; 2]) {
     let waiting = must(rt, half_asked(&net, addresses[1], b"get "));
     are_answered(rt, alloc, answers_to_all(rt, alloc, net, addresses));
     let set = answers(&net, alloc, addresses[0], &[b"set x 7 0 2\r\nhi\r\n"]);
