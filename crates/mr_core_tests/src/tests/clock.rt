@@ -3,11 +3,11 @@ mod list_clock;
 mod readings;
 mod system_clock;
 
-use super::{holds, number_is};
+use super::{count_is, holds, is, number_is};
 use mr_clock::Clock;
 use std::process::Abort;
 
 /// Asserts what a clock shows, or that it fails.
-fn shows<C: Clock>(rt: &impl Abort, clock: &mut C, wanted: Option<u64>) {
-    holds(rt, clock.now().ok() == wanted);
+fn shows<C: Clock>(rt: &impl Abort, row: usize, clock: &mut C, wanted: Option<u64>) {
+    is(rt, row, clock.now().ok(), wanted);
 }

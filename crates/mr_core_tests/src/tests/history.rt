@@ -1,11 +1,10 @@
 //! Histories of small fleets.
-mod by_definition;
-mod making;
-mod playing;
-mod rows;
-mod shapes;
+mod dice;
+mod runs;
+mod second_judge;
+mod told;
 
-use super::{are, count_is, holds};
+use super::{count_is, holds, is};
 use mr_history::{Author, Entry, History, HistoryError, OpId, Verdict, judge_history};
 use mr_phases::Side;
 use mr_text::{Block, Item, ItemList, Key, KeyList, Reply, Request};

@@ -1,141 +1,105 @@
 //! Replies joined in either order, and the worse of two.
-use super::{are, holds};
+use super::leg_replies::{Came, reply_of, word_of};
+use super::{holds, is, says};
 use crate::tests::must;
-use mr_join::{Joined, Joining, LegReply, worse};
+use mr_join::{Joining, LegReply, worse};
 use mr_phases::Side;
-use mr_text::{Block, Cause};
+use std::alloc::Global;
 use std::process::Abort;
-use std::test::Fail;
 
-/// Asserts what a client reads.
-fn is_told(rt: &impl Abort, text: &str, wanted: &str) {
-    are(rt, text.as_bytes(), wanted.as_bytes());
+/// What the old and the new node answered, what a client is told of both, how bad the old one's is, and whether both are
+/// the same.
+type Row = (Came, Came, &'static str, u8, bool);
+
+static PAIRS: [Row; 10] = [
+    (Came::Deleted, Came::NotFound, "NOT_FOUND", 0, false),
+    (Came::NotFound, Came::Deleted, "NOT_FOUND", 1, false),
+    (Came::Deleted, Came::Lost, "SERVER_ERROR leg lost", 0, false),
+    // Of two failures the old side's is told.
+    (Came::Busy, Came::Lost, "SERVER_ERROR busy", 2, false),
+    (Came::Lost, Came::Busy, "SERVER_ERROR leg lost", 2, false),
+    (Came::Busy, Came::Busy, "SERVER_ERROR busy", 2, true),
+    (Came::Stored, Came::Stored, "STORED", 0, true),
+    (
+        Came::Found(b'a', 1),
+        Came::Found(b'a', 1),
+        "another hit",
+        0,
+        true,
+    ),
+    (
+        Came::Found(b'a', 1),
+        Came::Found(b'a', 2),
+        "another hit",
+        0,
+        false,
+    ),
+    (Came::Found(b'a', 1), Came::Miss, "another hit", 0, false),
+];
+
+/// What a client is told where the old node's reply comes first.
+fn old_first(rt: &impl Abort, alloc: Global, it: &Row) -> &'static str {
+    let joining = Joining::two().take(Side::Old, reply_of(rt, alloc, it.0));
+    word_of(must(rt, joining.take(Side::New, reply_of(rt, alloc, it.1))).worst())
 }
 
-/// What a client reads of the reply.
-fn told(reply: &LegReply) -> &'static str {
-    match reply {
-        LegReply::Deleted => "DELETED",
-        LegReply::NotFound => "NOT_FOUND",
-        LegReply::Failed(Cause::LegLost) => "SERVER_ERROR leg lost",
-        LegReply::Failed(Cause::Busy) => "SERVER_ERROR busy",
-        _ => "another reply",
-    }
+/// The same of a copy, where the new node's reply comes first.
+fn new_first(rt: &impl Abort, alloc: Global, it: &Row) -> &'static str {
+    let joining = Joining::two().take(Side::New, reply_of(rt, alloc, it.1));
+    let joined = must(rt, joining.take(Side::Old, reply_of(rt, alloc, it.0)));
+    word_of(&must(rt, joined.copy()).into_worst())
 }
 
-fn old_first(old: LegReply, new: LegReply) -> Result<&'static str, Fail> {
-    match Joining::two().take(Side::Old, old).take(Side::New, new) {
-        Ok(joined) => Ok(told(joined.worst())),
-        Err(_) => Err(Fail::from("not awaited")),
-    }
+/// What a client is told of a reply that is awaited alone.
+fn alone(rt: &impl Abort, reply: LegReply) -> &'static str {
+    word_of(&must(rt, Joining::one(Side::New).take(Side::New, reply)).into_worst())
 }
 
-/// What a client reads of a copy of joined replies.
-fn told_of_copy(joined: &Joined) -> Result<&'static str, Fail> {
-    let copy = joined.copy()?;
-    Ok(told(&copy.into_worst()))
+/// Asserts what is said of two replies.
+fn compare(rt: &impl Abort, row: usize, old: LegReply, new: LegReply, it: &Row) {
+    is(rt, row, old.badness(), it.3);
+    holds(rt, row, old.same_as(&new), it.4);
+    says(rt, row, word_of(&worse(old, new)), it.2);
 }
 
-fn new_first(old: LegReply, new: LegReply) -> Result<&'static str, Fail> {
-    match Joining::two().take(Side::New, new).take(Side::Old, old) {
-        Ok(joined) => told_of_copy(&joined),
-        Err(_) => Err(Fail::from("not awaited")),
-    }
+/// Asserts that a reply is the same as its copy, and told alike where it is awaited alone.
+fn is_copied(rt: &impl Abort, row: usize, reply: &LegReply) {
+    let copy = must(rt, reply.copy());
+    holds(rt, row, reply.same_as(&copy), true);
+    says(rt, row, alone(rt, copy), word_of(reply));
 }
 
-fn alone(side: Side, reply: LegReply) -> Result<&'static str, Fail> {
-    match Joining::one(side).take(side, reply) {
-        Ok(joined) => Ok(told(&joined.into_worst())),
-        Err(_) => Err(Fail::from("not awaited")),
-    }
-}
-
-fn failed(cause: Cause) -> LegReply {
-    LegReply::Failed(cause)
+/// Asserts what a row says.
+fn joins(rt: &impl Abort, alloc: Global, row: usize, it: &Row) {
+    says(rt, row, old_first(rt, alloc, it), it.2);
+    says(rt, row, new_first(rt, alloc, it), it.2);
+    let old = reply_of(rt, alloc, it.0);
+    is_copied(rt, row, &old);
+    compare(rt, row, old, reply_of(rt, alloc, it.1), it);
 }
 
 #[test]
-fn joins_both_sides_in_either_order(rt: HostRuntime) {
-    let missing = "NOT_FOUND";
-    is_told(
-        &rt,
-        must(&rt, old_first(LegReply::Deleted, LegReply::NotFound)),
-        missing,
-    );
-    is_told(
-        &rt,
-        must(&rt, new_first(LegReply::Deleted, LegReply::NotFound)),
-        missing,
-    );
-    let lost = "SERVER_ERROR leg lost";
-    is_told(
-        &rt,
-        must(&rt, old_first(LegReply::Deleted, failed(Cause::LegLost))),
-        lost,
-    );
-    let busy = "SERVER_ERROR busy";
-    is_told(
-        &rt,
-        must(&rt, old_first(failed(Cause::Busy), failed(Cause::LegLost))),
-        busy,
-    );
-    is_told(
-        &rt,
-        must(&rt, new_first(failed(Cause::Busy), failed(Cause::LegLost))),
-        busy,
-    );
+fn both_sides_are_joined_in_either_order(rt: HostRuntime) {
+    for (row, it) in PAIRS.iter().enumerate() {
+        joins(&rt, rt.alloc(), row, it);
+    }
 }
 
 /// The reply that is handed back where another of the same side came before.
-fn handed_back() -> Result<LegReply, Fail> {
+fn handed_back() -> Option<LegReply> {
     let joining = Joining::two().take(Side::Old, LegReply::Deleted);
     match joining.take(Side::Old, LegReply::NotFound) {
-        Ok(_) => Err(Fail::from("taken twice")),
-        Err((_, reply)) => Ok(reply),
+        Ok(_) => None,
+        Err((_, reply)) => Some(reply),
     }
 }
 
-/// Asserts what is told of a reply, and of the same where it is awaited alone.
-fn is_told_alone(rt: &impl Abort, reply: LegReply, wanted: &str) {
-    is_told(rt, told(&reply), wanted);
-    is_told(rt, must(rt, alone(Side::New, reply)), wanted);
-}
-
 #[test]
-fn hands_back_what_is_not_awaited(rt: HostRuntime) {
-    is_told_alone(&rt, must(&rt, handed_back()), "NOT_FOUND");
-}
-
-/// What a client reads of a delete that was done and a copy of this reply.
-fn told_of_worse(reply: &LegReply) -> Result<&'static str, Fail> {
-    let copy = reply.copy()?;
-    Ok(told(&worse(LegReply::Deleted, copy)))
-}
-
-#[test]
-fn the_worse_reply_is_told(rt: HostRuntime) {
-    holds(&rt, failed(Cause::Busy).badness() == 2);
-    let text = told_of_worse(&failed(Cause::LegLost));
-    is_told(&rt, must(&rt, text), "SERVER_ERROR leg lost");
-}
-
-/// Asserts whether two replies are the same.
-fn are_same(rt: &impl Abort, reply: LegReply, other: LegReply, wanted: bool) {
-    holds(rt, reply.same_as(&other) == wanted);
-}
-
-/// Asserts that a hit is the same as its copy, and not as a miss.
-fn is_like_its_copy(rt: &impl Abort, hit: &LegReply) {
-    let copy = must(rt, hit.copy());
-    holds(rt, hit.same_as(&copy));
-    holds(rt, !hit.same_as(&LegReply::Miss));
-}
-
-#[test]
-fn equal_replies_are_the_same(rt: HostRuntime) {
-    are_same(&rt, LegReply::Stored, LegReply::Stored, true);
-    are_same(&rt, failed(Cause::Busy), failed(Cause::Busy), true);
-    are_same(&rt, failed(Cause::Busy), failed(Cause::LegLost), false);
-    let block = must(&rt, Block::new(rt.alloc(), b"a"));
-    is_like_its_copy(&rt, &LegReply::Hit { flags: 1, block });
+fn a_side_that_is_not_awaited_is_handed_back(rt: HostRuntime) {
+    says(
+        &rt,
+        0,
+        handed_back().as_ref().map_or("taken twice", word_of),
+        "NOT_FOUND",
+    );
 }

@@ -5,27 +5,11 @@ mod memory;
 mod service;
 mod values;
 
-use super::{are, count_is, holds};
-use mr_join::LegReply;
+use super::leg_replies::word_of;
+use super::{are, count_is, holds, is, says};
 use mr_node::{CacheNode, NodeCommand};
-use mr_text::{Block, Key};
-use std::alloc::{AllocError, Global};
-
-/// The key of a good name.
-fn key(alloc: Global, name: &[u8]) -> Result<Key, AllocError> {
-    match Key::new(alloc, name) {
-        Ok(key) => Ok(key),
-        Err(_) => Err(AllocError),
-    }
-}
-
-/// The data `v`.
-fn block(alloc: Global) -> Result<Block, AllocError> {
-    match Block::new(alloc, b"v") {
-        Ok(block) => Ok(block),
-        Err(_) => Err(AllocError),
-    }
-}
+use mr_text::{Block, Key, TextError};
+use std::alloc::Global;
 
 /// When the item of a key expires, if it does and if there is one.
 fn expiry(node: &CacheNode, key: &Key) -> Option<Option<u64>> {
@@ -35,7 +19,31 @@ fn expiry(node: &CacheNode, key: &Key) -> Option<Option<u64>> {
     }
 }
 
-/// A command without its name.
+/// A reply without its data.
+#[derive(Clone, Copy)]
+enum Came {
+    /// The flags 5 and the data `v`.
+    Hit,
+    Miss,
+    Stored,
+    Deleted,
+    NotFound,
+}
+
+impl Came {
+    /// The word of such a reply.
+    fn word(self) -> &'static str {
+        match self {
+            Came::Hit => "hit",
+            Came::Miss => "miss",
+            Came::Stored => "STORED",
+            Came::Deleted => "DELETED",
+            Came::NotFound => "NOT_FOUND",
+        }
+    }
+}
+
+/// A command without its name, which has one byte.
 #[derive(Clone, Copy)]
 enum Told {
     Get,
@@ -46,49 +54,17 @@ enum Told {
 
 impl Told {
     /// This command of a name.
-    fn of(self, alloc: Global, name: &[u8]) -> Result<NodeCommand, AllocError> {
-        let key = key(alloc, name)?;
+    fn of(self, alloc: Global, name: u8) -> Result<NodeCommand, TextError> {
+        let key = Key::new(alloc, &[name])?;
         Ok(match self {
             Told::Get => NodeCommand::Get(key),
             Told::Set(exptime) => NodeCommand::Set {
                 key,
                 flags: 5,
                 exptime,
-                block: block(alloc)?,
+                block: Block::new(alloc, b"v")?,
             },
             Told::Delete => NodeCommand::Delete(key),
         })
-    }
-}
-
-/// A reply without its data.
-#[derive(Clone, Copy, PartialEq)]
-enum Came {
-    /// The flags 5 and the data `v`.
-    Hit,
-    Miss,
-    Stored,
-    Deleted,
-    NotFound,
-    Else,
-}
-
-impl Came {
-    /// What a reply is.
-    fn of(reply: &LegReply) -> Came {
-        match reply {
-            LegReply::Hit { flags, block } => {
-                if *flags == 5 && block.as_bytes() == b"v".as_slice() {
-                    Came::Hit
-                } else {
-                    Came::Else
-                }
-            }
-            LegReply::Miss => Came::Miss,
-            LegReply::Stored => Came::Stored,
-            LegReply::Deleted => Came::Deleted,
-            LegReply::NotFound => Came::NotFound,
-            LegReply::Failed(_) => Came::Else,
-        }
     }
 }

@@ -1,5 +1,5 @@
 //! A migration that starts at 1000 with an interval of 100 seconds.
-use super::{are, count_is, holds, number_is};
+use super::{count_is, holds, is, number_is, says};
 use crate::tests::must;
 use mr_phases::{
     Judged, PhaseName, RequestKind, Schedule, ScheduleError, Side, Sides, judge, laws,
@@ -8,28 +8,30 @@ use std::alloc::Global;
 use std::fmt::Display;
 use std::process::Abort;
 
-/// Asserts the phase and the reading of what was judged.
-fn is_judged(rt: &impl Abort, judged: &Judged, name: PhaseName, reading: u64) {
-    holds(rt, judged.name() == name);
-    number_is(rt, judged.reading(), reading);
-}
-
 /// Asserts that there is a first side, and perhaps a second, and no other.
-fn are_sides(rt: &impl Abort, sides: &Sides, first: Side, second: Option<Side>) {
-    holds(rt, sides.get(0) == Some(first));
-    holds(rt, sides.get(1) == second);
-    count_is(rt, sides.count(), 1 + usize::from(second.is_some()));
-    count_is(rt, sides.as_slice().len(), sides.count());
+fn are_sides(rt: &impl Abort, row: usize, sides: Sides, first: Side, second: Option<Side>) {
+    is(rt, row, sides.get(0), Some(first));
+    is(rt, row, sides.get(1), second);
+    count_is(rt, row, sides.count(), 1 + usize::from(second.is_some()));
+    count_is(rt, row, sides.as_slice().len(), sides.count());
 }
 
-/// A reading, the phase then, the side that is read, and the sides that a delete goes to.
-type Row = (u64, PhaseName, Side, Side, Option<Side>);
+/// A reading, the phase then and its name, the side that is read, and the sides that a delete goes to.
+type Row = (u64, PhaseName, &'static str, Side, Side, Option<Side>);
 
 static ROWS: [Row; 6] = [
-    (999, PhaseName::OldOnly, Side::Old, Side::Old, None),
+    (
+        999,
+        PhaseName::OldOnly,
+        "old-only",
+        Side::Old,
+        Side::Old,
+        None,
+    ),
     (
         1000,
         PhaseName::BothReadOld,
+        "both-read-old",
         Side::Old,
         Side::Old,
         Some(Side::New),
@@ -37,6 +39,7 @@ static ROWS: [Row; 6] = [
     (
         1099,
         PhaseName::BothReadOld,
+        "both-read-old",
         Side::Old,
         Side::Old,
         Some(Side::New),
@@ -44,6 +47,7 @@ static ROWS: [Row; 6] = [
     (
         1100,
         PhaseName::BothReadNew,
+        "both-read-new",
         Side::New,
         Side::Old,
         Some(Side::New),
@@ -51,137 +55,156 @@ static ROWS: [Row; 6] = [
     (
         1199,
         PhaseName::BothReadNew,
+        "both-read-new",
         Side::New,
         Side::Old,
         Some(Side::New),
     ),
-    (1200, PhaseName::NewOnly, Side::New, Side::New, None),
+    (
+        1200,
+        PhaseName::NewOnly,
+        "new-only",
+        Side::New,
+        Side::New,
+        None,
+    ),
 ];
 
 /// Asserts which sides the requests of a row go to.
-fn goes_to(rt: &impl Abort, judged: &Judged, row: &Row) {
-    let (_, _, read, first, second) = *row;
-    holds(rt, judged.read_side() == read);
-    are_sides(rt, &judged.sides(RequestKind::Get), read, None);
-    are_sides(rt, &judged.sides(RequestKind::Set), read, None);
-    are_sides(rt, &judged.sides(RequestKind::Delete), first, second);
+fn goes_to(rt: &impl Abort, row: usize, judged: &Judged, it: &Row) {
+    is(rt, row, judged.read_side(), it.3);
+    are_sides(rt, row, judged.sides(RequestKind::Get), it.3, None);
+    are_sides(rt, row, judged.sides(RequestKind::Set), it.3, None);
+    are_sides(rt, row, judged.sides(RequestKind::Delete), it.4, it.5);
+}
+
+/// The sides that a delete goes to by its type.
+fn by_type(judged: Judged) -> (Side, Option<Side>) {
+    let [first, second] = match judged {
+        Judged::OldOnly(phase) => return (phase.delete_sides().side(), None),
+        Judged::BothReadOld(phase) => phase.delete_sides().as_array(),
+        Judged::BothReadNew(phase) => phase.delete_sides().as_array(),
+        Judged::NewOnly(phase) => return (phase.delete_sides().side(), None),
+    };
+    (first, Some(second))
 }
 
 /// Asserts what is judged of a row's reading.
-fn is_row(rt: &impl Abort, schedule: Schedule, row: &Row) {
-    let judged = judge(schedule, row.0);
-    is_judged(rt, &judged, row.1, row.0);
-    holds(rt, judged.schedule().same_as(&schedule));
-    goes_to(rt, &judged, row);
+fn is_row(rt: &impl Abort, alloc: Global, row: usize, schedule: Schedule, it: &Row) {
+    let judged = judge(schedule, it.0);
+    is(rt, row, judged.name(), it.1);
+    number_is(rt, row, judged.reading(), it.0);
+    holds(rt, row, judged.schedule().same_as(&schedule), true);
+    goes_to(rt, row, &judged, it);
+    is(rt, row, by_type(judged), (it.4, it.5));
+    is_printed(rt, alloc, row, &it.1, it.2);
 }
 
 #[test]
 fn each_bound_belongs_to_the_later_phase(rt: HostRuntime) {
     let schedule = must(&rt, Schedule::new(1000, 100));
-    for row in &ROWS {
-        is_row(&rt, schedule, row);
+    for (row, it) in ROWS.iter().enumerate() {
+        is_row(&rt, rt.alloc(), row, schedule, it);
     }
 }
 
-/// Asserts that both sides are there, the old one first.
-fn are_both(rt: &impl Abort, sides: [Side; 2]) {
-    let [first, second] = sides;
-    holds(rt, first == Side::Old);
-    holds(rt, second == Side::New);
-}
-
-/// Asserts which sides a delete goes to by its type.
-fn goes_by_type(rt: &impl Abort, judged: Judged) {
-    match judged {
-        Judged::OldOnly(phase) => holds(rt, phase.delete_sides().side() == Side::Old),
-        Judged::BothReadOld(phase) => are_both(rt, phase.delete_sides().as_array()),
-        Judged::BothReadNew(phase) => are_both(rt, phase.delete_sides().as_array()),
-        Judged::NewOnly(phase) => holds(rt, phase.delete_sides().side() == Side::New),
-    }
-}
-
-#[test]
-fn one_or_two_sides_by_the_type(rt: HostRuntime) {
-    let schedule = must(&rt, Schedule::new(1000, 100));
-    for now in [999, 1000, 1100, 1200] {
-        goes_by_type(&rt, judge(schedule, now));
-    }
-}
+/// A start, an interval, why there is no schedule of them, if there is none, and that refusal's number.
+static LIMITS: [(u64, u64, Option<ScheduleError>, u8); 5] = [
+    (1000, 100, None, 0),
+    (18446744073709551415, 100, None, 0),
+    (1000, 0, Some(ScheduleError::ZeroInterval), 1),
+    (18446744073709551416, 100, Some(ScheduleError::TooLate), 2),
+    (u64::MAX, u64::MAX, Some(ScheduleError::TooLate), 2),
+];
 
 /// Asserts what a schedule tells, and its copy.
-fn tells(rt: &impl Abort, schedule: &Schedule, start: u64, interval: u64) {
-    number_is(rt, schedule.start(), start);
-    number_is(rt, schedule.interval(), interval);
-    number_is(rt, schedule.least_interval(), interval);
-    holds(rt, schedule.copy().same_as(schedule));
+fn tells(rt: &impl Abort, row: usize, schedule: &Schedule, start: u64, interval: u64) {
+    number_is(rt, row, schedule.start(), start);
+    number_is(rt, row, schedule.interval(), interval);
+    number_is(rt, row, schedule.least_interval(), interval);
+    holds(rt, row, schedule.copy().same_as(schedule), true);
+}
+
+/// Asserts whether there is such a schedule.
+fn is_limited(rt: &impl Abort, row: usize, it: &(u64, u64, Option<ScheduleError>, u8)) {
+    match Schedule::new(it.0, it.1) {
+        Ok(schedule) => {
+            is(rt, row, None, it.2);
+            tells(rt, row, &schedule, it.0, it.1);
+        }
+        Err(refusal) => {
+            is(rt, row, Some(refusal), it.2);
+            is(rt, row, refusal.number(), it.3);
+        }
+    }
 }
 
 #[test]
-fn limits_of_a_schedule(rt: HostRuntime) {
+fn schedules_have_limits(rt: HostRuntime) {
+    for (row, it) in LIMITS.iter().enumerate() {
+        is_limited(&rt, row, it);
+    }
+}
+
+/// Asserts that the latest schedule ends, and is another than the first.
+fn ends(rt: &impl Abort, last: Schedule, other: Schedule) {
+    is(rt, 0, judge(last, u64::MAX).name(), PhaseName::NewOnly);
+    holds(rt, 1, last.same_as(&other), false);
+}
+
+#[test]
+fn the_latest_schedule_ends(rt: HostRuntime) {
     let last = must(&rt, Schedule::new(18446744073709551415, 100));
-    tells(&rt, &last, 18446744073709551415, 100);
-    holds(&rt, judge(last, u64::MAX).name() == PhaseName::NewOnly);
-    holds(&rt, !last.same_as(&must(&rt, Schedule::new(1000, 100))));
+    ends(&rt, last, must(&rt, Schedule::new(1000, 100)));
 }
 
-/// Asserts why there is no such schedule, and the error's number.
-fn is_refused(rt: &impl Abort, start: u64, interval: u64, error: ScheduleError, number: u8) {
-    let refusal = Schedule::new(start, interval).err();
-    holds(rt, refusal == Some(error));
-    holds(rt, error.number() == number);
-}
+/// A reading, whether what was judged at 1099 takes it, and what it is then.
+type Later = (u64, bool, PhaseName, u64);
 
-#[test]
-fn schedules_are_refused_in_order(rt: HostRuntime) {
-    is_refused(&rt, 1000, 0, ScheduleError::ZeroInterval, 1);
-    is_refused(&rt, 18446744073709551416, 100, ScheduleError::TooLate, 2);
-    is_refused(&rt, u64::MAX, u64::MAX, ScheduleError::TooLate, 2);
-}
+static LATER: [Later; 4] = [
+    (1100, true, PhaseName::BothReadNew, 1100),
+    (1099, true, PhaseName::BothReadOld, 1099),
+    (1098, false, PhaseName::BothReadOld, 1099),
+    (999, false, PhaseName::BothReadOld, 1099),
+];
 
-/// Asserts whether what was judged at 1099 takes a later reading, and what it is then.
-fn is_later(rt: &impl Abort, judged: &Judged, now: u64, accepted: bool, wanted: (PhaseName, u64)) {
-    let answer = judged.copy().later(now);
-    holds(rt, answer.is_ok() == accepted);
+fn is_later(rt: &impl Abort, row: usize, judged: &Judged, it: &Later) {
+    let answer = judged.copy().later(it.0);
+    holds(rt, row, answer.is_ok(), it.1);
     let (Ok(kept) | Err(kept)) = answer;
-    is_judged(rt, &kept, wanted.0, wanted.1);
+    is(rt, row, kept.name(), it.2);
+    number_is(rt, row, kept.reading(), it.3);
 }
 
 #[test]
 fn later_takes_no_earlier_reading(rt: HostRuntime) {
     let judged = judge(must(&rt, Schedule::new(1000, 100)), 1099);
-    is_later(&rt, &judged, 1100, true, (PhaseName::BothReadNew, 1100));
-    is_later(&rt, &judged, 1099, true, (PhaseName::BothReadOld, 1099));
-    is_later(&rt, &judged, 1098, false, (PhaseName::BothReadOld, 1099));
-    is_later(&rt, &judged, 999, false, (PhaseName::BothReadOld, 1099));
+    for (row, it) in LATER.iter().enumerate() {
+        is_later(&rt, row, &judged, it);
+    }
 }
 
 /// Asserts what a name is printed as.
-fn is_printed<T: Display>(rt: &impl Abort, alloc: Global, name: &T, text: &str) {
-    let printed = must(rt, format!(in alloc; "{name}"));
-    are(rt, printed.as_bytes(), text.as_bytes());
+fn is_printed<T: Display>(rt: &impl Abort, alloc: Global, row: usize, name: &T, text: &str) {
+    says(
+        rt,
+        row,
+        must(rt, format!(in alloc; "{name}")).as_str(),
+        text,
+    );
 }
 
-#[test]
-fn names_are_printed(rt: HostRuntime) {
-    for (side, text) in &[(Side::Old, "old"), (Side::New, "new")] {
-        is_printed(&rt, rt.alloc(), side, text);
-    }
-    for (name, text) in &[
-        (PhaseName::OldOnly, "old-only"),
-        (PhaseName::BothReadOld, "both-read-old"),
-        (PhaseName::BothReadNew, "both-read-new"),
-        (PhaseName::NewOnly, "new-only"),
-    ] {
-        is_printed(&rt, rt.alloc(), name, text);
-    }
+/// Asserts what a side is called, and which pool it is of the first and the fourth hop.
+fn is_side(rt: &impl Abort, alloc: Global, row: usize, side: Side, text: &str) {
+    is_printed(rt, alloc, row, &side, text);
+    count_is(rt, row, side.pool_number(0), row);
+    count_is(rt, row, side.pool_number(3), row.saturating_add(3));
 }
 
 #[test]
 fn a_hop_moves_to_the_next_pool(rt: HostRuntime) {
-    count_is(&rt, Side::Old.pool_number(0), 0);
-    count_is(&rt, Side::New.pool_number(0), 1);
-    count_is(&rt, Side::Old.pool_number(3), 3);
-    count_is(&rt, Side::New.pool_number(3), 4);
+    is_side(&rt, rt.alloc(), 0, Side::Old, "old");
+    is_side(&rt, rt.alloc(), 1, Side::New, "new");
 }
 
 #[test]

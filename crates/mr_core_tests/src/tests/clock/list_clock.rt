@@ -2,37 +2,39 @@
 use super::shows;
 use crate::tests::must;
 use mr_clock::{FixedClock, ListClock};
+use std::alloc::Global;
 use std::process::Abort;
 
-/// Asserts what a clock shows, one reading after the other.
-fn gives(rt: &impl Abort, clock: &mut ListClock, wanted: &[Option<u64>]) {
-    for reading in wanted {
-        shows(rt, clock, *reading);
+/// The members of a list, and what a clock of it shows, one reading after the other.
+type Row = (&'static [Option<u64>], &'static [Option<u64>]);
+
+static LISTS: [Row; 3] = [
+    (
+        &[Some(999), None, Some(1000)],
+        &[Some(999), None, Some(1000), Some(1000)],
+    ),
+    // A last fault stays.
+    (&[Some(999), None], &[Some(999), None, None]),
+    (&[], &[None, None]),
+];
+
+fn gives(rt: &impl Abort, alloc: Global, row: usize, it: &Row) {
+    let mut clock = ListClock::new(must(rt, Vec::from_slice(alloc, it.0)));
+    for wanted in it.1 {
+        shows(rt, row, &mut clock, *wanted);
     }
 }
 
 #[test]
-fn gives_each_member_and_then_the_last(rt: HostRuntime) {
-    let members = must(&rt, vec![in rt.alloc(); Some(999), None, Some(1000)]);
-    let wanted = [Some(999), None, Some(1000), Some(1000)];
-    gives(&rt, &mut ListClock::new(members), &wanted);
-}
-
-#[test]
-fn fails_for_good_at_a_last_fault(rt: HostRuntime) {
-    let members = must(&rt, vec![in rt.alloc(); Some(999), None]);
-    gives(&rt, &mut ListClock::new(members), &[Some(999), None, None]);
-}
-
-#[test]
-fn fails_without_members(rt: HostRuntime) {
-    let mut clock = ListClock::new(Vec::new(rt.alloc()));
-    gives(&rt, &mut clock, &[None, None]);
+fn a_list_gives_each_member_and_then_the_last(rt: HostRuntime) {
+    for (row, it) in LISTS.iter().enumerate() {
+        gives(&rt, rt.alloc(), row, it);
+    }
 }
 
 #[test]
 fn stands_still(rt: HostRuntime) {
     let mut clock = FixedClock(999);
-    shows(&rt, &mut clock, Some(999));
-    shows(&rt, &mut clock, Some(999));
+    shows(&rt, 0, &mut clock, Some(999));
+    shows(&rt, 1, &mut clock, Some(999));
 }

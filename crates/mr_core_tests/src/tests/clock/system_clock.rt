@@ -23,47 +23,54 @@ impl time::Clock for Shown {
     }
 }
 
-/// Asserts what the machine's clock reads where std's shows this time, and that it fails where it reads nothing.
-fn reads<C: Clock>(
-    rt: &impl Abort,
-    shown: &Shown,
-    clock: &mut C,
-    time: Option<Duration>,
-    wanted: Option<u64>,
-) {
-    shown.0.set(time);
-    shows(rt, clock, wanted);
+/// A time that std's clock shows.
+#[derive(Clone, Copy)]
+enum Time {
+    Seconds(u64),
+    Nanoseconds(u64),
+    Nothing,
+}
+
+impl Time {
+    fn shown(self) -> Option<Duration> {
+        match self {
+            Time::Seconds(seconds) => Some(Duration::from_secs(seconds)),
+            Time::Nanoseconds(nanoseconds) => Some(Duration::from_nanos(nanoseconds)),
+            Time::Nothing => None,
+        }
+    }
+}
+
+/// What std's clock shows, one after the other, and what the machine's clock reads then.
+static TIMES: [(Time, Option<u64>); 8] = [
+    // Whole seconds are read.
+    (Time::Nanoseconds(1_000_999_999_999), Some(1_000)),
+    (Time::Seconds(0), Some(0)),
+    (Time::Seconds((1 << 63) - 1), Some((1 << 63) - 1)),
+    // Without a time that can be told the clock fails, until there is one.
+    (Time::Nothing, None),
+    (Time::Nothing, None),
+    (Time::Seconds(1 << 63), None),
+    (Time::Seconds(u64::MAX), None),
+    (Time::Seconds(7), Some(7)),
+];
+
+/// Asserts what a clock over std's reads at each time.
+fn read_times<C: Clock>(rt: &impl Abort, shown: &Shown, clock: &mut C) {
+    for (row, it) in TIMES.iter().enumerate() {
+        shown.0.set(it.0.shown());
+        shows(rt, row, clock, it.1);
+    }
 }
 
 #[test]
-fn whole_seconds_are_read(rt: HostRuntime) {
+fn whole_seconds_are_read_or_a_fault(rt: HostRuntime) {
     let shown = Shown(Cell::new(None));
-    let mut clock = SystemClock::new(&shown);
-    let uneven = Duration::new(1_000, 999_999_999);
-    reads(&rt, &shown, &mut clock, Some(uneven), Some(1_000));
-    reads(&rt, &shown, &mut clock, Some(Duration::ZERO), Some(0));
-    let last = Duration::new((1 << 63) - 1, 0);
-    reads(&rt, &shown, &mut clock, Some(last), Some((1 << 63) - 1));
-}
-
-#[test]
-fn a_clock_without_time_fails_until_it_has_one(rt: HostRuntime) {
-    let shown = Shown(Cell::new(None));
-    let mut clock = SystemClock::new(&shown);
-    reads(&rt, &shown, &mut clock, None, None);
-    shows(&rt, &mut clock, None);
-    reads(
-        &rt,
-        &shown,
-        &mut clock,
-        Some(Duration::new(1 << 63, 0)),
-        None,
-    );
-    reads(&rt, &shown, &mut clock, Some(Duration::new(7, 0)), Some(7));
+    read_times(&rt, &shown, &mut SystemClock::new(&shown));
 }
 
 #[test]
 fn the_machine_shows_a_time_after_2020(rt: HostRuntime) {
     let seconds = SystemClock::new(&rt).now().unwrap_or(0);
-    holds(&rt, seconds > 1_577_836_800);
+    holds(&rt, 0, seconds > 1_577_836_800, true);
 }

@@ -3,7 +3,7 @@ use mr_clock::{Clock, ClockFault};
 use mr_node::{Ended, NodeError, Perform, serve};
 use mr_test_parts::TakesHalf;
 use mr_text::{FailsAt, OverReader, OverWriter};
-use std::alloc::{AllocError, Global};
+use std::alloc::Global;
 use std::cell::Cell;
 use std::io;
 use std::io::Read;
@@ -11,9 +11,9 @@ use std::io::Read;
 /// A reader that gives no more than so many bytes at a time, each time a second later than the time before.
 #[derive(Drop)]
 pub(super) struct Pieces<'a> {
-    bytes: &'a [u8],
-    length: usize,
-    seconds: &'a Cell<u64>,
+    pub(super) bytes: &'a [u8],
+    pub(super) length: usize,
+    pub(super) seconds: &'a Cell<u64>,
 }
 
 impl Read for Pieces<'_> {
@@ -67,44 +67,20 @@ pub(super) struct Left {
     pub(super) writer: TakesHalf,
 }
 
-/// A reader of this input, one call of which fails where that is wanted.
-fn reader_of<'a>(
-    input: &'a [u8],
-    seconds: &'a Cell<u64>,
-    given: Given,
-) -> FailsAt<OverReader<Pieces<'a>>> {
-    let pieces = Pieces {
-        bytes: input,
-        length: given.length,
-        seconds,
-    };
-    FailsAt::new(OverReader::new(pieces), given.read_fails)
-}
-
-/// A writer, one call of which fails where that is wanted.
-fn writer_of(alloc: Global, given: Given) -> Result<FailsAt<OverWriter<TakesHalf>>, AllocError> {
-    let device = TakesHalf {
-        kept: Vec::with_capacity(alloc, 256)?,
-        calls: 0,
-        fails_at: given.half_at,
-    };
-    Ok(FailsAt::new(OverWriter::new(device), given.write_fails))
-}
-
-/// Serves this input, at so many seconds.
+/// Serves this input over this device, by so many seconds.
 pub(super) fn serve_input<P: Perform, C: Clock>(
     alloc: Global,
     node: &mut P,
     clock: &mut C,
-    seconds: &Cell<u64>,
-    input: &[u8],
+    input: Pieces,
     given: Given,
-) -> Result<Left, AllocError> {
-    let mut writer = writer_of(alloc, given)?;
-    let mut reader = reader_of(input, seconds, given);
+    device: TakesHalf,
+) -> Left {
+    let mut reader = FailsAt::new(OverReader::new(input), given.read_fails);
+    let mut writer = FailsAt::new(OverWriter::new(device), given.write_fails);
     let how = serve(alloc, node, &mut reader, &mut writer, clock, given.turns);
-    Ok(Left {
+    Left {
         how,
         writer: writer.into_inner().into_inner(),
-    })
+    }
 }

@@ -1,57 +1,75 @@
 //! What a service answers to texts, and what it leaves where a device fails.
-use super::devices::{AMPLE, Given, Left, Shown, serve_input};
-use super::{are, count_is, expiry, holds, key};
-use crate::tests::must;
-use mr_clock::{Clock, FixedClock, ListClock};
+use super::devices::{AMPLE, Given, Left, Pieces, Shown, serve_input};
+use super::{are, count_is, expiry, is};
+use crate::tests::{Rule, must, spelled};
+use mr_clock::{Clock, ListClock};
 use mr_node::{CacheNode, Ended, NodeError};
-use mr_test_parts::add_repeated;
+use mr_test_parts::TakesHalf;
+use mr_text::Key;
 use std::alloc::Global;
 use std::cell::Cell;
 use std::process::Abort;
-use std::test::Fail;
 
 /// A text and what it is served with. How the service has to end, what it writes, in how many calls of the device, and
 /// how many items are kept then.
-type Row<'a> = (
-    &'a [u8],
+type Row = (
+    &'static [u8],
     Given,
     Result<Ended, NodeError>,
-    &'a [u8],
+    &'static [u8],
     usize,
     usize,
 );
 
 /// Asserts how a service ended, what it wrote and in how many calls.
-fn has_left(rt: &impl Abort, left: &Left, row: &Row) {
-    let (_, _, how, output, calls, _) = *row;
-    holds(rt, left.how == how);
-    are(rt, &left.writer.kept, output);
-    count_is(rt, left.writer.calls, calls);
+fn has_left(rt: &impl Abort, row: usize, left: &Left, it: &Row) {
+    is(rt, row, left.how, it.2);
+    are(rt, row, &left.writer.kept, it.3);
+    count_is(rt, row, left.writer.calls, it.4);
 }
 
-/// Asserts what the service of a text over a new cache comes to.
-fn is_row<C: Clock>(rt: &impl Abort, alloc: Global, clock: &mut C, row: &Row) {
+/// Serves a text over a cache.
+fn serve_pieces<C: Clock>(
+    alloc: Global,
+    node: &mut CacheNode,
+    clock: &mut C,
+    seconds: &Cell<u64>,
+    input: &[u8],
+    given: Given,
+) -> Left {
+    let pieces = Pieces {
+        bytes: input,
+        length: given.length,
+        seconds,
+    };
+    let device = TakesHalf::new(alloc, given.half_at);
+    serve_input(alloc, node, clock, pieces, given, device)
+}
+
+/// Asserts what the service of a text comes to over a new cache of four items, by a clock that shows these readings.
+fn is_row(
+    rt: &impl Abort,
+    alloc: Global,
+    row: usize,
+    readings: &[Option<u64>],
+    input: &[u8],
+    it: &Row,
+) {
     let mut node = must(rt, CacheNode::new(alloc, 4));
-    let left = must(
-        rt,
-        serve_input(alloc, &mut node, clock, &Cell::new(0), row.0, row.1),
-    );
-    has_left(rt, &left, row);
-    count_is(rt, node.len(), row.5);
+    let mut clock = ListClock::new(must(rt, Vec::from_slice(alloc, readings)));
+    let left = serve_pieces(alloc, &mut node, &mut clock, &Cell::new(0), input, it.1);
+    has_left(rt, row, &left, it);
+    count_is(rt, row, node.len(), it.5);
 }
 
-/// Asserts what the services of texts come to at 999.
-fn are_rows(rt: &impl Abort, alloc: Global, rows: &[Row]) {
-    for row in rows {
-        is_row(rt, alloc, &mut FixedClock(999), row);
-    }
-}
+/// The reading of a clock that stands still.
+const STILL: &[Option<u64>] = &[Some(999)];
 
 const ENDED: Result<Ended, NodeError> = Ok(Ended::Ended);
 
 const QUIT: Result<Ended, NodeError> = Ok(Ended::Quit);
 
-static ANSWERS: [Row<'static>; 7] = [
+static ANSWERS: [Row; 14] = [
     (
         b"set k 0 0 0\r\n\r\nget k\r\n",
         AMPLE,
@@ -95,14 +113,7 @@ static ANSWERS: [Row<'static>; 7] = [
         1,
     ),
     (b"", AMPLE, ENDED, b"", 0, 0),
-];
-
-#[test]
-fn answers_each_request(rt: HostRuntime) {
-    are_rows(&rt, rt.alloc(), &ANSWERS);
-}
-
-static REFUSALS: [Row<'static>; 7] = [
+    // Refusals are answered.
     (
         b"set k 4294967296 0 1\r\n",
         AMPLE,
@@ -162,38 +173,44 @@ static REFUSALS: [Row<'static>; 7] = [
 ];
 
 #[test]
-fn answers_refusals(rt: HostRuntime) {
-    are_rows(&rt, rt.alloc(), &REFUSALS);
+fn answers_each_request_and_refusal(rt: HostRuntime) {
+    for (row, it) in ANSWERS.iter().enumerate() {
+        is_row(&rt, rt.alloc(), row, STILL, it.0, it);
+    }
 }
 
-/// A text with so many equal bytes within it.
-fn long_text(
-    alloc: Global,
-    head: &[u8],
-    byte: u8,
-    count: usize,
-    tail: &[u8],
-) -> Result<Vec<u8>, Fail> {
-    let mut text = Vec::from_slice(alloc, head)?;
-    add_repeated(&mut text, byte, count)?;
-    text.extend_from_slice(tail)?;
-    Ok(text)
-}
-
-/// Asserts that a text is refused, and the answer to it.
-fn is_refused(rt: &impl Abort, alloc: Global, input: Vec<u8>, output: &[u8], number: u8) {
-    let how = Ok(Ended::Refused(number));
-    let row = (input.as_slice(), AMPLE, how, output, 1, 0);
-    is_row(rt, alloc, &mut FixedClock(999), &row);
-}
+/// Texts with a key and with a line that are too long, and what comes of their services.
+static LONG_TEXTS: [(Rule, Row); 2] = [
+    (
+        (b"get ", b"x", 251, b"\r\n"),
+        (
+            b"",
+            AMPLE,
+            Ok(Ended::Refused(2)),
+            b"CLIENT_ERROR bad key\r\n",
+            1,
+            0,
+        ),
+    ),
+    (
+        (b"get k", b" ", 8188, b"\n"),
+        (
+            b"",
+            AMPLE,
+            Ok(Ended::Refused(1)),
+            b"CLIENT_ERROR line too long\r\n",
+            1,
+            0,
+        ),
+    ),
+];
 
 #[test]
 fn refuses_long_keys_and_lines(rt: HostRuntime) {
-    let alloc = rt.alloc();
-    let key = must(&rt, long_text(alloc, b"get ", b'x', 251, b"\r\n"));
-    is_refused(&rt, alloc, key, b"CLIENT_ERROR bad key\r\n", 2);
-    let line = must(&rt, long_text(alloc, b"get k", b' ', 8188, b"\n"));
-    is_refused(&rt, alloc, line, b"CLIENT_ERROR line too long\r\n", 1);
+    for (row, (rule, it)) in LONG_TEXTS.iter().enumerate() {
+        let input = spelled(&rt, rt.alloc(), *rule);
+        is_row(&rt, rt.alloc(), row, STILL, &input, it);
+    }
 }
 
 const READ_FAULT: Result<Ended, NodeError> = Err(NodeError::ReadFault);
@@ -209,7 +226,7 @@ const THREE_ANSWERS: &[u8] = b"set a 0 0 1\r\nv\r\nset b 0 0 1\r\nw\r\nget a b\r
 const SIX_REQUESTS: &[u8] =
     b"set a 0 0 1\r\nv\r\nset b 0 0 1 noreply\r\nw\r\nget a\r\ngets a\r\ndelete a\r\nquit\r\n";
 
-static FAULTS: [Row<'static>; 16] = [
+static FAULTS: [Row; 16] = [
     (
         TWO_SETS,
         Given {
@@ -397,13 +414,16 @@ static FAULTS: [Row<'static>; 16] = [
 
 #[test]
 fn faults_leave_what_was_done(rt: HostRuntime) {
-    are_rows(&rt, rt.alloc(), &FAULTS);
+    for (row, it) in FAULTS.iter().enumerate() {
+        is_row(&rt, rt.alloc(), row, STILL, it.0, it);
+    }
 }
 
-const CLOCK_FAULT: [Option<u64>; 3] = [None, Some(999), Some(999)];
+/// A clock that fails once.
+const CLOCK_FAULT: &[Option<u64>] = &[None, Some(999)];
 
 /// What a clock shows, and the service of a text with it.
-static READINGS: [([Option<u64>; 3], Row<'static>); 4] = [
+static READINGS: [(&[Option<u64>], Row); 4] = [
     (
         CLOCK_FAULT,
         (
@@ -439,7 +459,7 @@ static READINGS: [([Option<u64>; 3], Row<'static>); 4] = [
     ),
     // Each request takes one reading.
     (
-        [Some(100), Some(109), Some(110)],
+        &[Some(100), Some(109), Some(110)],
         (
             b"set k 0 10 1\r\nv\r\nget k k\r\nget k\r\n",
             AMPLE,
@@ -451,38 +471,29 @@ static READINGS: [([Option<u64>; 3], Row<'static>); 4] = [
     ),
 ];
 
-/// Asserts what the service of a text comes to with what its clock shows.
-fn is_at(rt: &impl Abort, alloc: Global, readings: [Option<u64>; 3], row: &Row) {
-    let mut clock = ListClock::new(must(rt, Vec::from_array(alloc, readings)));
-    is_row(rt, alloc, &mut clock, row);
-}
-
 #[test]
 fn takes_one_reading_for_each_request(rt: HostRuntime) {
-    for (readings, row) in &READINGS {
-        is_at(&rt, rt.alloc(), *readings, row);
+    for (row, (readings, it)) in READINGS.iter().enumerate() {
+        is_row(&rt, rt.alloc(), row, readings, it.0, it);
     }
 }
 
-/// Serves a set of sixteen bytes, one at a time, by a clock that shows these seconds.
-fn serve_slowly(rt: &impl Abort, alloc: Global, node: &mut CacheNode, seconds: &Cell<u64>) {
-    let given = Given {
-        length: 1,
-        turns: 20,
-        ..AMPLE
-    };
-    let input = b"set k 0 5 1\r\nv\r\n";
-    must(
-        rt,
-        serve_input(alloc, node, &mut Shown(seconds), seconds, input, given),
-    );
-}
+/// A set of sixteen bytes is served, one at a time, by a clock that shows a second more for each.
+const SLOWLY: Given = Given {
+    length: 1,
+    turns: 20,
+    ..AMPLE
+};
 
 /// The first byte of the request comes at 101. So it has arrived at 116.
 #[test]
 fn reads_the_clock_once_a_request_has_arrived(rt: HostRuntime) {
-    let key = must(&rt, key(rt.alloc(), b"k"));
     let mut node = must(&rt, CacheNode::new(rt.alloc(), 1));
-    serve_slowly(&rt, rt.alloc(), &mut node, &Cell::new(100));
-    holds(&rt, expiry(&node, &key) == Some(Some(121)));
+    let seconds = Cell::new(100);
+    let mut clock = Shown(&seconds);
+    let input = b"set k 0 5 1\r\nv\r\n";
+    let left = serve_pieces(rt.alloc(), &mut node, &mut clock, &seconds, input, SLOWLY);
+    is(&rt, 0, left.how, ENDED);
+    let key = must(&rt, Key::new(rt.alloc(), b"k"));
+    is(&rt, 1, expiry(&node, &key), Some(Some(121)));
 }

@@ -1,108 +1,103 @@
 //! What goes through to a device, and a device that fails.
-use super::{are, count_is, holds, repeated};
-use crate::tests::must;
+use super::{are, count_is, holds, is, repeated};
 use mr_text::{FailsAt, OverReader, OverWriter, ReadFault, Sink, Source};
 use std::alloc::Global;
 use std::io;
 use std::io::{Read, Write};
 use std::process::Abort;
 
-/// Asserts what a read comes to.
+/// Asserts what a read comes to, through the bound.
 fn reads<S: Source>(
     rt: &impl Abort,
+    row: usize,
     source: &mut S,
     buffer: &mut [u8],
     wanted: Result<usize, ReadFault>,
 ) {
-    holds(rt, source.read(buffer) == wanted);
+    is(rt, row, source.read(buffer), wanted);
 }
 
-/// Asserts whether a write fails.
-fn fails<S: Sink>(rt: &impl Abort, sink: &mut S, bytes: &[u8], wanted: bool) {
-    holds(rt, sink.write_all(bytes).is_err() == wanted);
+/// Asserts whether a write fails, through the bound.
+fn fails<S: Sink>(rt: &impl Abort, row: usize, sink: &mut S, bytes: &[u8], wanted: bool) {
+    holds(rt, row, sink.write_all(bytes).is_err(), wanted);
 }
 
-/// Asserts that of four reads of two bytes, out of five, this one fails alone.
-fn one_of_four_fails<S: Source>(rt: &impl Abort, source: &mut S, call: u64) {
-    let mut left: usize = 5;
-    for number in 1..5 {
-        if number == call {
-            reads(rt, source, &mut [0; 2], Err(ReadFault));
-        } else {
-            reads(rt, source, &mut [0; 2], Ok(left.min(2)));
-            left = left.saturating_sub(2);
-        }
+/// What a failing read comes to.
+const FAULT: Result<usize, ReadFault> = Err(ReadFault);
+
+/// What four reads of two bytes, out of five, come to where the one of this number is to fail.
+static READS: [[Result<usize, ReadFault>; 4]; 6] = [
+    [Ok(2), Ok(2), Ok(1), Ok(0)],
+    [FAULT, Ok(2), Ok(2), Ok(1)],
+    [Ok(2), FAULT, Ok(2), Ok(1)],
+    [Ok(2), Ok(2), FAULT, Ok(1)],
+    [Ok(2), Ok(2), Ok(1), FAULT],
+    [Ok(2), Ok(2), Ok(1), Ok(0)],
+];
+
+/// Asserts what four reads come to.
+fn read_in_turn<S: Source>(
+    rt: &impl Abort,
+    row: usize,
+    source: &mut S,
+    wanted: &[Result<usize, ReadFault>],
+) {
+    for it in wanted {
+        reads(rt, row, source, &mut [0; 2], *it);
     }
-}
-
-/// Asserts that of the reads of a source that is made to fail in one call this one fails alone.
-fn fails_reading(rt: &impl Abort, call: u64) {
-    let mut source = FailsAt::new(OverReader::new(b"abcde".as_slice()), call);
-    one_of_four_fails(rt, &mut source, call);
-}
-
-/// Asserts that a read leaves what stands behind it in the buffer.
-fn fills_the_front(rt: &impl Abort) {
-    let mut source = OverReader::new(b"abc".as_slice());
-    let mut buffer = [b'x'; 4];
-    reads(rt, &mut source, &mut buffer, Ok(3));
-    are(rt, &buffer, b"abcx");
 }
 
 #[test]
 fn one_read_fails(rt: HostRuntime) {
-    for call in 0..6 {
-        fails_reading(&rt, call);
-    }
-    fills_the_front(&rt);
-}
-
-/// Asserts that of four writes of a byte this one fails alone.
-fn one_byte_fails<S: Sink>(rt: &impl Abort, sink: &mut S, call: u64) {
-    let mut number: u64 = 0;
-    for byte in b"abcd" {
-        number = number.saturating_add(1);
-        fails(rt, sink, &[*byte], number == call);
+    for (row, it) in READS.iter().enumerate() {
+        let mut source = FailsAt::new(OverReader::new(b"abcde".as_slice()), row as u64);
+        read_in_turn(&rt, row, &mut source, it);
     }
 }
 
-/// Asserts that of the writes of a sink that is made to fail in one call this one fails alone, and what was written.
-fn fails_writing(rt: &impl Abort, alloc: Global, call: u64, held: &[u8]) {
-    let mut sink = FailsAt::new(OverWriter::new(Vec::new(alloc)), call);
-    one_byte_fails(rt, &mut sink, call);
-    are(rt, &sink.into_inner().into_inner(), held);
+#[test]
+fn a_read_leaves_what_stands_behind_it(rt: HostRuntime) {
+    let mut buffer = [b'x'; 4];
+    reads(
+        &rt,
+        0,
+        &mut OverReader::new(b"abc".as_slice()),
+        &mut buffer,
+        Ok(3),
+    );
+    are(&rt, 1, &buffer, b"abcx");
+}
+
+/// What is held of the bytes `abcd` where the write of this number is to fail.
+static WRITES: [&[u8]; 6] = [b"abcd", b"bcd", b"acd", b"abd", b"abc", b"abcd"];
+
+/// Asserts that of four writes of a byte the one of the row's number fails alone.
+fn write_in_turn<S: Sink>(rt: &impl Abort, row: usize, sink: &mut S) {
+    for (place, byte) in b"abcd".iter().enumerate() {
+        fails(rt, row, sink, &[*byte], place.saturating_add(1) == row);
+    }
 }
 
 #[test]
 fn one_write_fails(rt: HostRuntime) {
-    let alloc = rt.alloc();
-    fails_writing(&rt, alloc, 0, b"abcd");
-    fails_writing(&rt, alloc, 1, b"bcd");
-    fails_writing(&rt, alloc, 2, b"acd");
-    fails_writing(&rt, alloc, 4, b"abc");
-    fails_writing(&rt, alloc, 5, b"abcd");
+    for (row, held) in WRITES.iter().enumerate() {
+        let mut sink = FailsAt::new(OverWriter::new(Vec::new(rt.alloc())), row as u64);
+        write_in_turn(&rt, row, &mut sink);
+        are(&rt, row, &sink.into_inner().into_inner(), held);
+    }
 }
 
 /// A device of std that counts its calls, and keeps with how long a buffer it was called at last. One of its calls fails.
 #[derive(Clone, Copy)]
 struct Told {
     fails_at: usize,
+    /// How many bytes each read gives, or fewer in a shorter buffer.
     gives: usize,
     calls: usize,
     length: usize,
 }
 
 impl Told {
-    /// A device that wasn't called. Each read gives so many bytes, or fewer in a shorter buffer.
-    fn new(fails_at: usize, gives: usize) -> Told {
-        Told {
-            fails_at,
-            gives,
-            calls: 0,
-            length: 0,
-        }
-    }
-
     fn call(&mut self, length: usize) -> io::Result<()> {
         self.calls = self.calls.saturating_add(1);
         self.length = length;
@@ -131,68 +126,83 @@ impl Write for Told {
     }
 }
 
-/// Asserts how often the device was called, and with how long a buffer at last.
-fn was_called(rt: &impl Abort, device: Told, calls: usize, length: usize) {
-    count_is(rt, device.calls, calls);
-    count_is(rt, device.length, length);
+/// Devices that weren't called: one that gives all that there is room for, one that gives a byte, one at the end, and one
+/// that fails.
+static DEVICES: [Told; 4] = [
+    Told {
+        fails_at: 0,
+        gives: usize::MAX,
+        calls: 0,
+        length: 0,
+    },
+    Told {
+        fails_at: 0,
+        gives: 1,
+        calls: 0,
+        length: 0,
+    },
+    Told {
+        fails_at: 0,
+        gives: 0,
+        calls: 0,
+        length: 0,
+    },
+    Told {
+        fails_at: 1,
+        gives: 1,
+        calls: 0,
+        length: 0,
+    },
+];
+
+/// Asserts how often a device was called, and with how long a buffer at last.
+fn was_called(rt: &impl Abort, row: usize, device: &Told, calls: usize, length: usize) {
+    count_is(rt, row, device.calls, calls);
+    count_is(rt, row, device.length, length);
 }
 
-/// Asserts what a read of a new device comes to, and that it is one call of the device with the whole buffer.
-fn is_one_read(
-    rt: &impl Abort,
-    mut device: Told,
-    buffer: &mut [u8],
-    wanted: Result<usize, ReadFault>,
-) {
-    reads(rt, &mut OverReader::new(&mut device), buffer, wanted);
-    was_called(rt, device, 1, buffer.len());
+/// Asserts that a read with this buffer is one call of the device with the whole of it.
+fn is_one_read(rt: &impl Abort, row: usize, mut device: Told, buffer: &mut [u8]) {
+    let wanted = if device.fails_at == 1 {
+        FAULT
+    } else {
+        Ok(device.gives.min(buffer.len()))
+    };
+    reads(rt, row, &mut OverReader::new(&mut device), buffer, wanted);
+    was_called(rt, row, &device, 1, buffer.len());
 }
 
-/// Asserts that each read of this buffer is one call of the device with the whole buffer: one that gives all, one that
-/// fails, one that gives a byte, and one at the end.
-fn reads_go_through(rt: &impl Abort, buffer: &mut [u8]) {
-    let length = buffer.len();
-    is_one_read(rt, Told::new(0, length), buffer, Ok(length));
-    is_one_read(rt, Told::new(0, 1), buffer, Ok(1));
-    is_one_read(rt, Told::new(0, 0), buffer, Ok(0));
-    is_one_read(rt, Told::new(1, length), buffer, Err(ReadFault));
+/// Asserts that a write of these bytes is one call of the device with all of them.
+fn is_one_write(rt: &impl Abort, row: usize, mut device: Told, bytes: &[u8]) {
+    let wanted = device.fails_at == 1;
+    fails(rt, row, &mut OverWriter::new(&mut device), bytes, wanted);
+    was_called(rt, row, &device, 1, bytes.len());
 }
 
-/// Asserts whether a write to a new device fails, and that it is one call of the device with all the bytes.
-fn is_one_write(rt: &impl Abort, mut device: Told, bytes: &[u8], wanted: bool) {
-    fails(rt, &mut OverWriter::new(&mut device), bytes, wanted);
-    was_called(rt, device, 1, bytes.len());
-}
-
-/// Asserts that a write of these bytes is one call of the device with all of them, also where it fails.
-fn writes_go_through(rt: &impl Abort, bytes: &[u8]) {
-    is_one_write(rt, Told::new(0, 0), bytes, false);
-    is_one_write(rt, Told::new(1, 0), bytes, true);
-}
-
-#[test]
-fn one_read_is_one_call_of_the_device(rt: HostRuntime) {
-    for length in [1, 4, 4096, 65_536] {
-        reads_go_through(&rt, &mut must(&rt, repeated(rt.alloc(), b'x', length)));
+/// Asserts that each read with this buffer and each write of it goes through to the device, in one call.
+fn goes_through(rt: &impl Abort, buffer: &mut [u8]) {
+    for (row, device) in DEVICES.iter().enumerate() {
+        is_one_read(rt, row, *device, buffer);
+        is_one_write(rt, row, *device, buffer);
     }
 }
 
 #[test]
-fn one_write_is_one_call_of_the_device(rt: HostRuntime) {
+fn one_read_or_write_is_one_call_of_the_device(rt: HostRuntime) {
     for length in [1, 4, 4096, 65_536] {
-        writes_go_through(&rt, &must(&rt, repeated(rt.alloc(), b'x', length)));
+        goes_through(&rt, &mut repeated(&rt, rt.alloc(), b'x', length));
     }
 }
 
 /// Asserts that a read fails, and that the next one gives a byte.
 fn fails_once<S: Source>(rt: &impl Abort, source: &mut S) {
-    reads(rt, source, &mut [0; 4], Err(ReadFault));
-    reads(rt, source, &mut [0; 4], Ok(1));
+    reads(rt, 0, source, &mut [0; 4], FAULT);
+    reads(rt, 1, source, &mut [0; 4], Ok(1));
 }
 
 #[test]
 fn device_that_failed_is_called_again_only_when_asked(rt: HostRuntime) {
-    let mut device = Told::new(1, 1);
+    let mut device = DEVICES[3];
     fails_once(&rt, &mut OverReader::new(&mut device));
-    was_called(&rt, device, 2, 4);
+    was_called(&rt, 2, &device, 2, 4);
 }

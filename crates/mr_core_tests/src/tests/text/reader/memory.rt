@@ -42,10 +42,10 @@ fn next_is_written(reader: &mut Reader, sink: &mut OverWriter<Vec<u8>>) -> Resul
 }
 
 /// Feeds a reader, once more where memory was refused.
-fn feed(reader: &mut Reader, text: &[u8]) -> Result<(), Fail> {
+fn feed(reader: &mut Reader, text: &[u8]) -> Result<(), TextError> {
     match reader.feed(text) {
-        Err(TextError::OutOfMemory) => Ok(reader.feed(text)?),
-        fed => Ok(fed?),
+        Err(TextError::OutOfMemory) => reader.feed(text),
+        fed => fed,
     }
 }
 
@@ -58,40 +58,34 @@ fn roomy_sink(alloc: Global) -> Result<OverWriter<Vec<u8>>, AllocError> {
     Ok(OverWriter::new(bytes))
 }
 
-/// Asserts that a reader gives a text as it is written.
-fn gives_back(
-    rt: &impl Abort,
-    alloc: Global,
-    reader: &mut Reader,
-    text: &[u8],
-) -> Result<(), Fail> {
-    let mut sink = roomy_sink(alloc)?;
-    if !next_is_written(reader, &mut sink)? {
-        next_is_written(reader, &mut sink)?;
-    }
-    are(rt, &sink.into_inner(), text);
-    Ok(())
-}
-
-/// Asserts that a text is read as it is written, where one allocation may be refused.
-fn is_read(rt: &impl Abort, alloc: Global, texts: Texts, text: &[u8]) -> Result<(), Fail> {
+/// What a reader that is fed a text gives, as it is written.
+fn given(alloc: Global, texts: Texts, text: &[u8]) -> Result<Vec<u8>, Fail> {
     let mut reader = Reader::new(alloc, texts);
     feed(&mut reader, text)?;
-    gives_back(rt, alloc, &mut reader, text)
+    let mut sink = roomy_sink(alloc)?;
+    if !next_is_written(&mut reader, &mut sink)? {
+        next_is_written(&mut reader, &mut sink)?;
+    }
+    Ok(sink.into_inner())
 }
+
+/// Texts that are read as they are written.
+static TEXTS: [(Texts, &[u8]); 5] = [
+    (Texts::Requests, b"set k 5 0 1\r\nv\r\n"),
+    (Texts::Requests, b"get k b k\r\n"),
+    (Texts::Requests, b"delete k\r\n"),
+    (
+        Texts::Replies,
+        b"VALUE k 5 1\r\nv\r\nVALUE b 6 1\r\nw\r\nEND\r\n",
+    ),
+    (Texts::Replies, b"SERVER_ERROR later\r\n"),
+];
 
 /// In the gate no allocation is refused; `refused-memory` refuses each in turn.
 #[test]
 fn refused_memory_leaves_readers_as_they_were(rt: HostRuntime) -> Result<(), Fail> {
-    let alloc = rt.alloc();
-    is_read(&rt, alloc, Texts::Requests, b"set k 5 0 1\r\nv\r\n")?;
-    is_read(&rt, alloc, Texts::Requests, b"get k b k\r\n")?;
-    is_read(&rt, alloc, Texts::Requests, b"delete k\r\n")?;
-    is_read(
-        &rt,
-        alloc,
-        Texts::Replies,
-        b"VALUE k 5 1\r\nv\r\nVALUE b 6 1\r\nw\r\nEND\r\n",
-    )?;
-    is_read(&rt, alloc, Texts::Replies, b"SERVER_ERROR later\r\n")
+    for (row, (texts, text)) in TEXTS.iter().enumerate() {
+        are(&rt, row, &given(rt.alloc(), *texts, text)?, text);
+    }
+    Ok(())
 }

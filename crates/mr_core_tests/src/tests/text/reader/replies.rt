@@ -1,17 +1,9 @@
 //! Which replies lines and blocks say, and how others are refused.
-use super::reading::{gives_all, gives_at_end, gives_in_any_two};
-use super::{are, count_is, reading};
-use crate::tests::must;
-use mr_test_parts::{Texts, add_repeated, answers_in_two};
+use super::{LongRow, gives_all, gives_long, is};
+use crate::tests::{must, says};
+use mr_test_parts::Texts;
 use mr_text::{Cause, Reply, ReplyReader};
-use std::alloc::Global;
 use std::process::Abort;
-use std::test::Fail;
-
-/// Asserts what a reader answers to a text.
-fn gives(rt: &impl Abort, alloc: Global, text: &[u8], wanted: &[u8]) {
-    reading::gives(rt, alloc, Texts::Replies, text, wanted);
-}
 
 #[test]
 fn lines_say_replies(rt: HostRuntime) {
@@ -72,115 +64,102 @@ fn other_lines_are_refused_in_order(rt: HostRuntime) {
     gives_all(&rt, rt.alloc(), Texts::Replies, table);
 }
 
-/// A word for some causes.
-fn cause_word(cause: &Cause) -> &'static [u8] {
-    match cause {
-        Cause::BadKey => b"BadKey",
-        Cause::Busy => b"Busy",
-        Cause::Other(_) => b"Other",
-        _ => b"another cause",
+static LONG_TEXTS: [LongRow; 8] = [
+    // The text of an error has up to 8,179 bytes.
+    (
+        (b"SERVER_ERROR ", b"x", 8179, b"\r\n"),
+        b"",
+        false,
+        (b"SERVER_ERROR ", b"x", 8179, b"\r\n;"),
+    ),
+    (
+        (b"SERVER_ERROR ", b"x", 8180, b"\n"),
+        b"",
+        false,
+        (b"<1><9>", b"", 0, b""),
+    ),
+    (
+        (b"SERVER_ERROR ", b"x", 8180, b""),
+        b"",
+        false,
+        (b";", b"", 0, b""),
+    ),
+    (
+        (b"SERVER_ERROR ", b"x", 8181, b""),
+        b"",
+        false,
+        (b"<1><9>", b"", 0, b""),
+    ),
+    // A reply has up to 4,094 items.
+    (
+        (b"", b"VALUE k 0 0\r\n\r\n", 4094, b"END\r\n"),
+        b"",
+        false,
+        (b"", b"VALUE k 0 0\r\n\r\n", 4094, b"END\r\n;"),
+    ),
+    (
+        (b"", b"VALUE k 0 0\r\n\r\n", 4094, b"VALUE k 0 0\r\n"),
+        b"",
+        false,
+        (b"<4><9>", b"", 0, b""),
+    ),
+    (
+        (b"", b"VALUE k 0 0\r\n\r\n", 4094, b"VALUE \x01 x y\r\n"),
+        b"",
+        false,
+        (b"<4><9>", b"", 0, b""),
+    ),
+    (
+        (b"", b"VALUE k 0 0\r\n\r\n", 4094, b"VALUE k 0 0"),
+        b"",
+        false,
+        (b";", b"", 0, b""),
+    ),
+];
+
+#[test]
+fn long_texts_are_read_or_refused(rt: HostRuntime) {
+    for (row, it) in LONG_TEXTS.iter().enumerate() {
+        gives_long(&rt, rt.alloc(), row, Texts::Replies, it);
     }
 }
 
-/// Words for an error.
-fn error_words(reply: Option<Reply>) -> (&'static [u8], &'static [u8]) {
+/// A word for an error of a client, or of a server, with its cause.
+fn word_of(is_client: bool, cause: &Cause) -> &'static str {
+    match (is_client, cause) {
+        (true, Cause::BadKey) => "ClientError BadKey",
+        (false, Cause::BadKey) => "ServerError BadKey",
+        (true, Cause::Busy) => "ClientError Busy",
+        (false, Cause::Other(_)) => "ServerError Other",
+        _ => "another error",
+    }
+}
+
+/// A word for a reply.
+fn reply_word(reply: &Option<Reply>) -> &'static str {
     match reply {
-        Some(Reply::ClientError(cause)) => (b"ClientError", cause_word(&cause)),
-        Some(Reply::ServerError(cause)) => (b"ServerError", cause_word(&cause)),
-        _ => (b"no error", b""),
+        Some(Reply::ClientError(cause)) => word_of(true, cause),
+        Some(Reply::ServerError(cause)) => word_of(false, cause),
+        _ => "no error",
     }
 }
 
-/// Asserts which error the reader gives next.
-fn gives_error(rt: &impl Abort, reader: &mut ReplyReader, error: &[u8], cause: &[u8]) {
-    let (error_word, cause_word) = error_words(must(rt, reader.next()));
-    are(rt, error_word, error);
-    are(rt, cause_word, cause);
-}
-
-/// Asserts the four errors that a reader gives.
-fn gives_errors(rt: &impl Abort, reader: &mut ReplyReader) {
-    gives_error(rt, reader, b"ClientError", b"BadKey");
-    gives_error(rt, reader, b"ServerError", b"BadKey");
-    gives_error(rt, reader, b"ClientError", b"Busy");
-    gives_error(rt, reader, b"ServerError", b"Other");
-}
+/// Errors whose texts are those of causes or aren't.
+static ERRORS: [&str; 5] = [
+    "ClientError BadKey",
+    "ServerError BadKey",
+    "ClientError Busy",
+    "ServerError Other",
+    "no error",
+];
 
 #[test]
 fn named_texts_are_causes(rt: HostRuntime) {
     let mut reader = ReplyReader::new(rt.alloc());
-    must(
-        &rt,
-        reader.feed(
-            b"CLIENT_ERROR bad key\nSERVER_ERROR bad key\nCLIENT_ERROR busy\nSERVER_ERROR later\n",
-        ),
-    );
-    gives_errors(&rt, &mut reader);
-}
-
-/// An error with so many bytes of text.
-fn error_line(rt: &impl Abort, alloc: Global, count: usize, end: &[u8]) -> Vec<u8> {
-    let mut line = must(rt, Vec::from_slice(alloc, b"SERVER_ERROR "));
-    must(rt, add_repeated(&mut line, b'x', count));
-    must(rt, line.extend_from_slice(end));
-    line
-}
-
-/// Asserts how many bytes the answers to a text are shown in.
-fn gives_bytes(rt: &impl Abort, alloc: Global, text: &[u8], count: usize) {
-    let answers = must(
-        rt,
-        answers_in_two(alloc, Texts::Replies, (text, b""), false),
-    );
-    count_is(rt, answers.len(), count);
-}
-
-/// Asserts what a reader answers to an error with so many bytes of text.
-fn gives_text(rt: &impl Abort, alloc: Global, count: usize, end: &[u8], wanted: &[u8]) {
-    let line = error_line(rt, alloc, count, end);
-    gives(rt, alloc, &line, wanted);
-}
-
-#[test]
-fn error_text_has_8179_bytes(rt: HostRuntime) {
-    let alloc = rt.alloc();
-    gives_bytes(&rt, alloc, &error_line(&rt, alloc, 8179, b"\r\n"), 8195);
-    gives_text(&rt, alloc, 8180, b"\n", b"<1><9>");
-    gives_text(&rt, alloc, 8180, b"", b";");
-    gives_text(&rt, alloc, 8181, b"", b"<1><9>");
-}
-
-/// 4,094 items, and then a text.
-fn items_and(rt: &impl Abort, alloc: Global, last: &[u8]) -> Vec<u8> {
-    let mut text = Vec::new(alloc);
-    for _ in 0..4094 {
-        must(rt, text.extend_from_slice(b"VALUE k 0 0\r\n\r\n"));
+    let text =
+        b"CLIENT_ERROR bad key\nSERVER_ERROR bad key\nCLIENT_ERROR busy\nSERVER_ERROR later\n";
+    is(&rt, 0, reader.feed(text).err(), None);
+    for (row, it) in ERRORS.iter().enumerate() {
+        says(&rt, row, reply_word(&must(&rt, reader.next())), it);
     }
-    must(rt, text.extend_from_slice(last));
-    text
-}
-
-/// Asserts what a reader answers to 4,094 items and then a text.
-fn gives_behind_items(rt: &impl Abort, alloc: Global, last: &[u8], wanted: &[u8]) {
-    let text = items_and(rt, alloc, last);
-    gives(rt, alloc, &text, wanted);
-}
-
-#[test]
-fn reply_has_4094_items(rt: HostRuntime) {
-    let alloc = rt.alloc();
-    // Each item is written in 15 bytes, and a `;` follows where the reader waits.
-    gives_bytes(&rt, alloc, &items_and(&rt, alloc, b"END\r\n"), 61_416);
-    gives_behind_items(&rt, alloc, b"VALUE k 0 0\r\n", b"<4><9>");
-    gives_behind_items(&rt, alloc, b"VALUE \x01 x y\r\n", b"<4><9>");
-    gives_behind_items(&rt, alloc, b"VALUE k 0 0", b";");
-}
-
-#[test]
-fn item_is_read_in_any_pieces(rt: HostRuntime) {
-    let alloc = rt.alloc();
-    let text = b"VALUE k 5 4\r\na\r\nb\r\nEND\r\n";
-    let wanted = b"VALUE k 5 4\r\na\r\nb\r\nEND\r\n;";
-    gives_in_any_two(&rt, alloc, Texts::Replies, text, wanted);
-    gives_at_end(&rt, alloc, Texts::Replies, b"", b";");
 }

@@ -1,17 +1,6 @@
 //! Which requests lines say, and how other lines are refused.
-use super::reading::{gives_all, gives_at_end, gives_in_two};
-use super::{count_is, holds, is_refused, reading};
-use crate::tests::must;
-use mr_test_parts::{Texts, add_repeated, repeated_keys};
-use mr_text::{KeyList, TextError};
-use std::alloc::Global;
-use std::process::Abort;
-use std::test::Fail;
-
-/// Asserts what a reader answers to a text.
-fn gives(rt: &impl Abort, alloc: Global, text: &[u8], wanted: &[u8]) {
-    reading::gives(rt, alloc, Texts::Requests, text, wanted);
-}
+use super::{LongRow, gives_all, gives_long};
+use mr_test_parts::Texts;
 
 #[test]
 fn lines_say_requests(rt: HostRuntime) {
@@ -107,97 +96,94 @@ fn block_needs_its_end(rt: HostRuntime) {
     gives_all(&rt, rt.alloc(), Texts::Requests, table);
 }
 
+static LONG_TEXTS: [LongRow; 13] = [
+    // A line of 8,192 bytes is read, and none that is longer.
+    (
+        (b"get k", b" ", 8187, b"\n"),
+        b"",
+        false,
+        (b"get k\r\n;", b"", 0, b""),
+    ),
+    (
+        (b"get k", b" ", 8187, b"\r\n"),
+        b"",
+        false,
+        (b"get k\r\n;", b"", 0, b""),
+    ),
+    (
+        (b"get k", b" ", 8188, b"\n"),
+        b"",
+        false,
+        (b"<1><9>", b"", 0, b""),
+    ),
+    (
+        (b"get k", b" ", 8188, b"\r\n"),
+        b"",
+        false,
+        (b"<1><9>", b"", 0, b""),
+    ),
+    // A line without its end is refused once it has 8,194 bytes.
+    (
+        (b"get k", b" ", 8187, b"x"),
+        b"",
+        false,
+        (b";", b"", 0, b""),
+    ),
+    (
+        (b"get k", b" ", 8187, b"x"),
+        b"",
+        true,
+        (b"<8><9>", b"", 0, b""),
+    ),
+    (
+        (b"get k", b" ", 8187, b"x"),
+        b"x",
+        false,
+        (b"<1><9>", b"", 0, b""),
+    ),
+    (
+        (b"get k", b" ", 8187, b"\r"),
+        b"",
+        false,
+        (b";", b"", 0, b""),
+    ),
+    (
+        (b"get k", b" ", 9995, b""),
+        b"",
+        false,
+        (b"<1><9>", b"", 0, b""),
+    ),
+    // A line has room for 4,094 keys.
+    (
+        (b"get", b" k", 4094, b"\r\n"),
+        b"",
+        false,
+        (b"get", b" k", 4094, b"\r\n;"),
+    ),
+    (
+        (b"get", b" k", 4095, b"\r\n"),
+        b"",
+        false,
+        (b"<1><9>", b"", 0, b""),
+    ),
+    // A key has up to 250 bytes.
+    (
+        (b"get ", b"x", 250, b"\r\n"),
+        b"",
+        false,
+        (b"get ", b"x", 250, b"\r\n;"),
+    ),
+    (
+        (b"get ", b"x", 251, b"\r\nget k\r\n"),
+        b"",
+        false,
+        (b"<2><9>", b"", 0, b""),
+    ),
+];
+
 #[test]
-fn key_of_251_bytes_is_refused(rt: HostRuntime) {
-    let alloc = rt.alloc();
-    let mut line = must(&rt, Vec::from_slice(alloc, b"get "));
-    must(&rt, add_repeated(&mut line, b'x', 251));
-    must(&rt, line.extend_from_slice(b"\r\nget k\r\n"));
-    gives(&rt, alloc, &line, b"<2><9>");
-}
-
-/// A line of `get k` and so many spaces.
-fn spaced_line(rt: &impl Abort, alloc: Global, spaces: usize, end: &[u8]) -> Vec<u8> {
-    let mut line = must(rt, Vec::from_slice(alloc, b"get k"));
-    must(rt, add_repeated(&mut line, b' ', spaces));
-    must(rt, line.extend_from_slice(end));
-    line
-}
-
-/// Asserts what a reader answers to a line of `get k` and so many spaces.
-fn gives_spaced(rt: &impl Abort, alloc: Global, spaces: usize, end: &[u8], wanted: &[u8]) {
-    let line = spaced_line(rt, alloc, spaces, end);
-    gives(rt, alloc, &line, wanted);
-}
-
-#[test]
-fn line_of_8192_bytes_is_read(rt: HostRuntime) {
-    let alloc = rt.alloc();
-    gives_spaced(&rt, alloc, 8187, b"\n", b"get k\r\n;");
-    gives_spaced(&rt, alloc, 8187, b"\r\n", b"get k\r\n;");
-    gives_spaced(&rt, alloc, 8188, b"\n", b"<1><9>");
-    gives_spaced(&rt, alloc, 8188, b"\r\n", b"<1><9>");
-}
-
-/// Asserts what a reader answers to 8,193 bytes without a line end, and to one more.
-fn gives_long(rt: &impl Abort, alloc: Global, line: &[u8]) {
-    gives(rt, alloc, line, b";");
-    gives_at_end(rt, alloc, Texts::Requests, line, b"<8><9>");
-    gives_in_two(rt, alloc, Texts::Requests, (line, b"x"), b"<1><9>");
-}
-
-#[test]
-fn line_without_end_is_refused_at_8194_bytes(rt: HostRuntime) {
-    let alloc = rt.alloc();
-    let line = spaced_line(&rt, alloc, 8187, b"x");
-    gives_long(&rt, alloc, &line);
-    gives_spaced(&rt, alloc, 8187, b"\r", b";");
-    gives_spaced(&rt, alloc, 9995, b"", b"<1><9>");
-}
-
-/// Adds the line of a get of so many keys `k`, and another end.
-fn add_keys(line: &mut Vec<u8>, count: usize, end: &[u8]) -> Result<(), Fail> {
-    line.extend_from_slice(b"get")?;
-    for _ in 0..count {
-        line.extend_from_slice(b" k")?;
+fn long_texts_are_read_or_refused(rt: HostRuntime) {
+    for (row, it) in LONG_TEXTS.iter().enumerate() {
+        gives_long(&rt, rt.alloc(), row, Texts::Requests, it);
     }
-    line.extend_from_slice(end)?;
-    Ok(())
-}
-
-fn line_of_keys(rt: &impl Abort, alloc: Global, count: usize, end: &[u8]) -> Vec<u8> {
-    let mut line = Vec::new(alloc);
-    must(rt, add_keys(&mut line, count, end));
-    line
-}
-
-/// What a list of so many keys is refused with.
-fn keys_refusal(rt: &impl Abort, alloc: Global, count: usize) -> Option<TextError> {
-    let keys = must(rt, repeated_keys(alloc, b"k", count));
-    KeyList::new(keys).err()
-}
-
-/// Asserts what a reader answers to a get of so many keys.
-fn gives_keys(rt: &impl Abort, alloc: Global, count: usize, wanted: &[u8]) {
-    let line = line_of_keys(rt, alloc, count, b"\r\n");
-    gives(rt, alloc, &line, wanted);
-}
-
-#[test]
-fn get_of_4094_keys_is_read(rt: HostRuntime) {
-    count_is(
-        &rt,
-        line_of_keys(&rt, rt.alloc(), 4094, b"\r\n").len(),
-        8193,
-    );
-    let wanted = line_of_keys(&rt, rt.alloc(), 4094, b"\r\n;");
-    gives_keys(&rt, rt.alloc(), 4094, &wanted);
-    holds(&rt, keys_refusal(&rt, rt.alloc(), 4094).is_none());
-}
-
-#[test]
-fn get_of_4095_keys_is_refused(rt: HostRuntime) {
-    gives_keys(&rt, rt.alloc(), 4095, b"<1><9>");
-    let refusal = keys_refusal(&rt, rt.alloc(), 4095);
-    is_refused(&rt, refusal, TextError::LineTooLong);
 }

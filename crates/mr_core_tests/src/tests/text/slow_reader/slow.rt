@@ -1,27 +1,21 @@
-//! Slow readers of requests and replies by the tables of the text.
+//! Slow readers of requests and replies by the tables of the text. They take no answer back from a call that wants
+//! memory: where it is refused, an answer is too short, and the test that compares it fails.
 mod replies;
 mod requests;
 
-use crate::tests::must;
 use mr_test_parts::Texts;
-use std::alloc::Global;
-use std::process::Abort;
-use std::test::Fail;
+
+/// Adds a text.
+fn add(answer: &mut Vec<u8>, text: &[u8]) {
+    let _ = answer.extend_from_slice(text);
+}
 
 /// Puts this in place of what was added since the answer had this length, and reads nothing: the reader is closed, or
 /// nothing is whole yet.
-fn stops(answer: &mut Vec<u8>, start: usize, mark: &[u8]) -> Result<usize, Fail> {
+fn stops(answer: &mut Vec<u8>, start: usize, mark: &[u8]) -> usize {
     answer.truncate(start);
-    answer.extend_from_slice(mark)?;
-    Ok(0)
-}
-
-/// Adds these texts.
-fn add_all(answer: &mut Vec<u8>, texts: &[&[u8]]) -> Result<(), Fail> {
-    for text in texts {
-        answer.extend_from_slice(text)?;
-    }
-    Ok(())
+    add(answer, mark);
+    0
 }
 
 fn is_word(word: &[u8], wanted: &[u8]) -> bool {
@@ -38,12 +32,60 @@ fn is_one_of(word: &[u8], others: &[&[u8]]) -> bool {
     false
 }
 
+/// How many bytes a line begins with that are spaces, or that are none.
+fn count_front(line: &[u8], are_spaces: bool) -> usize {
+    let mut count: usize = 0;
+    for byte in line {
+        if (*byte == b' ') != are_spaces {
+            break;
+        }
+        count = count.saturating_add(1);
+    }
+    count
+}
+
+/// What stands behind so many bytes.
+fn behind(bytes: &[u8], count: usize) -> &[u8] {
+    bytes.get(count..).unwrap_or(b"")
+}
+
+/// The first word of a line, empty where there is none.
+fn first_word(line: &[u8]) -> &[u8] {
+    let rest = behind(line, count_front(line, true));
+    rest.get(..count_front(rest, false)).unwrap_or(b"")
+}
+
+/// What stands behind the first word of a line.
+fn behind_word(line: &[u8]) -> &[u8] {
+    let rest = behind(line, count_front(line, true));
+    behind(rest, count_front(rest, false))
+}
+
+/// The word at a place, empty where there is none.
+fn word_at(line: &[u8], place: usize) -> &[u8] {
+    let mut rest = line;
+    for _ in 0..place {
+        rest = behind_word(rest);
+    }
+    first_word(rest)
+}
+
+/// How many words a line has, sixteen at most.
+fn count_words(line: &[u8]) -> usize {
+    for place in 0..16 {
+        if word_at(line, place).is_empty() {
+            return place;
+        }
+    }
+    16
+}
+
 /// The mark of a line that has not so many words, or no key behind the first; nothing for a good one.
-fn words_mark(words: &[&[u8]], count: usize) -> &'static [u8] {
-    if words.len() != count {
+fn words_mark(line: &[u8], count: usize) -> &'static [u8] {
+    if count_words(line) != count {
         return b"<4><9>";
     }
-    if is_key(word_at(words, 1)) {
+    if is_key(word_at(line, 1)) {
         b""
     } else {
         b"<2><9>"
@@ -51,21 +93,29 @@ fn words_mark(words: &[&[u8]], count: usize) -> &'static [u8] {
 }
 
 fn is_key(word: &[u8]) -> bool {
-    let is_short = !word.is_empty() && word.len() <= 250;
-    is_short && word.iter().all(|byte| *byte > 32 && *byte != 127)
+    for byte in word {
+        if *byte <= 32 || *byte == 127 {
+            return false;
+        }
+    }
+    !word.is_empty() && word.len() <= 250
 }
 
 fn is_number(word: &[u8]) -> bool {
-    !word.is_empty() && word.iter().all(|byte| *byte >= b'0' && *byte <= b'9')
+    for byte in word {
+        if *byte < b'0' || *byte > b'9' {
+            return false;
+        }
+    }
+    !word.is_empty()
 }
 
 /// The digits without leading zeros.
 fn without_zeros(digits: &[u8]) -> &[u8] {
     let mut rest = digits;
-    for _ in 0..digits.len() {
-        match rest.split_first() {
-            Some((b'0', others)) if !others.is_empty() => rest = others,
-            _ => break,
+    for _ in 1..digits.len() {
+        if let Some((b'0', others)) = rest.split_first() {
+            rest = others;
         }
     }
     rest
@@ -79,32 +129,15 @@ fn is_at_most(digits: &[u8], greatest: &[u8]) -> bool {
     digits.len() < greatest.len()
 }
 
-/// Adds a space and the number as it is written, and says whether the word is one.
-fn add_number(text: &mut Vec<u8>, word: &[u8], greatest: &[u8]) -> Result<bool, Fail> {
+/// Adds this and the number as it is written, and says whether the word is one.
+fn add_number(text: &mut Vec<u8>, front: &[u8], word: &[u8], greatest: &[u8]) -> bool {
     let digits = without_zeros(word);
     if !is_number(word) || !is_at_most(digits, greatest) {
-        return Ok(false);
+        return false;
     }
-    add_all(text, &[b" ", digits])?;
-    Ok(true)
-}
-
-/// The same of a number that may have a sign.
-fn add_signed(text: &mut Vec<u8>, word: &[u8]) -> Result<bool, Fail> {
-    let Some((b'-', size)) = word.split_first() else {
-        return add_number(text, word, b"9223372036854775807");
-    };
-    let digits = without_zeros(size);
-    if !is_number(size) || !is_at_most(digits, b"9223372036854775808") {
-        return Ok(false);
-    }
-    let sign = if is_word(digits, b"0") {
-        b" ".as_slice()
-    } else {
-        b" -"
-    };
-    add_all(text, &[sign, digits])?;
-    Ok(true)
+    add(text, front);
+    add(text, digits);
+    true
 }
 
 fn value_of(word: &[u8]) -> usize {
@@ -116,131 +149,71 @@ fn value_of(word: &[u8]) -> usize {
     value
 }
 
-fn words_of<'a>(alloc: Global, line: &'a [u8]) -> Result<Vec<&'a [u8]>, Fail> {
-    let mut words = Vec::new(alloc);
-    let mut start: usize = 0;
-    let mut place: usize = 0;
-    for byte in line {
-        if *byte == b' ' {
-            add_word(&mut words, line, start, place)?;
-            start = place.saturating_add(1);
-        }
-        place = place.saturating_add(1);
-    }
-    add_word(&mut words, line, start, place)?;
-    Ok(words)
-}
-
-/// Adds what stands between two places, unless nothing does.
-fn add_word<'a>(
-    words: &mut Vec<&'a [u8]>,
-    line: &'a [u8],
-    start: usize,
-    end: usize,
-) -> Result<(), Fail> {
-    let word = line.get(start..end).unwrap_or(b"");
-    if !word.is_empty() {
-        words.push(word)?;
-    }
-    Ok(())
-}
-
-/// The word at a place, or none.
-fn word_at<'a>(words: &[&'a [u8]], place: usize) -> &'a [u8] {
-    match words.get(place) {
-        Some(word) => word,
-        None => b"",
-    }
-}
-
 /// Whether the byte at this place is a wrong end of a block that ends here.
 fn is_wrong_end(byte: u8, place: usize, end: usize) -> bool {
     (place == end && byte != b'\r') || (place > end && byte != b'\n')
 }
 
 /// Adds the block that follows this line, of which is told how it was written since the answer had the length `start`.
-fn add_block(
-    answer: &mut Vec<u8>,
-    start: usize,
-    bytes: &[u8],
-    line: usize,
-    size: usize,
-) -> Result<usize, Fail> {
+fn add_block(answer: &mut Vec<u8>, start: usize, bytes: &[u8], line: usize, size: usize) -> usize {
     if size > 8192 {
         return stops(answer, start, b"<5><9>");
     }
     let end = line.saturating_add(size);
-    let mut place: usize = 0;
-    for byte in bytes {
+    for (place, byte) in bytes.iter().enumerate() {
         if place >= line {
-            answer.push(*byte)?;
+            add(answer, &[*byte]);
         }
         if is_wrong_end(*byte, place, end) {
             return stops(answer, start, b"<6><9>");
         }
-        place = place.saturating_add(1);
-        if place > end.saturating_add(1) {
-            return Ok(place);
+        if place > end {
+            return place.saturating_add(1);
         }
     }
     stops(answer, start, b"")
 }
 
-/// The first line of some bytes.
-#[derive(Clone, Copy)]
-enum FirstLine<'a> {
-    /// Its end isn't there yet.
-    Waits,
-    TooLong,
-    /// Without its end, and how many bytes it has with it.
-    Whole(&'a [u8], usize),
-}
-
-fn first_line(bytes: &[u8]) -> FirstLine<'_> {
-    let mut place: usize = 0;
-    for byte in bytes {
+/// The first line of some bytes without its end, and how many bytes it has with it; else a mark: of a line that is too
+/// long, or nothing where its end isn't there yet.
+fn first_line(bytes: &[u8]) -> Result<(&[u8], usize), &'static [u8]> {
+    for (place, byte) in bytes.iter().enumerate() {
         if *byte == b'\n' {
             return whole_line(bytes.get(..place).unwrap_or(b""));
         }
-        place = place.saturating_add(1);
     }
-    if place < 8194 {
-        FirstLine::Waits
+    if bytes.len() < 8194 {
+        Err(b"")
     } else {
-        FirstLine::TooLong
+        Err(b"<1><9>")
     }
 }
 
 /// The line of these bytes before a line feed.
-fn whole_line(bytes: &[u8]) -> FirstLine<'_> {
+fn whole_line(bytes: &[u8]) -> Result<(&[u8], usize), &'static [u8]> {
     let line = match bytes {
         [front @ .., b'\r'] => front,
         _ => bytes,
     };
     if line.len() > 8192 {
-        return FirstLine::TooLong;
+        return Err(b"<1><9>");
     }
-    FirstLine::Whole(line, bytes.len().saturating_add(1))
+    Ok((line, bytes.len().saturating_add(1)))
 }
 
 /// Adds what the front of some bytes is answered, and gives how many bytes are read with it: none where nothing is whole
 /// yet, or where the reader is closed.
-fn add_front(
-    alloc: Global,
-    texts: Texts,
-    bytes: &[u8],
-    answer: &mut Vec<u8>,
-) -> Result<usize, Fail> {
-    let start = answer.len();
+fn add_front(texts: Texts, bytes: &[u8], answer: &mut Vec<u8>) -> usize {
     let (line, length) = match first_line(bytes) {
-        FirstLine::Waits => return stops(answer, start, b""),
-        FirstLine::TooLong => return stops(answer, start, b"<1><9>"),
-        FirstLine::Whole(line, length) => (line, length),
+        Ok(whole) => whole,
+        Err(mark) => {
+            add(answer, mark);
+            return 0;
+        }
     };
-    let words = words_of(alloc, line)?;
     match texts {
-        Texts::Requests => requests::add_front(&words, bytes, length, answer),
-        Texts::Replies => replies::add_front(alloc, line, &words, bytes, length, answer),
+        Texts::Requests => requests::add_front(line, bytes, length, answer),
+        Texts::Replies => replies::add_front(line, bytes, length, answer),
     }
 }
 
@@ -250,23 +223,17 @@ fn last_mark(rest: &[u8]) -> &'static [u8] {
 }
 
 /// Adds the answers of a reader of these bytes and then the end of the input, as the real one's are shown.
-pub(super) fn add_slow_answers(
-    rt: &impl Abort,
-    alloc: Global,
-    texts: Texts,
-    bytes: &[u8],
-    answers: &mut Vec<u8>,
-) {
+pub(super) fn add_slow_answers(texts: Texts, bytes: &[u8], answers: &mut Vec<u8>) {
     let mut rest = bytes;
     for _ in 0..16 {
         let before = answers.len();
-        let length = must(rt, add_front(alloc, texts, rest, answers));
+        let length = add_front(texts, rest, answers);
         if length == 0 {
             if answers.len() == before {
-                must(rt, answers.extend_from_slice(last_mark(rest)));
+                add(answers, last_mark(rest));
             }
             break;
         }
-        rest = rest.get(length..).unwrap_or(b"");
+        rest = behind(rest, length);
     }
 }

@@ -1,42 +1,35 @@
-//! A slow reader of requests by the tables of the text, and the real one beside it.
+//! A slow reader of requests by the tables of the text.
 use super::{
-    add_all, add_block, add_number, add_signed, is_key, is_one_of, is_word, stops, value_of,
-    word_at, words_mark,
+    add, add_block, add_number, count_words, is_key, is_one_of, is_word, stops, value_of,
+    without_zeros, word_at, words_mark,
 };
-use crate::tests::text::slow_reader::agreement::{agree_on_all, agree_on_spaces};
-use mr_test_parts::Texts;
-use std::test::Fail;
 
-/// Whether each of the words but the first is a key.
-fn are_keys(words: &[&[u8]]) -> bool {
-    for key in words.get(1..).unwrap_or(&[]) {
-        if !is_key(key) {
-            return false;
+/// Adds a get of the words but the first, and gives the mark of a line that is none.
+fn add_keys(line: &[u8], answer: &mut Vec<u8>) -> &'static [u8] {
+    let count = count_words(line);
+    if count < 2 {
+        return b"<4><9>";
+    }
+    add(answer, b"get");
+    for place in 1..count {
+        if !is_key(word_at(line, place)) {
+            return b"<2><9>";
         }
+        add(answer, b" ");
+        add(answer, word_at(line, place));
     }
-    true
+    add(answer, b"\r\n");
+    b""
 }
 
-/// Adds a get of the words but the first.
-fn add_keys(words: &[&[u8]], answer: &mut Vec<u8>) -> Result<(), Fail> {
-    answer.extend_from_slice(b"get")?;
-    for key in words.get(1..).unwrap_or(&[]) {
-        add_all(answer, &[b" ", key])?;
-    }
-    answer.extend_from_slice(b"\r\n")?;
-    Ok(())
-}
-
-fn add_get(words: &[&[u8]], length: usize, answer: &mut Vec<u8>) -> Result<usize, Fail> {
+fn add_get(line: &[u8], length: usize, answer: &mut Vec<u8>) -> usize {
     let start = answer.len();
-    if words.len() < 2 {
-        return stops(answer, start, b"<4><9>");
+    let mark = add_keys(line, answer);
+    if mark.is_empty() {
+        length
+    } else {
+        stops(answer, start, mark)
     }
-    if !are_keys(words) {
-        return stops(answer, start, b"<2><9>");
-    }
-    add_keys(words, answer)?;
-    Ok(length)
 }
 
 /// The end of a line that is written.
@@ -48,118 +41,90 @@ fn line_end(has_noreply: bool) -> &'static [u8] {
     }
 }
 
-fn add_delete(words: &[&[u8]], length: usize, answer: &mut Vec<u8>) -> Result<usize, Fail> {
-    let start = answer.len();
-    let has_zero = is_word(word_at(words, 2), b"0");
-    let last = word_at(words, 2 + usize::from(has_zero));
-    let has_noreply = is_word(last, b"noreply");
-    let mark = words_mark(words, 2 + usize::from(has_zero) + usize::from(has_noreply));
+fn add_delete(line: &[u8], length: usize, answer: &mut Vec<u8>) -> usize {
+    let has_zero = is_word(word_at(line, 2), b"0");
+    let last = 2 + usize::from(has_zero);
+    let has_noreply = is_word(word_at(line, last), b"noreply");
+    let mark = words_mark(line, last + usize::from(has_noreply));
     if !mark.is_empty() {
-        return stops(answer, start, mark);
+        add(answer, mark);
+        return 0;
     }
-    add_all(answer, &[b"delete ", word_at(words, 1)])?;
-    answer.extend_from_slice(line_end(has_noreply))?;
-    Ok(length)
+    add(answer, b"delete ");
+    add(answer, word_at(line, 1));
+    add(answer, line_end(has_noreply));
+    length
+}
+
+/// Adds a space and a number that may have a sign, as it is written, and says whether the word is one.
+fn add_signed(answer: &mut Vec<u8>, word: &[u8]) -> bool {
+    let Some((b'-', size)) = word.split_first() else {
+        return add_number(answer, b" ", word, b"9223372036854775807");
+    };
+    if is_word(without_zeros(size), b"0") {
+        return add_number(answer, b" ", size, b"0");
+    }
+    add_number(answer, b" -", size, b"9223372036854775808")
 }
 
 /// Adds the numbers of a set, and says whether all are.
-fn add_numbers(words: &[&[u8]], answer: &mut Vec<u8>) -> Result<bool, Fail> {
-    let is_good = add_number(answer, word_at(words, 2), b"4294967295")?
-        && add_signed(answer, word_at(words, 3))?
-        && add_number(answer, word_at(words, 4), b"18446744073709551615")?;
-    Ok(is_good)
+fn add_numbers(line: &[u8], answer: &mut Vec<u8>) -> bool {
+    add_number(answer, b" ", word_at(line, 2), b"4294967295")
+        && add_signed(answer, word_at(line, 3))
+        && add_number(answer, b" ", word_at(line, 4), b"18446744073709551615")
 }
 
-fn add_set(
-    words: &[&[u8]],
-    bytes: &[u8],
-    line: usize,
-    answer: &mut Vec<u8>,
-) -> Result<usize, Fail> {
+fn add_set(line: &[u8], bytes: &[u8], length: usize, answer: &mut Vec<u8>) -> usize {
     let start = answer.len();
-    let has_noreply = is_word(word_at(words, 5), b"noreply");
-    let mark = words_mark(words, 5 + usize::from(has_noreply));
+    let has_noreply = is_word(word_at(line, 5), b"noreply");
+    let mark = words_mark(line, 5 + usize::from(has_noreply));
     if !mark.is_empty() {
         return stops(answer, start, mark);
     }
-    add_all(answer, &[b"set ", word_at(words, 1)])?;
-    if !add_numbers(words, answer)? {
+    add(answer, b"set ");
+    add(answer, word_at(line, 1));
+    if !add_numbers(line, answer) {
         return stops(answer, start, b"<3><9>");
     }
-    answer.extend_from_slice(line_end(has_noreply))?;
-    add_block(answer, start, bytes, line, value_of(word_at(words, 4)))
+    add(answer, line_end(has_noreply));
+    add_block(answer, start, bytes, length, value_of(word_at(line, 4)))
 }
 
 /// Commands that close the reader.
 const CLOSING: [&[u8]; 5] = [b"add", b"replace", b"append", b"prepend", b"cas"];
 
-/// Adds what a line of another command than get, set and delete is answered.
-fn add_other(words: &[&[u8]], line: usize, answer: &mut Vec<u8>) -> Result<usize, Fail> {
-    let start = answer.len();
-    let command = word_at(words, 0);
-    if is_word(command, b"quit") {
-        let mark = if words.len() == 1 {
-            b"quit\r\n<9>".as_slice()
-        } else {
-            b"<4><9>"
-        };
-        return stops(answer, start, mark);
-    }
+/// The mark of a line of another command than get, set and delete.
+fn other_mark(line: &[u8]) -> &'static [u8] {
+    let command = word_at(line, 0);
     if is_one_of(command, &CLOSING) {
-        return stops(answer, start, b"<7 closes><9>");
+        b"<7 closes><9>"
+    } else if !is_word(command, b"quit") {
+        b"<7>"
+    } else if count_words(line) == 1 {
+        b"quit\r\n<9>"
+    } else {
+        b"<4><9>"
     }
-    answer.extend_from_slice(b"<7>")?;
-    Ok(line)
 }
 
-/// Adds what the front of the bytes is answered, of which the line of these words is the first.
-pub(super) fn add_front(
-    words: &[&[u8]],
-    bytes: &[u8],
-    line: usize,
-    answer: &mut Vec<u8>,
-) -> Result<usize, Fail> {
-    let command = word_at(words, 0);
+/// Adds what such a line is answered.
+fn add_other(line: &[u8], length: usize, answer: &mut Vec<u8>) -> usize {
+    let mark = other_mark(line);
+    add(answer, mark);
+    if is_word(mark, b"<7>") { length } else { 0 }
+}
+
+/// Adds what the front of the bytes is answered, of which this line is the first.
+pub(super) fn add_front(line: &[u8], bytes: &[u8], length: usize, answer: &mut Vec<u8>) -> usize {
+    let command = word_at(line, 0);
     if is_word(command, b"get") {
-        return add_get(words, line, answer);
+        return add_get(line, length, answer);
     }
     if is_word(command, b"set") {
-        return add_set(words, bytes, line, answer);
+        return add_set(line, bytes, length, answer);
     }
     if is_word(command, b"delete") {
-        return add_delete(words, line, answer);
+        return add_delete(line, length, answer);
     }
-    add_other(words, line, answer)
-}
-
-#[test]
-fn readers_agree_on_lines(rt: HostRuntime) {
-    let texts = b"get k\r\n|\
-        \x20get  k b\r\r\nquit\n|\
-        get k 0 noreply\nget\n|\
-        delete k 0 noreply\r\n|\
-        delete noreply\r\n\r\nget k\r\n|\
-        delete k 0\nquit\nget k\n|\
-        cas k 0 0 1 5\r\n|\
-        append k\r\nadds k\nquit\r\n|";
-    agree_on_all(&rt, rt.alloc(), Texts::Requests, texts);
-}
-
-#[test]
-fn readers_agree_on_blocks(rt: HostRuntime) {
-    let texts = b"set k 5 0 4\r\na\r\nb\r\n|\
-        set k 4294967295 -0 1 noreply\nv\r\n|\
-        set k 0 0 0\r\n\r\nget k\r\n|\
-        set k 00 -9223372036854775808 01\n\n\r\n|\
-        set 0 0 9223372036854775807 8192\n|\
-        set k 0 0 18446744073709551615\r\n|";
-    agree_on_all(&rt, rt.alloc(), Texts::Requests, texts);
-}
-
-#[test]
-fn readers_agree_on_long_lines(rt: HostRuntime) {
-    // Beside the spaces the line has 5 bytes.
-    for spaces in 8185..8191 {
-        agree_on_spaces(&rt, rt.alloc(), Texts::Requests, b"get k", spaces);
-    }
+    add_other(line, length, answer)
 }
