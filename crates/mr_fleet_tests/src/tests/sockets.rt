@@ -1,8 +1,6 @@
 //! Nodes, proxies and clients on sockets of this machine. Each listener takes a free port, and the routing is made of the
 //! names; its hash is the sum of a key's bytes, and the migration starts at 1000 with an interval of 100 seconds.
-mod clients;
 mod connections;
-mod crowd;
 mod fleet;
 
 ghost use Rattle.mr_proxy.specs.ProxyView.{IsFresh};
@@ -150,21 +148,4 @@ fn rest_of<S: Read + OpenStream + Drop>(alloc: Global, mut stream: S) -> io::Res
     let mut answers = Vec::new(alloc);
     stream.read_to_end(&mut answers)?;
     Ok(answers)
-}
-
-/// A connection over which half a request was sent.
-fn half_asked<N: Net>(net: &N, address: SocketAddr, half: &[u8]) -> io::Result<N::Stream> {
-    let mut stream = connected(net, address)?;
-    stream.write_all(half)?;
-    Ok(stream)
-}
-
-/// What is answered over it once the other half is sent too.
-fn asked_whole<S: Read + Write + OpenStream + Drop>(
-    alloc: Global,
-    mut stream: S,
-    half: &[u8],
-) -> io::Result<Vec<u8>> {
-    stream.write_all(half)?;
-    rest_of(alloc, stream)
 }
