@@ -85,6 +85,7 @@ fn places(rt: &impl Abort, row: usize, routing: &Routing, key: &Key, it: &Row) {
 fn is_kept(rt: &impl Abort, row: usize, sum: &Routing, fnv: &Routing, key: &Key, it: &Row) {
     has_spots(rt, row, key, it);
     places(rt, row, sum, key, it);
+    is(rt, row, fnv.hash(), NamedHash::Fnv);
     count_is(rt, row, fnv.place(0, key), it.by_fnv.0);
     count_is(rt, row, fnv.place(1, key), it.by_fnv.1);
 }
