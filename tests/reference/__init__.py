@@ -1,7 +1,15 @@
 """A second implementation of what `migctl` answers, and a generator of cases to compare both on.
 
 It is written from the documents and not from the program's code, so that a mistake of one isn't a mistake of the other.
-`tests/run` draws cases, lets the program answer each, and compares that with what stands here.
+`tests/run` draws cases, lets the program answer each, and compares that with what stands here. The modules, lowest first:
+
+    refusals, json_text, fields     what is refused; JSON; what is read from its values
+    text, phases, pools, configs    requests; when and where they go; configurations
+    nodes, proxies, worlds          a cache, a proxy, a fleet of them event by event
+    history                         what happened in a fleet, and its judge
+    scripts, transcripts            what a fleet is made of and what happens to it; what came of that, and its check
+    commands                        from words, files and input to status, output and faults
+    drawing, coverage               cases; what they come to, counted
 """
 from . import commands
 from .coverage import kinds, missing

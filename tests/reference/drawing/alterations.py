@@ -3,8 +3,8 @@ import copy
 
 from .spelling import Raw, twice
 
-ODD_NUMBERS = ("{}.0", "{}e0", "{}E+0", "0{}", "+{}", "{}.", "-{}", "-0", "0.5", "1e400", "1e308", "-1", "18446744073709551616",
-               "18446744073709551615", "NaN", "Infinity", "1_0", "0x1", "{}{}")
+ODD_NUMBERS = ("{}.0", "{}e0", "{}E+0", "0{}", "+{}", "{}.", "-{}", "{}{}", "-0", "-1", "0.5", "0e999", "1e-400", "1e400", "1e308",
+               "18446744073709551615", "18446744073709551616", "NaN", "Infinity", "1_0", "0x1")
 OTHER_KINDS = (None, True, False, 0, 1, "", "old", [], {}, [0], {"op": 1}, Raw("1.0"), Raw("-0"), Raw("1e3"))
 OTHER_KEYS = ("", "key", "keys", "op", "do", "kind", "Key", "type", "noreply", "config", "hash", "format", "weights", "\u00e9")
 
