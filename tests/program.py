@@ -4,7 +4,7 @@ import pathlib
 import subprocess
 
 ROOT = pathlib.Path(__file__).resolve().parent.parent
-BUILT = ROOT / "crates/mr_tool/out/mr_tool"
+BUILT = ROOT / "crates/migctl/out/migctl"
 
 
 def path():

@@ -30,7 +30,7 @@ def build(checkout, program):
         with open(log, "wb") as said:
             trying = subprocess.Popen(
                 ["rt", "try", "--seconds", str(LIMIT), "--", "node", "--listen", place.address()],
-                cwd=pathlib.Path(checkout) / "crates" / "mr_tool",
+                cwd=pathlib.Path(checkout) / "crates" / "migctl",
                 env={**os.environ, "TMPDIR": folder},
                 stdin=subprocess.DEVNULL,
                 stdout=said,

@@ -4,8 +4,8 @@ use Rattle.std.specs.Prelude.{Vec}
 use Rattle.std.specs.declared.alloc.Global.{Global}
 use Rattle.mr_proxy.specs.Answer.{AnswerView}
 use Rattle.mr_proxy.specs.ProxyView.{ProxyView}
-use Rattle.mr_workers.specs.Closing.{ClosesSo}
-use Rattle.mr_workers.specs.declared.closed.Closed.{Closed}
+use Rattle.mr_desks.specs.Closing.{ClosesSo}
+use Rattle.mr_desks.specs.declared.closed.Closed.{Closed}
 
 -- a book that was held against these was held against what is the same
 pub closed_beside : {X : Type 0} (book : Result Closed X) (opening opening' : ProxyView) (shares shares' : List ℕ) (answers answers' : List (Vec AnswerView Global))

@@ -1,2 +1,3 @@
+pub mod ClientEndLemmas
 pub mod EndLemmas
 pub mod TurnLemmas

@@ -1,11 +1,12 @@
 //! What the clients of one proxy came to, as far as they were waited for.
 ghost use Rattle.std.specs.Prelude.{◌≡◌, ◌+◌, ◌≤◌, ◌<◌, map, IfOk, vec_len, vec_capacity};
 
+use crate::client_end::ClientEnd;
+use crate::finished_client::FinishedClient;
 use mr_clock::Clock;
-use mr_fleet_clients::{Attended, ClientEnd};
+use mr_desks::{Carrier, Share};
 use mr_proxy::Answer;
 use mr_text::{Sink, Source};
-use mr_workers::{Carrier, Share};
 use std::alloc::{AllocError, Global};
 
 /// What the clients of one proxy came to, in order, and the room for all of them.
@@ -47,7 +48,7 @@ impl<C: Carrier + Drop, K: Clock + Drop, S: Source + Drop, W: Sink + Drop> Endin
     }
 
     /// Puts in what the next client came to.
-    pub(crate) fn push(&mut self, one: Attended<C, K, S, W>)
+    pub(crate) fn push(&mut self, one: FinishedClient<C, K, S, W>)
         requires { vec_len self.old.ends < self.old.limit }
         ensures ends { vec_len self.new.ends ≡ vec_len self.old.ends + 1 }
         ensures limit { self.new.limit ≡ self.old.limit }

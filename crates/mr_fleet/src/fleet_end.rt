@@ -1,13 +1,13 @@
 //! How a proxy of a fleet ended.
 ghost use Rattle.std.specs.Prelude.{◌≡◌, map, IfOk, vec_len};
-ghost use Rattle.mr_workers.specs.Closing.{ClosesSo};
+ghost use Rattle.mr_desks.specs.Closing.{ClosesSo};
 
+use crate::client_end::ClientEnd;
 use crate::ending::Ending;
 use mr_clock::Clock;
-use mr_fleet_clients::ClientEnd;
+use mr_desks::{Carrier, Closed, RecordedProxy, Share, close};
 use mr_proxy::{Answer, ProxyCore};
 use mr_text::{Sink, Source};
-use mr_workers::{Carrier, Closed, RecordedProxy, Share, close};
 use std::alloc::Global;
 use std::snapshot::Snapshot;
 

@@ -1,8 +1,8 @@
 //! A proxy of a fleet.
+use crate::fleet_client::FleetClient;
 use mr_clock::Clock;
-use mr_fleet_clients::FleetClient;
+use mr_desks::{Carrier, RecordedProxy};
 use mr_text::{Sink, Source};
-use mr_workers::{Carrier, RecordedProxy};
 
 /// A proxy of a fleet, with its clients and with what carries its legs.
 #[derive(Drop)]

@@ -2,13 +2,13 @@
 ghost use Rattle.std.specs.Prelude.{◌≡◌, ◌≤◌, [], map, length, IfOk, vec_len, vec_capacity};
 
 use crate::ending::Ending;
+use crate::fleet_client::FleetClient;
 use crate::fleet_end::FleetEnd;
 use crate::fleet_proxy::FleetProxy;
 use crate::threads::{Started, Underway};
 use mr_clock::Clock;
-use mr_fleet_clients::FleetClient;
+use mr_desks::{Carrier, RecordedProxy};
 use mr_text::{Sink, Source};
-use mr_workers::{Carrier, RecordedProxy};
 use std::alloc::{AllocError, Global};
 
 /// The room for the threads of one proxy's clients, and for what these come to.

@@ -1,33 +1,8 @@
-//! What operators and engineers hand over as JSON, read in one fixed order of checks: configurations, and what follows from
-//! one, the plan of a request and the timeline of the migration; and scripts of a fleet's events.
+//! What operators and engineers hand over as JSON, by one name: configurations, and what follows from one; scripts of a
+//! fleet's events; and the transcripts of their plays, which anyone can check.
 #![tactic(auto)]
 
-mod config;
-mod error;
-mod events;
-pub mod fields;
-mod held;
-mod homes;
-pub mod laws;
-mod limits;
-mod names;
-mod numbers;
-mod planning;
-mod pools;
-mod proxies;
-mod requests;
-mod route;
-mod script;
-mod setups;
-mod texts;
-mod times;
-mod values;
-
-pub use config::{Config, Draft, draft_of, json_of};
-pub use error::PlanError;
-pub use limits::{DEFAULT_INTERVAL, MAX_EVENTS, MAX_HELD, MAX_PROXIES, MAX_SCRIPT};
-pub use planning::{RequestPlan, plan};
-pub use route::name_pointed_to;
-pub use script::{Script, read_events, read_parts};
-pub use times::{Advice, PhaseTimes, Span, advise, timeline};
-pub use values::is_same;
+pub use mr_configs::{Advice, Config, DEFAULT_INTERVAL, PhaseTimes, PlanError, RequestPlan, Span, advise, plan, timeline};
+pub use mr_scripts::{MAX_EVENTS, MAX_HELD, MAX_PROXIES, MAX_SCRIPT, Script, read_events};
+pub use mr_shown::KeptVerdict;
+pub use mr_transcripts::{Checked, Outcome, check_transcript, write_transcript};

@@ -7,13 +7,13 @@ use Rattle.mr_history.specs.declared.op_id.OpId.{OpId}
 use Rattle.mr_node.specs.Session.{station}
 use Rattle.mr_proxy.specs.Answer.{AnswerView, reply_of}
 use Rattle.mr_proxy.specs.declared.sheet.LegSheet.{LegSheet}
-use Rattle.mr_workers.specs.Desk.{DeskIssues, DeskRefuses}
-use Rattle.mr_workers.specs.DeskError.{cause_of}
-use Rattle.mr_workers.specs.Issuing.{Reads}
-use Rattle.mr_workers.specs.Recorded.{Gave, AnswerStands}
-use Rattle.mr_workers.specs.declared.desk_error.DeskError.{DeskError}
-use Rattle.mr_workers.specs.declared.error.WorkerError.{WorkerError}
-use Rattle.mr_workers.specs.declared.error.WorkerError.TheVariants.{BookDiffers}
+use Rattle.mr_desks.specs.Desk.{DeskIssues, DeskRefuses}
+use Rattle.mr_desks.specs.DeskError.{cause_of}
+use Rattle.mr_desks.specs.Issuing.{Reads}
+use Rattle.mr_desks.specs.Recorded.{Gave, AnswerStands}
+use Rattle.mr_desks.specs.declared.desk_error.DeskError.{DeskError}
+use Rattle.mr_desks.specs.declared.error.WorkerError.{WorkerError}
+use Rattle.mr_desks.specs.declared.error.WorkerError.TheVariants.{BookDiffers}
 use Rattle.mr_sessions.specs.Account.{account, kept_with, AreCarried}
 use Rattle.mr_sessions.specs.Asking.{Asks, AsksInVain}
 use Rattle.mr_sessions.specs.steps.ClientStep.{AnsweredSo, AskedSo}

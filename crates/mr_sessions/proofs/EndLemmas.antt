@@ -7,8 +7,8 @@ use Rattle.mr_node.specs.Session.{Station}
 use Rattle.mr_node.specs.declared.ended.Ended.{Ended}
 use Rattle.mr_node.specs.declared.session.SessionFault.TheVariants as fault
 use Rattle.mr_node.proofs.SessionLemmas.{write_fails, writes_well}
-use Rattle.mr_workers.specs.declared.error.WorkerError.{WorkerError}
-use Rattle.mr_workers.specs.declared.error.WorkerError.TheVariants.{LinkBroken, Mismatch, BookFull, BookDiffers, ReadFault, WriteFault, TurnsSpent, OutOfMemory, NoThread}
+use Rattle.mr_desks.specs.declared.error.WorkerError.{WorkerError}
+use Rattle.mr_desks.specs.declared.error.WorkerError.TheVariants.{LinkBroken, Mismatch, BookFull, BookDiffers, ReadFault, WriteFault, TurnsSpent, OutOfMemory, NoThread}
 use Rattle.mr_sessions.specs.ClientSession.{Fails, ClientSessionIs}
 
 module _ {C P : Type 0} (Does : Outcomes C P) (InVain : Fails C P) (reader reader' : SourceView) (old new : Station C P) where

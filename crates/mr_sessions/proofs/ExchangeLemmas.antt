@@ -10,8 +10,8 @@ use Rattle.mr_text.specs.Stream.{ReaderView}
 use Rattle.mr_text.specs.declared.reply.Reply.{Reply}
 use Rattle.mr_join.specs.declared.leg_reply.LegReply.{LegReply}
 use Rattle.mr_node.specs.declared.command.NodeCommand.{NodeCommand}
-use Rattle.mr_workers.specs.declared.error.WorkerError.{WorkerError}
-use Rattle.mr_workers.specs.declared.error.WorkerError.TheVariants.{LinkBroken, Mismatch, BookFull, BookDiffers, ReadFault, WriteFault, TurnsSpent, OutOfMemory, NoThread}
+use Rattle.mr_desks.specs.declared.error.WorkerError.{WorkerError}
+use Rattle.mr_desks.specs.declared.error.WorkerError.TheVariants.{LinkBroken, Mismatch, BookFull, BookDiffers, ReadFault, WriteFault, TurnsSpent, OutOfMemory, NoThread}
 use Rattle.mr_sessions.specs.Answering.{IsAnswer}
 use Rattle.mr_sessions.specs.Requesting.{HasAsked, text_for}
 use Rattle.mr_sessions.specs.Exchange.{wire, HasFailed}

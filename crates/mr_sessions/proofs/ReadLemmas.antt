@@ -9,8 +9,8 @@ use Rattle.mr_text.specs.Stream.{NextIs as TextNextIs}
 use Rattle.mr_text.specs.declared.error.TextError.{TextError}
 use Rattle.mr_text.specs.declared.error.TextError.TheVariants.{LineTooLong, BadKey, BadNumber, WrongWords, DataTooLong, BadDataEnd, UnknownCommand, Truncated, Closed, OutOfMemory as NoMemory}
 use Rattle.mr_text.specs.declared.reply.Reply.{Reply}
-use Rattle.mr_workers.specs.declared.error.WorkerError.{WorkerError}
-use Rattle.mr_workers.specs.declared.error.WorkerError.TheVariants.{LinkBroken, Mismatch, BookFull, BookDiffers, ReadFault, WriteFault, TurnsSpent, OutOfMemory, NoThread}
+use Rattle.mr_desks.specs.declared.error.WorkerError.{WorkerError}
+use Rattle.mr_desks.specs.declared.error.WorkerError.TheVariants.{LinkBroken, Mismatch, BookFull, BookDiffers, ReadFault, WriteFault, TurnsSpent, OutOfMemory, NoThread}
 use Rattle.mr_sessions.specs.Reading.{NeedsMore, HoldsReply, BringsPiece, Brings, HasBrought, HasNoReply, read_length}
 use Rattle.mr_sessions.specs.steps.Reading.{IsOpen, ReplyIs, NextIs, PieceIs, fault_of}
 

@@ -16,8 +16,8 @@ use Rattle.mr_node.specs.declared.session.Step.{Step}
 use Rattle.mr_node.specs.declared.session.Step.TheVariants.{Served}
 use Rattle.mr_node.proofs.ServiceLemmas.{step_of_request, step_of_refusal}
 use Rattle.mr_node.proofs.SessionLemmas.{UnderWay, stepped, step_fails, reader_fails, reader_well}
-use Rattle.mr_workers.specs.declared.error.WorkerError.{WorkerError}
-use Rattle.mr_workers.specs.declared.error.WorkerError.TheVariants.{LinkBroken, Mismatch, BookFull, BookDiffers, ReadFault, WriteFault, TurnsSpent, OutOfMemory, NoThread}
+use Rattle.mr_desks.specs.declared.error.WorkerError.{WorkerError}
+use Rattle.mr_desks.specs.declared.error.WorkerError.TheVariants.{LinkBroken, Mismatch, BookFull, BookDiffers, ReadFault, WriteFault, TurnsSpent, OutOfMemory, NoThread}
 use Rattle.mr_sessions.specs.ClientSession.{Fails, ClientSessionIs, error_of}
 use Rattle.mr_sessions.specs.steps.ClientStep.{AnsweredSo, AskedSo, ClientRefusalIs, ClientRequestIs, ClientStepIs}
 

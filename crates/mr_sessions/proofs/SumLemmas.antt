@@ -7,10 +7,10 @@ use Rattle.mr_node.specs.Output.Exchange.{Asked, Unknown}
 use Rattle.mr_node.specs.Session.{Station, Performs, DoesExchange, Serves}
 use Rattle.mr_node.specs.declared.ended.Ended.{Ended}
 use Rattle.mr_proxy.specs.Answer.{AnswerView}
-use Rattle.mr_workers.specs.Issuing.{Reads}
-use Rattle.mr_workers.specs.Recorded.{Gave}
-use Rattle.mr_workers.specs.declared.error.WorkerError.{WorkerError}
-use Rattle.mr_workers.specs.declared.error.WorkerError.TheVariants.{LinkBroken, Mismatch, BookFull, BookDiffers, ReadFault, WriteFault, TurnsSpent, OutOfMemory, NoThread}
+use Rattle.mr_desks.specs.Issuing.{Reads}
+use Rattle.mr_desks.specs.Recorded.{Gave}
+use Rattle.mr_desks.specs.declared.error.WorkerError.{WorkerError}
+use Rattle.mr_desks.specs.declared.error.WorkerError.TheVariants.{LinkBroken, Mismatch, BookFull, BookDiffers, ReadFault, WriteFault, TurnsSpent, OutOfMemory, NoThread}
 use Rattle.mr_sessions.specs.Account.{Account, IsUnanswered, AreCarried, kept_with}
 use Rattle.mr_sessions.specs.Asking.{Asks, AsksInVain}
 use Rattle.mr_sessions.specs.ClientSession.{ClientSessionIs, unanswered_count, given_up_count, is_given_up}

@@ -2,7 +2,7 @@
 use Rattle.std.specs.Prelude.{◌≡◌, ℕ, ◌+◌, ◌≤◌, List, [], ◌∷◌, ◌++◌, Bool, true, false, if◌then◌else◌}
 use Rattle.mr_text.specs.declared.request.Request.{Request}
 use Rattle.mr_proxy.specs.Answer.{AnswerView}
-use Rattle.mr_workers.specs.Recorded.{Gave, AnswerStands}
+use Rattle.mr_desks.specs.Recorded.{Gave, AnswerStands}
 
 -- how many requests were issued, the answers that are kept, and how often the carriers lost a leg and brought one back
 pub record Account : Type 0 where

@@ -3,11 +3,11 @@ use Rattle.std.specs.Prelude.{◌≡◌, ℕ, ◌⊎◌, Bool, Some}
 use Rattle.mr_text.specs.declared.reply.Reply.TheVariants.{ServerError}
 use Rattle.mr_node.specs.Outcome.{Outcomes}
 use Rattle.mr_proxy.specs.Answer.{AnswerView, reply_of}
-use Rattle.mr_workers.specs.Desk.{DeskRefuses}
-use Rattle.mr_workers.specs.DeskError.{cause_of}
-use Rattle.mr_workers.specs.Issuing.{Reads}
-use Rattle.mr_workers.specs.Recorded.{Gave}
-use Rattle.mr_workers.specs.declared.desk_error.DeskError.{DeskError}
+use Rattle.mr_desks.specs.Desk.{DeskRefuses}
+use Rattle.mr_desks.specs.DeskError.{cause_of}
+use Rattle.mr_desks.specs.Issuing.{Reads}
+use Rattle.mr_desks.specs.Recorded.{Gave}
+use Rattle.mr_desks.specs.declared.desk_error.DeskError.{DeskError}
 use Rattle.mr_sessions.specs.Account.{Account, IsAnswered, IsUnanswered}
 
 -- the clock was read once, and gave a reading

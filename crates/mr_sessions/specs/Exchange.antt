@@ -7,8 +7,8 @@ use Rattle.mr_text.specs.Stream.{BeginsWith}
 use Rattle.mr_text.specs.declared.reply.Reply.{Reply}
 use Rattle.mr_join.specs.declared.leg_reply.LegReply.{LegReply}
 use Rattle.mr_node.specs.declared.command.NodeCommand.{NodeCommand}
-use Rattle.mr_workers.specs.declared.error.WorkerError.{WorkerError}
-use Rattle.mr_workers.specs.declared.error.WorkerError.TheVariants.{WriteFault, Mismatch}
+use Rattle.mr_desks.specs.declared.error.WorkerError.{WorkerError}
+use Rattle.mr_desks.specs.declared.error.WorkerError.TheVariants.{WriteFault, Mismatch}
 use Rattle.mr_sessions.specs.Answering.{IsAnswer}
 use Rattle.mr_sessions.specs.Requesting.{HasAsked, HasStoppedAsking}
 use Rattle.mr_sessions.specs.Reading.{HasBrought, HasNoReply}

@@ -7,8 +7,8 @@ use Rattle.mr_text.specs.Stream.{BeginsWith, IsUnfinished}
 use Rattle.mr_text.specs.declared.error.TextError.{TextError}
 use Rattle.mr_text.specs.declared.reply.Reply.{Reply}
 use Rattle.mr_node.specs.Session.{read_length as room_of_read}
-use Rattle.mr_workers.specs.declared.error.WorkerError.{WorkerError}
-use Rattle.mr_workers.specs.declared.error.WorkerError.TheVariants.{LinkBroken, Mismatch, ReadFault, TurnsSpent, OutOfMemory}
+use Rattle.mr_desks.specs.declared.error.WorkerError.{WorkerError}
+use Rattle.mr_desks.specs.declared.error.WorkerError.TheVariants.{LinkBroken, Mismatch, ReadFault, TurnsSpent, OutOfMemory}
 
 -- how many bytes there is room for in each read
 abbrev pub read_length : ℕ

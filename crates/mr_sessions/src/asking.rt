@@ -5,12 +5,12 @@ ghost use Rattle.mr_sessions.specs.Requesting.{text_for};
 ghost use Rattle.mr_text.specs.Gathering.{TakesFewCalls};
 ghost use Rattle.mr_text.specs.Sink.{Writes};
 ghost use Rattle.mr_join.specs.declared.leg_reply.LegReply.{LegReply};
-ghost use Rattle.mr_workers.specs.declared.error.WorkerError.TheVariants.{Mismatch};
+ghost use Rattle.mr_desks.specs.declared.error.WorkerError.TheVariants.{Mismatch};
 
+use mr_desks::WorkerError;
 use mr_join::LegReply;
 use mr_node::NodeCommand;
 use mr_text::{Cause, ItemList, Key, Reply, Sink, WriteFault, write_delete, write_get, write_set};
-use mr_workers::WorkerError;
 
 /// Writes the request of a command, which wants an answer, as `mr_text` writes requests. The command isn't copied.
 pub(crate) fn write_command<W: Sink>(

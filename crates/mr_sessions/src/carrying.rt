@@ -1,11 +1,11 @@
 //! The legs of one request: sent, and taken as they come back.
 ghost use Rattle.std.specs.Prelude.{◌≡◌, ◌≤◌, ◌+◌, ℕ, length, true, false, MatchOption, IfSome, if◌then◌else◌};
-ghost use Rattle.mr_workers.specs.Recorded.{AnswerStands};
+ghost use Rattle.mr_desks.specs.Recorded.{AnswerStands};
 ghost use Rattle.mr_sessions.specs.Account.{AreCarried};
 
+use mr_desks::{Carrier, Carriers, Desk};
 use mr_history::OpId;
 use mr_proxy::{Answer, Issued, Leg, Taken};
-use mr_workers::{Carrier, Carriers, Desk};
 use std::sync::Wait;
 
 /// Sends the legs, in order. Whether all were sent: behind one that is handed back none is.

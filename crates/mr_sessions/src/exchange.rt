@@ -6,10 +6,10 @@ ghost use Rattle.mr_sessions.specs.steps.Reading.{IsOpen};
 
 use crate::asking::{answer_to, write_command};
 use crate::reading::read_reply;
+use mr_desks::WorkerError;
 use mr_join::LegReply;
 use mr_node::NodeCommand;
 use mr_text::{ReplyReader, Sink, Source};
-use mr_workers::WorkerError;
 
 /// Sends a node the request of a command, and gives what the reply that stands next says of the leg. At most `turns` reads
 /// are made.

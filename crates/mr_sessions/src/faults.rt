@@ -2,8 +2,8 @@
 ghost use Rattle.std.specs.Prelude.{◌≡◌};
 ghost use Rattle.mr_sessions.specs.ClientSession.{error_of};
 
+use mr_desks::WorkerError;
 use mr_node::session::SessionFault;
-use mr_workers::WorkerError;
 
 /// A fault of a session, as a client's session tells it.
 pub(crate) fn error_of(fault: SessionFault) -> WorkerError

@@ -2,13 +2,13 @@
 ghost use Rattle.std.specs.Prelude.{◌≡◌, ◌+◌, [], false, Some, None, IfOk, MatchResult};
 ghost use Rattle.mr_sessions.specs.Exchange.{wire};
 ghost use Rattle.mr_sessions.specs.Link.{CarryIs, Carries};
-ghost use Rattle.mr_workers.specs.Local.{IsOfItsKind};
+ghost use Rattle.mr_desks.specs.Local.{IsOfItsKind};
 
 use crate::exchange::exchange;
+use mr_desks::{Carrier, WorkerError};
 use mr_join::LegReply;
 use mr_proxy::LegSheet;
 use mr_text::{GhostCount, ReplyReader, Sink, Source};
-use mr_workers::{Carrier, WorkerError};
 use std::alloc::Global;
 use std::marker::Model;
 

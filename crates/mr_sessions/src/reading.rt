@@ -3,9 +3,9 @@ ghost use Rattle.std.specs.Prelude.{◌≡◌, length};
 ghost use Rattle.mr_sessions.specs.Reading.{read_length};
 ghost use Rattle.mr_sessions.specs.steps.Reading.{IsOpen, NextIs, PieceIs, ReplyIs, fault_of};
 
+use mr_desks::WorkerError;
 use mr_node::READ_LENGTH;
 use mr_text::{Reply, ReplyReader, Source, TextError};
-use mr_workers::WorkerError;
 
 /// The reply that stands next: in what was kept of earlier reads, or behind it in at most `turns` reads more. What comes
 /// behind it is kept.

@@ -1,7 +1,7 @@
 //! How a client's session went.
+use mr_desks::{Share, WorkerError};
 use mr_node::Ended;
 use mr_proxy::Answer;
-use mr_workers::{Share, WorkerError};
 
 /// How a client's session went.
 #[derive(Debug, Drop)]

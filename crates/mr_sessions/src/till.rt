@@ -2,8 +2,8 @@
 ghost use Rattle.std.specs.Prelude.{◌≡◌, ◌≤◌, ◌+◌, true, length, OnOk, OnErr, vec_capacity};
 ghost use Rattle.mr_sessions.specs.Account.{kept_with};
 
+use mr_desks::Share;
 use mr_proxy::Answer;
-use mr_workers::Share;
 use std::alloc::AllocError;
 
 /// What a session issued and took so far.

@@ -3,7 +3,7 @@ use Rattle.std.proofs.Common.{◌≡◌, ◌+◌}
 use Rattle.std.specs.Prelude.{Some, None, Result, Ok, Err, MatchResult}
 use Rattle.mr_join.specs.declared.leg_reply.LegReply.{LegReply}
 use Rattle.mr_proxy.specs.declared.sheet.LegSheet.{LegSheet}
-use Rattle.mr_workers.specs.declared.error.WorkerError.{WorkerError}
+use Rattle.mr_desks.specs.declared.error.WorkerError.{WorkerError}
 use Rattle.mr_sockets.specs.SocketCarrier.{SocketView, CarriesSo, Carries}
 
 pub carries_by : (old : SocketView) (sheet : LegSheet) (result : Result LegReply WorkerError) (new : SocketView) → CarriesSo sheet.command old result new

@@ -5,8 +5,8 @@ use Rattle.mr_node.specs.declared.command.NodeCommand.{NodeCommand}
 use Rattle.mr_proxy.specs.declared.sheet.LegSheet.{LegSheet}
 use Rattle.mr_text.specs.Sink.{SinkView}
 use Rattle.mr_text.specs.Source.{SourceView}
-use Rattle.mr_workers.specs.declared.error.WorkerError.{WorkerError}
-use Rattle.mr_workers.specs.declared.error.WorkerError.TheVariants.{LinkBroken}
+use Rattle.mr_desks.specs.declared.error.WorkerError.{WorkerError}
+use Rattle.mr_desks.specs.declared.error.WorkerError.TheVariants.{LinkBroken}
 use Rattle.mr_sessions.specs.Exchange.{wire}
 use Rattle.mr_sessions.specs.Link.{LinkView, HasCarried, Breaks}
 use Rattle.mr_sockets.specs.Address.{HasAddress}

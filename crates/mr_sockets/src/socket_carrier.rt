@@ -1,16 +1,16 @@
 //! A carrier that reaches its node by a socket.
 ghost use Rattle.std.specs.Prelude.{◌≡◌, ◌+◌, false, Some, None, IfSome, IfOk, MatchResult, option_map};
-ghost use Rattle.mr_workers.specs.Local.{IsOfItsKind};
+ghost use Rattle.mr_desks.specs.Local.{IsOfItsKind};
 ghost use Rattle.mr_sockets.specs.Address.{HasAddress};
 ghost use Rattle.mr_sockets.specs.SocketCarrier.{fresh_carrier, IsNewLink, CarriesOver, CarriesFrom, CarriesSo, Carries};
 
 use crate::address::{address_of, host_to_reach};
+use mr_desks::{Carrier, WorkerError};
 use mr_join::LegReply;
 use mr_pools::NodeName;
 use mr_proxy::LegSheet;
 use mr_sessions::NodeLink;
 use mr_text::{GhostCount, OverReader, OverWriter, Sink, Source};
-use mr_workers::{Carrier, WorkerError};
 use std::alloc::{AllocError, Global};
 use std::io::{Read, Write};
 use std::marker::Model;

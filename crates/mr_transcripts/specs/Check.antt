@@ -12,10 +12,10 @@ use Rattle.mr_world.specs.WorldView.{WorldView}
 use Rattle.mr_world.specs.declared.event.Event.{Event}
 use Rattle.mr_world.specs.declared.note.Note.{Note}
 use Rattle.mr_world.specs.declared.premises.Premises.{Premises}
-use Rattle.mr_plan.specs.Fields.{Text}
+use Rattle.mr_configs.specs.Fields.{Text}
 use Rattle.mr_transcripts.specs.Play.{PlaysTo, IsPlay}
 use Rattle.mr_shown.specs.Shown.{entries_json, notes_json, premises_json, verdict_json}
-use Rattle.mr_plan.specs.Values.{is_same}
+use Rattle.mr_scripts.specs.Values.{is_same}
 use Rattle.mr_shown.specs.Verdict.{JudgesSo}
 use Rattle.mr_transcripts.specs.declared.check.Checked.{Checked}
 use Rattle.mr_transcripts.specs.declared.check.Outcome.{Outcome}

@@ -9,12 +9,12 @@ use Rattle.mr_world.specs.WorldView.{WorldView}
 use Rattle.mr_world.specs.declared.event.Event.{Event}
 use Rattle.mr_world.specs.declared.note.Note.{Note}
 use Rattle.mr_world.specs.declared.premises.Premises.{Premises}
-use Rattle.mr_plan.specs.Limits.{most_bytes}
+use Rattle.mr_scripts.specs.Limits.{most_bytes}
 use Rattle.mr_transcripts.specs.Play.{IsPlay}
 use Rattle.mr_shown.specs.Shown.{entries_json, notes_json, premises_json, verdict_json}
 use Rattle.mr_shown.specs.Verdict.{JudgesSo}
-use Rattle.mr_plan.specs.declared.error.PlanError.{PlanError}
-use Rattle.mr_plan.specs.declared.error.PlanError.TheVariants.{EventRefused, TooLarge, OutOfMemory}
+use Rattle.mr_configs.specs.declared.error.PlanError.{PlanError}
+use Rattle.mr_configs.specs.declared.error.PlanError.TheVariants.{EventRefused, TooLarge, OutOfMemory}
 use Rattle.mr_shown.specs.declared.verdict.KeptVerdict.{KeptVerdict}
 
 -- a script's own JSON with what came of its play, each under its key

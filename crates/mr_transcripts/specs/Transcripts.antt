@@ -2,15 +2,15 @@
 use Rattle.std.specs.Prelude.{◌≡◌, ℕ, ◌<◌, ◌≤◌, ◌⊎◌, List, [], ◌∷◌, length, Result, Ok, Err, codes}
 use Rattle.serde_json.specs.Data.{Data}
 use Rattle.mr_transcripts.specs.Check.{IsChecked, IsVouchedFor}
-use Rattle.mr_plan.specs.Checking.{◌>>=◌}
-use Rattle.mr_plan.specs.Config.{IsJson, IsNoJson}
-use Rattle.mr_plan.specs.Fields.{Text, object_check, field}
-use Rattle.mr_plan.specs.Limits.{most_bytes}
-use Rattle.mr_plan.specs.Script.{ScriptParts, script_in}
+use Rattle.mr_configs.specs.Checking.{◌>>=◌}
+use Rattle.mr_configs.specs.Config.{IsJson, IsNoJson}
+use Rattle.mr_configs.specs.Fields.{Text, object_check, field}
+use Rattle.mr_scripts.specs.Limits.{most_bytes}
+use Rattle.mr_scripts.specs.Script.{ScriptParts, script_in}
 use Rattle.mr_transcripts.specs.declared.check.Checked.{Checked}
 use Rattle.mr_transcripts.specs.declared.check.Outcome.TheVariants.{Accepted}
-use Rattle.mr_plan.specs.declared.error.PlanError.{PlanError}
-use Rattle.mr_plan.specs.declared.error.PlanError.TheVariants.{TooLarge, OutOfMemory}
+use Rattle.mr_configs.specs.declared.error.PlanError.{PlanError}
+use Rattle.mr_configs.specs.declared.error.PlanError.TheVariants.{TooLarge, OutOfMemory}
 
 abbrev pub transcript_keys : List Text
 transcript_keys =

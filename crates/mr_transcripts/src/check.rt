@@ -4,13 +4,14 @@ ghost use Rattle.serde_json.specs.View.{view};
 ghost use Rattle.mr_world.specs.Premises.{premises_of};
 ghost use Rattle.mr_world.specs.Setup.{CanBeMade};
 ghost use Rattle.mr_transcripts.specs.Check.{tells, all_hold, is_safe, outcome_of_play, IsChecked, IsVouchedFor};
-ghost use Rattle.mr_plan.specs.Script.{IsPlayable};
+ghost use Rattle.mr_scripts.specs.Script.{IsPlayable};
 ghost use Rattle.mr_transcripts.specs.Transcripts.{outcome_check, played_in, RefusesPlayed, IsCheckOf, RefusesCheck};
-ghost use Rattle.mr_plan.specs.declared.error.PlanError.TheVariants.{OutOfMemory};
+ghost use Rattle.mr_configs.specs.declared.error.PlanError.TheVariants.{OutOfMemory};
 
 use crate::play::play_events;
-use mr_plan::fields::{check_object, field};
-use mr_plan::{MAX_SCRIPT, PlanError, is_same, json_of, read_parts};
+use mr_configs::fields::{check_object, field};
+use mr_configs::{PlanError, json_of};
+use mr_scripts::{MAX_SCRIPT, is_same, read_parts};
 use mr_shown::{KeptVerdict, history_value, notes_value, premises_value, verdict_value};
 use mr_world::{Event, Note, Premises, Setup, World};
 use serde_json::Value;

@@ -2,9 +2,9 @@
 ghost use Rattle.std.specs.Prelude.{◌≡◌, ◌^◌, ◌<◌, length, IfOk, IfErr};
 ghost use Rattle.mr_world.specs.Setup.{CanBeMade};
 ghost use Rattle.mr_transcripts.specs.Play.{IsPlay};
-ghost use Rattle.mr_plan.specs.declared.error.PlanError.TheVariants.{OutOfMemory};
+ghost use Rattle.mr_configs.specs.declared.error.PlanError.TheVariants.{OutOfMemory};
 
-use mr_plan::PlanError;
+use mr_configs::PlanError;
 use mr_world::{Event, Note, Setup, World, WorldError};
 use std::alloc::Global;
 

@@ -7,7 +7,8 @@ ghost use Rattle.mr_world.specs.Setup.{CanBeMade};
 ghost use Rattle.mr_transcripts.specs.Transcript.{with_outcome, transcript_text, IsTranscript, RefusesTranscript};
 
 use crate::play::play_events;
-use mr_plan::{MAX_SCRIPT, PlanError, Script};
+use mr_configs::PlanError;
+use mr_scripts::{MAX_SCRIPT, Script};
 use mr_shown::{KeptVerdict, history_value, notes_value, premises_value, verdict_value};
 use mr_world::{Event, Note, Setup, World};
 use serde_json::{Value, put};

@@ -28,12 +28,12 @@ use Rattle.mr_proxy.specs.declared.error.ProxyError.TheVariants as proxy
 use Rattle.mr_world.specs.WorldError.{number_of_refusal as world_number}
 use Rattle.mr_world.specs.declared.error.WorldError.{WorldError}
 use Rattle.mr_world.specs.declared.error.WorldError.TheVariants as world
-use Rattle.mr_workers.specs.WorkerError.{number_of_refusal as worker_number}
-use Rattle.mr_workers.specs.declared.error.WorkerError.{WorkerError}
-use Rattle.mr_workers.specs.declared.error.WorkerError.TheVariants as worker
-use Rattle.mr_plan.specs.PlanError.{number_of_refusal as plan_number}
-use Rattle.mr_plan.specs.declared.error.PlanError.{PlanError}
-use Rattle.mr_plan.specs.declared.error.PlanError.TheVariants as plan
+use Rattle.mr_desks.specs.WorkerError.{number_of_refusal as worker_number}
+use Rattle.mr_desks.specs.declared.error.WorkerError.{WorkerError}
+use Rattle.mr_desks.specs.declared.error.WorkerError.TheVariants as worker
+use Rattle.mr_configs.specs.PlanError.{number_of_refusal as plan_number}
+use Rattle.mr_configs.specs.declared.error.PlanError.{PlanError}
+use Rattle.mr_configs.specs.declared.error.PlanError.TheVariants as plan
 use Rattle.mr_words.specs.Explain.{Told, HasRefusal, IsComplete, IsToldAs, explanation_of, is_of, lower_table, table, upper_table}
 use Rattle.mr_words.specs.Lines.{text_fault_line, node_fault_line, plan_fault_line}
 

@@ -16,10 +16,10 @@ use Rattle.mr_proxy.specs.ProxyError.{number_of_refusal as proxy_number}
 use Rattle.mr_proxy.specs.declared.error.ProxyError.{ProxyError}
 use Rattle.mr_world.specs.WorldError.{number_of_refusal as world_number}
 use Rattle.mr_world.specs.declared.error.WorldError.{WorldError}
-use Rattle.mr_workers.specs.WorkerError.{number_of_refusal as worker_number}
-use Rattle.mr_workers.specs.declared.error.WorkerError.{WorkerError}
-use Rattle.mr_plan.specs.PlanError.{number_of_refusal as plan_number}
-use Rattle.mr_plan.specs.declared.error.PlanError.{PlanError}
+use Rattle.mr_desks.specs.WorkerError.{number_of_refusal as worker_number}
+use Rattle.mr_desks.specs.declared.error.WorkerError.{WorkerError}
+use Rattle.mr_configs.specs.PlanError.{number_of_refusal as plan_number}
+use Rattle.mr_configs.specs.declared.error.PlanError.{PlanError}
 use Rattle.mr_words.specs.Lines.{text_fault_line, node_fault_line, plan_fault_line}
 use Rattle.mr_words.specs.declared.explain.Explanation.{Explanation}
 use Rattle.mr_words.specs.declared.explanations.TheConstants.{LOWER_ROWS, UPPER_ROWS}

@@ -4,8 +4,8 @@ use Rattle.mr_text.specs.declared.error.TextError.{TextError}
 use Rattle.mr_text.specs.declared.error.TextError.TheVariants.{LineTooLong, BadKey, BadNumber, WrongWords, DataTooLong, BadDataEnd, UnknownCommand, Truncated, Closed, OutOfMemory}
 use Rattle.mr_node.specs.declared.error.NodeError.{NodeError}
 use Rattle.mr_node.specs.declared.error.NodeError.TheVariants as node
-use Rattle.mr_plan.specs.declared.error.PlanError.{PlanError}
-use Rattle.mr_plan.specs.declared.error.PlanError.TheVariants as plan
+use Rattle.mr_configs.specs.declared.error.PlanError.{PlanError}
+use Rattle.mr_configs.specs.declared.error.PlanError.TheVariants as plan
 
 abbrev pub text_fault_line : TextError → List ℕ
 text_fault_line LineTooLong = codes "migctl: text 1 LineTooLong\n"

@@ -2,8 +2,8 @@
 ghost use Rattle.std.specs.Prelude.{◌≡◌};
 ghost use Rattle.mr_words.specs.Lines.{text_fault_line, node_fault_line, plan_fault_line};
 
+use mr_configs::PlanError;
 use mr_node::NodeError;
-use mr_plan::PlanError;
 use mr_text::TextError;
 
 /// The line of a refusal of `mr_text`.

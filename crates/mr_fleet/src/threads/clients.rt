@@ -2,11 +2,12 @@
 ghost use Rattle.std.specs.Prelude.{◌≡◌, ◌≤◌, [], vec_len, vec_capacity};
 
 use crate::ending::Ending;
+use crate::finished_client::FinishedClient;
+use crate::fleet_client::FleetClient;
+use crate::links::Links;
 use mr_clock::Clock;
-use mr_fleet_clients::{Attended, FleetClient};
-use mr_link_carriers::Links;
+use mr_desks::{Carrier, RecordedProxy};
 use mr_text::{Sink, Source};
-use mr_workers::{Carrier, RecordedProxy};
 use std::alloc::{AllocError, Global};
 use std::sync::atomic::{AtomicBool, Ordering};
 use std::sync::{Arc, Wait};
@@ -16,17 +17,17 @@ use std::thread::{JoinHandle, Scope, Threads};
 #[derive(Drop)]
 pub(crate) enum Started<C: Carrier, K: Clock, S: Source, W: Sink> {
     /// The thread that serves it.
-    Thread(JoinHandle<Attended<C, K, S, W>>),
+    Thread(JoinHandle<FinishedClient<C, K, S, W>>),
     /// How it ended at once.
-    Over(Attended<C, K, S, W>),
+    Over(FinishedClient<C, K, S, W>),
 }
 
 impl<C: Carrier, K: Clock, S: Source, W: Sink> Started<C, K, S, W> {
     /// Waits for the thread, where there is one, and gives what the client came to.
-    fn join<R: Threads>(self, rt: &R) -> Attended<C, K, S, W> {
+    fn join<R: Threads>(self, rt: &R) -> FinishedClient<C, K, S, W> {
         match self {
             Started::Thread(thread) => thread.join(rt),
-            Started::Over(attended) => attended,
+            Started::Over(finished) => finished,
         }
     }
 }
@@ -39,7 +40,7 @@ fn attend<C: Carrier, K: Clock + Drop, S: Source, W: Sink, R: Wait>(
     links: Links<C>,
     client: FleetClient<K, S, W>,
     refused: &AtomicBool,
-) -> Attended<C, K, S, W> {
+) -> FinishedClient<C, K, S, W> {
     if refused.load(Ordering::SeqCst) {
         client.unserved(alloc, desk)
     } else {

@@ -1,7 +1,9 @@
 //! The threads that own the connections to nodes.
+use crate::link_job::LinkJob;
+use crate::link_worker::run_worker;
+use crate::links::Links;
 use crossbeam_channel::Sender;
-use mr_link_carriers::{Links, Load, carry_loads};
-use mr_workers::{Carrier, Gate};
+use mr_desks::{Carrier, Gate};
 use std::alloc::Global;
 use std::sync::Wait;
 use std::thread::Scope;
@@ -14,12 +16,12 @@ fn start_link<'s, E, C: Carrier + Send + Drop, G: Gate + Sync, R: Wait + Sync>(
     scope: &Scope<'s, E>,
     carrier: C,
     gate: &'s G,
-) -> Option<Sender<Load<C>>>
+) -> Option<Sender<LinkJob<C>>>
 where
     C: 's,
 {
-    let (link, loads) = crossbeam_channel::unbounded(alloc).ok()?;
-    match scope.spawn(move || carry_loads(rt, carrier, loads, gate)) {
+    let (link, jobs) = crossbeam_channel::unbounded(alloc).ok()?;
+    match scope.spawn(move || run_worker(rt, carrier, jobs, gate)) {
         Ok(_) => Some(link),
         Err(_) => None,
     }
@@ -32,7 +34,7 @@ fn start_pool<'s, E, C: Carrier + Send + Drop, G: Gate + Sync, R: Wait + Sync>(
     scope: &Scope<'s, E>,
     carriers: Vec<C>,
     gate: &'s G,
-) -> Vec<Option<Sender<Load<C>>>>
+) -> Vec<Option<Sender<LinkJob<C>>>>
 where
     C: 's,
 {

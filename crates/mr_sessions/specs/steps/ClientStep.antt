@@ -12,8 +12,8 @@ use Rattle.mr_node.specs.Session.{Station, Answers, StopsAnswering, AnswersRefus
 use Rattle.mr_node.specs.declared.session.SessionFault.TheVariants as fault
 use Rattle.mr_node.specs.declared.session.Step.{Step}
 use Rattle.mr_node.specs.steps.Step.{RequestIs, StepIs}
-use Rattle.mr_workers.specs.declared.error.WorkerError.{WorkerError}
-use Rattle.mr_workers.specs.declared.error.WorkerError.TheVariants.{LinkBroken, Mismatch, BookFull, BookDiffers, ReadFault, WriteFault, TurnsSpent, OutOfMemory, NoThread}
+use Rattle.mr_desks.specs.declared.error.WorkerError.{WorkerError}
+use Rattle.mr_desks.specs.declared.error.WorkerError.TheVariants.{LinkBroken, Mismatch, BookFull, BookDiffers, ReadFault, WriteFault, TurnsSpent, OutOfMemory, NoThread}
 use Rattle.mr_sessions.specs.ClientSession.{Fails, IsInVain}
 
 -- the client is told the outcome, unless it wants no answer; or the writer fails

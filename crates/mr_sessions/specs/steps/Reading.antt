@@ -6,8 +6,8 @@ use Rattle.mr_text.specs.Stream.{ReaderView, BeginsWith, Becomes}
 use Rattle.mr_text.specs.declared.error.TextError.{TextError}
 use Rattle.mr_text.specs.declared.error.TextError.TheVariants.{OutOfMemory as NoMemory}
 use Rattle.mr_text.specs.declared.reply.Reply.{Reply}
-use Rattle.mr_workers.specs.declared.error.WorkerError.{WorkerError}
-use Rattle.mr_workers.specs.declared.error.WorkerError.TheVariants.{LinkBroken, Mismatch, ReadFault, OutOfMemory}
+use Rattle.mr_desks.specs.declared.error.WorkerError.{WorkerError}
+use Rattle.mr_desks.specs.declared.error.WorkerError.TheVariants.{LinkBroken, Mismatch, ReadFault, OutOfMemory}
 use Rattle.mr_sessions.specs.Reading.{NeedsMore, HoldsReply, BringsPiece, MeetsEnd, FailsToRead, HasBrought, HasNoReply}
 
 -- replies can still be read

@@ -3,7 +3,7 @@ use Rattle.mr_text.specs.Replies.{SpellsReply, RefusesReply, SkipsNone, is_no_la
 use Rattle.mr_text.specs.Stream.{NextIs as TextNextIs}
 use Rattle.mr_text.specs.declared.error.TextError.{TextError}
 use Rattle.mr_text.specs.declared.reply.Reply.{Reply}
-use Rattle.mr_workers.specs.declared.error.WorkerError.{WorkerError}
+use Rattle.mr_desks.specs.declared.error.WorkerError.{WorkerError}
 use Rattle.mr_sessions.specs.steps.Reading.{NextIs}
 use Rattle.mr_sessions.proofs.ReadLemmas.{next_refused}
 use Rattle.mr_sessions.proofs.reading.next_reply.Goals as goal

@@ -6,7 +6,7 @@ use Rattle.mr_node.specs.Session.{station, read_length}
 use Rattle.mr_node.proofs.ReadLemmas.{still_offered}
 use Rattle.mr_node.proofs.SessionLemmas.{begins_so, stepped, goes_on, waits_for, shrinks, ends, all_read, spent, fed, read_fails, failed_read_within}
 use Rattle.mr_sessions.specs.Account.{account}
-use Rattle.mr_workers.specs.declared.error.WorkerError.{WorkerError}
+use Rattle.mr_desks.specs.declared.error.WorkerError.{WorkerError}
 use Rattle.mr_sessions.specs.ClientSession.{ClientSessionIs}
 use Rattle.mr_sessions.specs.Asking.{Asks, AsksInVain}
 use Rattle.mr_sessions.proofs.StepLemmas.{fails_so, client_told}

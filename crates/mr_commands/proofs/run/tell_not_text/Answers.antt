@@ -1,5 +1,0 @@
-use Rattle.mr_commands.proofs.RunLemmas.{told_by_call}
-use Rattle.mr_commands.proofs.run.tell_not_text.Goals as goal
-
-pub returns-clause-told : goal.returns-clause-told
-returns-clause-told g c = told_by_call _ _ _ _ c.write_all.result c.as_bytes.ensures.value c.write_all.ensures

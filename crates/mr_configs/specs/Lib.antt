@@ -1,0 +1,10 @@
+pub mod Checking
+pub mod Config
+pub mod Defaults
+pub mod Draft
+pub mod Fields
+pub mod Plan
+pub mod PlanError
+pub mod Pools
+pub mod Route
+pub mod Timeline

@@ -1,0 +1,21 @@
+//! Configurations of a migration, which operators hand over as JSON, read in one fixed order of checks; and what follows from
+//! one: the plan of a request and the timeline.
+#![tactic(auto)]
+
+mod config;
+mod defaults;
+mod error;
+pub mod fields;
+mod names;
+mod planning;
+mod pools;
+mod route;
+mod times;
+
+pub use config::{Config, Draft, draft_of, json_of};
+pub use defaults::DEFAULT_INTERVAL;
+pub use error::PlanError;
+pub use names::{is_among, is_node_name};
+pub use planning::{RequestPlan, plan};
+pub use route::name_pointed_to;
+pub use times::{Advice, PhaseTimes, Span, advise, timeline};

@@ -1,0 +1,52 @@
+-- When the book of a proxy stands with what its sessions did.
+use Rattle.std.specs.Prelude.{◌≡◌, ℕ, ◌&&◌, ◌||◌, List, [], ◌∷◌, Bool, true, false, not, sum, All, Contains, ⊤}
+use Rattle.mr_history.specs.declared.op_id.OpId.{OpId}
+use Rattle.mr_proxy.specs.Answer.{AnswerView}
+use Rattle.mr_proxy.specs.Pending.{is_same_op}
+use Rattle.mr_proxy.specs.ProxyView.{ProxyView, opening_of, AreAlike}
+use Rattle.mr_desks.specs.Replay.{answers_of}
+use Rattle.mr_desks.specs.declared.closed.Closed.{Closed}
+use Rattle.mr_desks.specs.declared.closed.Closed.TheVariants.{Whole, Differs}
+use Rattle.mr_desks.specs.declared.step.Step.{Step}
+
+-- one of the answers is that to the request of this op
+abbrev pub has_op : List AnswerView → OpId → Bool
+has_op [] op = false
+has_op (answer ∷ answers) op = is_same_op answer.op op || has_op answers op
+
+-- one of the sessions has an answer to the request of this op
+abbrev pub some_has_op : List (List AnswerView) → OpId → Bool
+some_has_op [] op = false
+some_has_op (session ∷ sessions) op = has_op session op || some_has_op sessions op
+
+-- no answer of a session is to the same request as one behind it, or as one of the sessions that follow
+abbrev pub are_apart : List AnswerView → List (List AnswerView) → Bool
+are_apart [] sessions = true
+are_apart (answer ∷ answers) sessions = not (has_op answers answer.op || some_has_op sessions answer.op) && are_apart answers sessions
+
+-- no two answers are to the same request
+abbrev pub have_different_ops : List (List AnswerView) → Bool
+have_different_ops [] = true
+have_different_ops (session ∷ sessions) = are_apart session sessions && have_different_ops sessions
+
+-- each answer of each session is among these
+abbrev pub AreAmong : List AnswerView → List (List AnswerView) → Type 0
+AreAmong all [] = ⊤
+AreAmong all (session ∷ sessions) = All (Contains all) session × AreAmong all sessions
+
+-- the proxy is the one that it was at first, as many requests were accepted as the sessions issued, and the answers that
+-- they hold are to different requests
+pub record IsCounted (opening core : ProxyView) (shares : List ℕ) (sessions : List (List AnswerView)) : Type 0 where
+  pub alike : AreAlike opening core
+  pub counted : sum shares ≡ core.next
+  pub different : have_different_ops sessions ≡ true
+
+-- the book stands with what the sessions did: it is counted, and each answer of theirs is one of the book
+pub record StandsWith (opening core : ProxyView) (steps : List Step) (shares : List ℕ) (sessions : List (List AnswerView)) : Type 0 where
+  pub counted : IsCounted opening core shares sessions
+  pub among : AreAmong (answers_of (opening_of core) steps) sessions
+
+-- what the book came to: it stands with what the sessions did, or it doesn't
+abbrev pub ClosesSo : ProxyView → List ℕ → List (List AnswerView) → Closed → Type 0
+ClosesSo opening shares sessions (Whole book) = StandsWith opening book.core book.steps.items shares sessions
+ClosesSo opening shares sessions (Differs book) = ¬ StandsWith opening book.core book.steps.items shares sessions

@@ -1,0 +1,11 @@
+pub mod Closing
+pub mod Desk
+pub mod DeskError
+pub mod Direct
+pub mod Issuing
+pub mod Local
+pub mod Recorded
+pub mod Replay
+pub mod Shared
+pub mod Taking
+pub mod WorkerError

@@ -1,0 +1,2 @@
+pub mod ClientEnd
+pub mod Links

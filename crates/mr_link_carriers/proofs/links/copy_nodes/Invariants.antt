@@ -1,6 +1,0 @@
-use Rattle.std.proofs.Common.{◌≡◌, take}
-use Rattle.mr_link_carriers.proofs.links.copy_nodes.Given as goal
-
--- the copied links are the first ones
-abbrev pub invariant-loop-link : goal.invariant-loop-link
-invariant-loop-link g l = l.copies.items ≡ take l.link-index l.nodes

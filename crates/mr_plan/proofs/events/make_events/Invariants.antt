@@ -1,5 +1,0 @@
-use Rattle.mr_plan.proofs.EventLemmas.{AreMade}
-use Rattle.mr_plan.proofs.events.make_events.Given as goal
-
-abbrev pub invariant-loop-value : goal.invariant-loop-value
-invariant-loop-value l = AreMade l.values l.value-index l.events.items

@@ -1,0 +1,10 @@
+pub mod EventLemmas
+pub mod HomeLemmas
+pub mod ListLemmas
+pub mod ReadingLemmas
+pub mod RefusalLemmas
+pub mod ScriptLemmas
+pub mod SetupLemmas
+pub mod TextLemmas
+pub mod ValueLemmas
+pub mod WholeLemmas

@@ -1,0 +1,10 @@
+use Rattle.std.proofs.Common.{◌≡◌, ◌++◌, true}
+use Rattle.std.specs.Str.{chars, IsUtf8}
+use Rattle.mr_scripts.specs.Texts.{are_bytes}
+use Rattle.mr_scripts.proofs.texts.make_bytes.Given as goal
+
+abbrev pub invariant-loop-point : goal.invariant-loop-point
+invariant-loop-point l =
+    IsUtf8 l.point-iterator.rest.now
+    × (are_bytes (chars l.point-iterator.rest.now) ≡ true)
+    × (l.bytes.items ++ chars l.point-iterator.rest.now ≡ chars l.text)

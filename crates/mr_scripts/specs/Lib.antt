@@ -1,0 +1,14 @@
+pub mod EventDraft
+pub mod Events
+pub mod Homes
+pub mod Limits
+pub mod Lists
+pub mod Numbers
+pub mod RequestDraft
+pub mod Requests
+pub mod Script
+pub mod ScriptDraft
+pub mod SetupDraft
+pub mod Setups
+pub mod Texts
+pub mod Values

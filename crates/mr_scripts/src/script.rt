@@ -1,0 +1,218 @@
+//! Scripts: a fleet, and what happens to it.
+ghost use Rattle.std.specs.Prelude.{◌≡◌, Ok, Err, IfOk, IfErr, IsOk, map};
+ghost use Rattle.mr_scripts.specs.Events.{events_of};
+ghost use Rattle.serde_json.specs.View.{view};
+ghost use Rattle.serde_json.specs.Written.{has_float};
+ghost use Rattle.std.specs.Prelude.{false};
+ghost use Rattle.mr_scripts.specs.Script.{format_check, count_in, counts_check, script_in, script_of, IsPlayable, RefusesParts, ReadsScript};
+ghost use Rattle.mr_scripts.specs.ScriptDraft.{script_between, parts_between, parts_drafted, IsScriptReady};
+ghost use Rattle.mr_scripts.specs.SetupDraft.{setup_drafted, IsSetupReady};
+
+use crate::events::{check_events, make_events};
+use crate::limits::{MAX_EVENTS, MAX_HELD, MAX_PROXIES, MAX_SCRIPT};
+use crate::setups::{SetupDraft, setup_draft};
+use crate::values::has_float;
+use mr_configs::fields::{check_object, field, list, whole_number};
+use mr_configs::{PlanError, json_of};
+use mr_world::{Event, Setup};
+use serde_json::Value;
+use std::alloc::{AllocError, Global};
+use std::marker::Model;
+
+/// The keys of a script.
+const SCRIPT_KEYS: [&str; 3] = ["events", "format", "setup"];
+
+/// A script: a fleet, and what happens to it.
+#[derive(Drop)]
+pub struct Script {
+    setup: Setup,
+    events: Vec<Event>,
+    json: Value,
+}
+
+impl Model for Script {
+    ghost use Rattle.std.specs.Coded.{codes};
+    ghost use Rattle.serde_json.specs.contracts.value.Value as json_value;
+    ghost use Rattle.mr_scripts.specs.Script.{ScriptView, IsScript};
+
+    ghost Value = { ScriptView };
+
+    ghost coded = { Prim.hlevel (codes, json_value.the_row.coded) };
+
+    ghost view = { λ s. record { setup = s.setup; events = s.events.items; json = s.json } };
+
+    ghost invariant = { λ s. IsScript (record { setup = s.setup; events = s.events.items; json = s.json }) };
+}
+
+/// A script that was looked at whole, and is yet to be made.
+#[derive(Clone, Copy)]
+pub struct ScriptDraft<'a> {
+    /// The fleet.
+    pub setup: SetupDraft<'a>,
+    /// What happens to it.
+    pub events: &'a [Value],
+}
+
+/// Looks whether the format is the one that there is.
+fn check_format(value: &Value) -> Result<(), PlanError>
+    ensures { result ≡ format_check (view value.now) }
+{
+    if whole_number(value)? != 1 {
+        return Err(PlanError::WrongKind);
+    }
+    Ok(())
+}
+
+/// How many values a list has; none where it is no list.
+fn count_in(value: &Value) -> usize
+    ensures { result ≡ count_in (view value.now) }
+{
+    match list(value) {
+        Ok(values) => values.len(),
+        Err(_) => 0,
+    }
+}
+
+/// Looks whether there are no more items, proxies and events than a script may have.
+fn check_counts(held: usize, proxies: usize, events: usize) -> Result<(), PlanError>
+    ensures { result ≡ counts_check held proxies events }
+{
+    if held > MAX_HELD || proxies > MAX_PROXIES || events > MAX_EVENTS {
+        return Err(PlanError::TooLarge);
+    }
+    Ok(())
+}
+
+/// The values of the events beside a setup, after all three lists were counted.
+#[tactic(auto, using(crate::proofs::ScriptLemmas::counted))]
+fn values_of_events<'a>(setup: &SetupDraft<'_>, events: &'a Value) -> Result<&'a [Value], PlanError>
+    requires { IsSetupReady setup.now }
+    ensures parts { IfOk result (λ values. script_between (setup_drafted setup.now) (view events.now) ≡ parts_between (setup_drafted setup.now) (map view values.now)) }
+    ensures ready { IfOk result (λ values. IsOk (events_of 0 (map view values.now))) }
+    ensures refused { IfErr result (λ e. script_between (setup_drafted setup.now) (view events.now) ≡ Err e) }
+{
+    check_counts(setup.held.len(), setup.proxies.len(), count_in(events))?;
+    let values = list(events)?;
+    match check_events(values) {
+        Ok(()) => Ok(values),
+        Err(refusal) => Err(refusal),
+    }
+}
+
+/// Looks at the keys of a script whole, without taking memory, and tells the first refusal.
+fn parts_draft(value: &Value) -> Result<ScriptDraft<'_>, PlanError>
+    ensures parts { IfOk result (λ draft. script_in (view value.now) ≡ parts_drafted draft) }
+    ensures ready { IfOk result (λ draft. IsScriptReady draft) }
+    ensures refused { IfErr result (λ e. script_in (view value.now) ≡ Err e) }
+{
+    let events = field(value, "events")?;
+    let format = field(value, "format")?;
+    let setup = field(value, "setup")?;
+    check_format(format)?;
+    let setup = match setup_draft(setup) {
+        Ok(setup) => setup,
+        Err(refusal) => return Err(refusal),
+    };
+    match values_of_events(&setup, events) {
+        Ok(events) => Ok(ScriptDraft { setup, events }),
+        Err(refusal) => Err(refusal),
+    }
+}
+
+impl ScriptDraft<'_> {
+    /// What it says, made.
+    fn make(&self, alloc: Global) -> Result<(Setup, Vec<Event>), AllocError>
+        requires { IsScriptReady self.now }
+        ensures { IfOk result (λ parts. parts_drafted self.now ≡ Ok (record { setup = parts.0; events = parts.1.items })) }
+    {
+        let setup = self.setup.make(alloc)?;
+        let events = make_events(alloc, self.events)?;
+        Ok((setup, events))
+    }
+}
+
+/// The fleet and the events that a value's keys of a script say. Whether it has other keys is looked at before.
+#[tactic(auto, using(crate::proofs::HomeLemmas::read_as))]
+pub fn read_parts(alloc: Global, value: &Value) -> Result<(Setup, Vec<Event>), PlanError>
+    ensures parts { IfOk result (λ parts. script_in (view value.now) ≡ Ok (record { setup = parts.0; events = parts.1.items })) }
+    ensures playable { IfOk result (λ parts. IsPlayable parts.0) }
+    ensures refused { IfErr result (λ e. RefusesParts (view value.now) e) }
+{
+    match parts_draft(value) {
+        Ok(draft) => Ok(draft.make(alloc)?),
+        Err(refusal) => Err(refusal),
+    }
+}
+
+/// Looks at a script whole, without taking memory, and tells the first refusal.
+fn script_draft(value: &Value) -> Result<ScriptDraft<'_>, PlanError>
+    ensures parts { IfOk result (λ draft. script_of (view value.now) ≡ parts_drafted draft) }
+    ensures ready { IfOk result (λ draft. IsScriptReady draft) }
+    ensures refused { IfErr result (λ e. script_of (view value.now) ≡ Err e) }
+{
+    check_object(value, &SCRIPT_KEYS)?;
+    let draft = match parts_draft(value) {
+        Ok(draft) => draft,
+        Err(refusal) => return Err(refusal),
+    };
+    if has_float(value) {
+        return Err(PlanError::WrongKind);
+    }
+    Ok(draft)
+}
+
+impl Script {
+    ghost use Rattle.mr_scripts.specs.Script.{IsScript, IsPlayable};
+
+    /// The fleet.
+    pub fn setup(&self) -> &Setup
+        ensures setup { result.now ≡ self.now.setup }
+        ensures playable { IsPlayable result.now }
+        ensures script { IsScript self.now }
+    {
+        &self.setup
+    }
+
+    /// What happens to it.
+    pub fn events(&self) -> &[Event]
+        ensures events { result.now ≡ self.now.events }
+        ensures script { IsScript self.now }
+    {
+        self.events.as_slice()
+    }
+
+    /// The fleet, what happens to it, and the JSON that both were read from, which has no number that isn't whole.
+    #[tactic(auto, using(crate::proofs::WholeLemmas::script_whole))]
+    pub fn into_parts(self) -> (Setup, Vec<Event>, Value)
+        ensures setup { result.0 ≡ self.setup }
+        ensures events { result.1.items ≡ self.events }
+        ensures json { result.2 ≡ self.json }
+        ensures whole { has_float (view result.2) ≡ false }
+        ensures playable { IsPlayable result.0 }
+    {
+        let _playable = self.setup();
+        (self.setup, self.events, self.json)
+    }
+}
+
+/// The script that a JSON text is. Refusals, in this order: TooLarge where the text has more than 16,777,216 bytes; NotJson;
+/// WrongKind where the whole is no object; UnknownKey, MissingKey; those of `format` and of `setup`; TooLarge where there are
+/// more items, proxies or events than a script may have; WrongKind where the events are no list; BadEvent with the index of
+/// the first that can't be made; OutOfMemory, which reading the text may answer too.
+pub fn read_events(alloc: Global, bytes: &[u8]) -> Result<Script, PlanError>
+    ensures { ReadsScript bytes.now result }
+{
+    if bytes.len() > MAX_SCRIPT {
+        return Err(PlanError::TooLarge);
+    }
+    let json = json_of(alloc, bytes)?;
+    let (setup, events) = match script_draft(&json) {
+        Ok(draft) => draft.make(alloc)?,
+        Err(refusal) => return Err(refusal),
+    };
+    Ok(Script {
+        setup,
+        events,
+        json,
+    })
+}

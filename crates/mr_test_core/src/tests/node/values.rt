@@ -1,0 +1,56 @@
+//! Copies of items, and the numbers of errors.
+use crate::tests::must;
+use mr_node::{CacheNode, CachedItem, NodeError, Perform};
+use mr_text::Key;
+use std::alloc::Global;
+use std::process::Abort;
+use super::{Told, are, is};
+
+/// Asserts what an item has.
+fn has(rt: &impl Abort, item: &CachedItem) {
+    is(rt, 0, item.flags, 5);
+    are(rt, 1, item.block.as_bytes(), b"v");
+    is(rt, 2, item.expires_at, Some(110));
+}
+
+/// A copy of the item of the key `k`.
+fn copied(rt: &impl Abort, node: &CacheNode, key: &Key) -> Option<CachedItem> {
+    match node.peek(key) {
+        Some(item) => Some(must(rt, item.copy())),
+        None => None,
+    }
+}
+
+/// Asserts that the copy of an item that a set leaves is there, though the cache keeps nothing then.
+fn is_copied(rt: &impl Abort, alloc: Global, node: &mut CacheNode) {
+    let command = must(rt, Told::Set(10).of(alloc, b'k'));
+    must(rt, node.perform(100, command));
+    let copy = copied(rt, node, &must(rt, Key::new(alloc, b"k")));
+    node.restart();
+    match &copy {
+        Some(item) => has(rt, item),
+        None => rt.panic("no item is kept"),
+    }
+}
+
+#[test]
+fn a_copied_item_is_equal(rt: HostRuntime) {
+    let mut node = must(&rt, CacheNode::new(rt.alloc(), 1));
+    is_copied(&rt, rt.alloc(), &mut node);
+}
+
+/// Errors, and their numbers.
+static NUMBERS: [(NodeError, u8); 5] = [
+    (NodeError::ZeroCapacity, 1),
+    (NodeError::OutOfMemory, 2),
+    (NodeError::ReadFault, 3),
+    (NodeError::WriteFault, 4),
+    (NodeError::TurnsSpent, 5),
+];
+
+#[test]
+fn errors_have_their_numbers(rt: HostRuntime) {
+    for (row, it) in NUMBERS.iter().enumerate() {
+        is(&rt, row, it.0.number(), it.1);
+    }
+}

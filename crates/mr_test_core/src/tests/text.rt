@@ -1,0 +1,20 @@
+//! The text protocol: its values, its readers and writers, and what devices do.
+mod devices;
+mod reader;
+mod slow_reader;
+mod values;
+mod writer;
+
+use mr_text::{Block, Item, Key};
+use std::alloc::Global;
+use std::process::Abort;
+use super::{Rule, are, count_is, holds, is, leaves, must, repeated, spelled};
+
+/// An item of these bytes.
+fn item(rt: &impl Abort, alloc: Global, key: &[u8], flags: u32, block: &[u8]) -> Item {
+    Item {
+        key: must(rt, Key::new(alloc, key)),
+        flags,
+        block: must(rt, Block::new(alloc, block)),
+    }
+}

@@ -1,0 +1,37 @@
+//! Worked values of the threaded layer, at one proxy whose new pool is 7101.
+mod books;
+mod carriers;
+mod closings;
+
+ghost use Rattle.std.specs.Prelude.{◌≢◌};
+ghost use Rattle.mr_text.specs.declared.request.Request.{Request};
+
+use crate::tests::{must, recorded};
+use mr_clock::FixedClock;
+use mr_desks::{Desk, DeskError, RecordedProxy, Share};
+use mr_proxy::Issued;
+use mr_text::Request;
+use std::alloc::Global;
+use std::process::Abort;
+use std::sync::Wait;
+use super::broken::Broken;
+
+/// The nodes of the new pool.
+const NEW: [&[u8]; 1] = [b"7101"];
+
+/// A proxy whose carriers never reach their nodes, and whose book keeps at most so many steps.
+fn desk_of(rt: &impl Abort, alloc: Global, limit: u64) -> RecordedProxy<Broken> {
+    must(rt, recorded(alloc, 0, &NEW, limit))
+}
+
+/// Issues a request at a second of the phase in which deletes go to both sides and gets to the old one.
+fn issue(
+    rt: &impl Wait,
+    desk: &RecordedProxy<Broken>,
+    share: &mut Share,
+    request: &Request,
+) -> Result<Issued, DeskError>
+    requires { request.now ≢ Request.Quit }
+{
+    desk.issue(rt, share, &mut FixedClock(1000), request)
+}

@@ -1,0 +1,44 @@
+//! Configurations, plans, scripts and transcripts, as calls: what each gives where all goes well, and the refusals that the
+//! program doesn't print whole.
+mod configs;
+mod scripts;
+
+use mr_pools::{NodeName, Pool};
+use std::alloc::{AllocError, Global};
+use std::fmt::Debug;
+use std::process::Abort;
+use super::is;
+
+/// Asserts which value there is in one case of several.
+fn is_for<T: PartialEq + Debug + Drop>(rt: &impl Abort, value: T, wanted: T, case: &str) {
+    assert_eq!(rt; value, wanted, "in the case of {case}");
+}
+
+/// The text with another part in the place of one that has to stand in it.
+fn changed(
+    rt: &impl Abort,
+    alloc: Global,
+    text: &str,
+    (part, new): (&str, &str),
+) -> Result<String, AllocError> {
+    assert!(rt; text.contains(part), "no {part}");
+    text.replacen(alloc, part, new, 1)
+}
+
+/// Whether these are the names, in this order.
+fn are_names(names: &[NodeName], wanted: &[&str]) -> bool {
+    if names.len() != wanted.len() {
+        return false;
+    }
+    for (place, name) in names.iter().enumerate() {
+        if name.as_str() != wanted[place] {
+            return false;
+        }
+    }
+    true
+}
+
+/// Asserts that a pool has these names in this order.
+fn names_are(rt: &impl Abort, pool: &Pool, wanted: &[&str]) {
+    is(rt, are_names(pool.names(), wanted), true);
+}

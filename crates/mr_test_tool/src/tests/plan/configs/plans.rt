@@ -1,0 +1,160 @@
+//! Plans, timelines and advice over the configuration of the worked examples.
+use crate::tests::must;
+use mr_proxy::LegSheet;
+use std::process::Abort;
+use super::*;
+
+/// One request that is planned.
+#[derive(Clone, Copy)]
+enum Asked {
+    Get(&'static [u8]),
+    Delete(u8),
+    Quit,
+}
+
+/// A plan: what is asked and when, the phase, and each leg's side and node.
+type Row = (Asked, u64, PhaseName, &'static [(Side, u32)]);
+
+static ROWS: [Row; 3] = [
+    (
+        Asked::Delete(b'k'),
+        1000,
+        PhaseName::BothReadOld,
+        &[(Side::Old, 1), (Side::New, 2)],
+    ),
+    (
+        Asked::Get(b"kkb"),
+        999,
+        PhaseName::OldOnly,
+        &[(Side::Old, 1), (Side::Old, 1), (Side::Old, 0)],
+    ),
+    (Asked::Quit, 1100, PhaseName::BothReadNew, &[]),
+];
+
+fn key(alloc: Global, byte: u8) -> Result<Key, Fail> {
+    match Key::new(alloc, &[byte]) {
+        Ok(key) => Ok(key),
+        Err(_) => Err(Fail::from("no key")),
+    }
+}
+
+fn keys(alloc: Global, bytes: &[u8]) -> Result<KeyList, Fail> {
+    let mut keys = Vec::new(alloc);
+    for byte in bytes {
+        keys.push(key(alloc, *byte)?)?;
+    }
+    match KeyList::new(keys) {
+        Ok(keys) => Ok(keys),
+        Err(_) => Err(Fail::from("no keys")),
+    }
+}
+
+fn request(rt: &impl Abort, alloc: Global, asked: Asked) -> Request {
+    match asked {
+        Asked::Get(bytes) => Request::Get {
+            keys: must(rt, keys(alloc, bytes)),
+        },
+        Asked::Delete(byte) => Request::Delete {
+            key: must(rt, key(alloc, byte)),
+            noreply: false,
+        },
+        Asked::Quit => Request::Quit,
+    }
+}
+
+/// Whether legs have these sides and nodes, in this order.
+fn are_legs(sheets: &[LegSheet], legs: &[(Side, u32)]) -> bool {
+    if sheets.len() != legs.len() {
+        return false;
+    }
+    for (place, sheet) in sheets.iter().enumerate() {
+        let (side, node) = legs[place];
+        if sheet.side != side || sheet.node != node {
+            return false;
+        }
+    }
+    true
+}
+
+/// Asserts what a plan says.
+fn plan_is(rt: &impl Abort, plan: &RequestPlan, row: Row) {
+    let (_, at, phase, legs) = row;
+    is(rt, plan.phase() == phase, true);
+    is(rt, plan.reading(), at);
+    is(rt, are_legs(plan.sheets(), legs), true);
+}
+
+/// Plans a request, and asserts what the plan says.
+fn goes(rt: &impl Abort, alloc: Global, config: &Config, row: Row) -> Result<(), Fail> {
+    let request = request(rt, alloc, row.0);
+    match plan(alloc, config, row.1, request) {
+        Ok(plan) => {
+            plan_is(rt, &plan, row);
+            Ok(())
+        }
+        Err(_) => Err(Fail::from("no plan")),
+    }
+}
+
+#[test]
+fn requests_go_where_the_phase_says(rt: HostRuntime) {
+    let config = must(&rt, config(rt.alloc(), FLEET));
+    for row in &ROWS {
+        must(&rt, goes(&rt, rt.alloc(), &config, *row));
+    }
+}
+
+/// The first and the last second of a span.
+const fn span(first: u64, last: u64) -> Span {
+    Span { first, last }
+}
+
+/// Asserts which timeline a configuration has.
+fn timeline_is(rt: &impl Abort, config: &Config, wanted: PhaseTimes) {
+    assert_eq!(rt; timeline(config), wanted);
+}
+
+#[test]
+fn the_timeline_has_four_spans(rt: HostRuntime) {
+    timeline_is(
+        &rt,
+        &must(&rt, config(rt.alloc(), FLEET)),
+        PhaseTimes {
+            old_only: Some(span(0, 999)),
+            both_read_old: span(1000, 1099),
+            both_read_new: span(1100, 1199),
+            new_only: 1200,
+        },
+    );
+}
+
+/// The advice for clocks with these readings.
+fn advice(alloc: Global, config: &Config, readings: &[u64]) -> Result<Advice, Fail> {
+    match advise(alloc, config, readings) {
+        Ok(advice) => Ok(advice),
+        Err(_) => Err(Fail::from("no advice")),
+    }
+}
+
+/// Asserts how far clocks are apart, and whether they are near.
+fn spread_is(rt: &impl Abort, advice: &Advice, spread: u64, near: bool) {
+    is(rt, advice.spread(), spread);
+    is(rt, advice.near(), near);
+}
+
+/// Asserts what is told of clocks too far apart.
+fn far_is_told(rt: &impl Abort, advice: &Advice) {
+    let phases = [PhaseName::OldOnly, PhaseName::BothReadNew];
+    is(rt, advice.phases() == phases.as_slice(), true);
+    spread_is(rt, advice, 101, false);
+    is(rt, advice.interval(), 100);
+}
+
+#[test]
+fn advice_tells_phases_and_spread(rt: HostRuntime) {
+    let config = must(&rt, config(rt.alloc(), FLEET));
+    far_is_told(&rt, &must(&rt, advice(rt.alloc(), &config, &[999, 1100])));
+    let near = must(&rt, advice(rt.alloc(), &config, &[1000, 1100, 1050]));
+    spread_is(&rt, &near, 100, true);
+    spread_is(&rt, &must(&rt, advice(rt.alloc(), &config, &[])), 0, true);
+}

@@ -1,0 +1,214 @@
+-- What each step of a run says of the whole.
+use Rattle.std.proofs.Common.{◌≡◌, ℕ, List, Option, Some, None, Result, Ok, Err, refl, ap, subst, sym, inl, inr, ◌⊎◌}
+use Rattle.mr_text.specs.Sink.{SinkView, IsOneWrite}
+use Rattle.mr_text.specs.Source.{SourceView}
+use Rattle.mr_text.specs.declared.error.WriteFault.{WriteFault}
+use Rattle.mr_configs.specs.Config.{ConfigView}
+use Rattle.mr_tool.specs.declared.ended.Ended.{Ended}
+use Rattle.mr_tool.specs.declared.ended.Ended.TheVariants.{Done, NotAccepted, Faulted}
+use Rattle.mr_tool.specs.declared.fault.Fault.{Fault}
+use Rattle.mr_tool.specs.declared.fault.Fault.TheVariants.{Memory}
+use Rattle.mr_tool.specs.Given.{IsGiven}
+use Rattle.mr_tool.specs.GivenText.{Makes, WritesText}
+use Rattle.mr_words.specs.declared.service_words.NodeValues.{NodeValues}
+use Rattle.mr_words.specs.declared.service_words.ProxyValues.{ProxyValues}
+use Rattle.mr_words.specs.declared.words.PlanValues.{PlanValues}
+use Rattle.mr_words.specs.declared.words.TimelineValues.{TimelineValues}
+use Rattle.mr_words.specs.declared.words.Wanted.{Wanted}
+use Rattle.mr_words.specs.declared.words.Wanted.TheVariants as wanted
+use Rattle.mr_tool.specs.ConfigFile.{LoadsConfig}
+use Rattle.mr_tool.specs.Devices.{Devices, devices, IsTold, Tells, NoneFailed}
+use Rattle.mr_words.specs.Explain.{Told, told_by}
+use Rattle.mr_tool.specs.ExplainCommand.{WritesExplanation}
+use Rattle.mr_tool.specs.PlanCommand.{WritesPlan}
+use Rattle.mr_tool.specs.TimelineCommand.{WritesTimeline}
+use Rattle.mr_tool.specs.Run.{Gives, EndsWith, RunsCommand, Runs}
+use Rattle.mr_tool.specs.Services.{EndsService, NodeGives, ProxyGives, RunsService}
+use Rattle.mr_sockets.specs.Servers.{Asked, IsOneService, ServersView, clients_of, listen_of}
+use Rattle.mr_sockets.specs.declared.fault.OpenFault.{OpenFault}
+use Rattle.mr_tool.specs.Fault.{fault_line, readings_line}
+use Rattle.mr_tool.specs.Sources.{SourcesView}
+use Rattle.mr_words.specs.Words.{Say, SayBadReadings, SayNothing, path_in}
+
+-- a command that did what was wanted met no failure
+config_steady : (path : List ℕ) (before after : SourcesView) (config : ConfigView) → LoadsConfig path before (Ok config) after
+    → after.failures ≡ before.failures
+config_steady path before after config h = h.1.gives.3
+
+plan_steady : (plan : PlanValues) (before between : Devices) → WritesPlan plan before between (Ok tt) → between.faults ≡ before.faults → NoneFailed before between
+plan_steady plan before between h silent = record {
+  sources = config_steady plan.config.now before.sources between.sources h.config h.read.loaded;
+  input = h.read.read.steady;
+  output = h.writes.0.steady;
+  faults = ap (λ (s : SinkView). s.failures) silent;
+}
+
+timeline_steady : (timeline : TimelineValues) (before between : Devices) → WritesTimeline timeline before between (Ok tt) → between.faults ≡ before.faults
+    → NoneFailed before between
+timeline_steady timeline before between h silent = record {
+  sources = config_steady timeline.config.now before.sources between.sources h.config h.loaded;
+  input = ap (λ (s : SourceView). s.failures) h.unread;
+  output = h.writes.0.steady;
+  faults = ap (λ (s : SinkView). s.failures) silent;
+}
+
+explanation_steady : (told : Told) (before between : Devices) → WritesExplanation told before between (Ok tt) → between.faults ≡ before.faults
+    → NoneFailed before between
+explanation_steady told before between h silent = record {
+  sources = ap (λ (s : SourcesView). s.failures) h.unasked;
+  input = ap (λ (s : SourceView). s.failures) h.unread;
+  output = h.writes.0.steady;
+  faults = ap (λ (s : SinkView). s.failures) silent;
+}
+
+-- bytes that were given were given without a failure
+record IsSteady (before after : Devices) : Type 0 where
+  pub sources : after.sources.failures ≡ before.sources.failures
+  pub input : after.input.failures ≡ before.input.failures
+
+given_steady : (file : Option (List ℕ)) (bytes : List ℕ) (before after : Devices) → IsGiven file bytes before after → IsSteady before after
+given_steady (Some path) bytes before after given = record { sources = given.0.gives.3; input = ap (λ (s : SourceView). s.failures) given.1 }
+given_steady None bytes before after (inl all, unasked) = record { sources = ap (λ (s : SourcesView). s.failures) unasked; input = all.steady }
+given_steady None bytes before after (inr most, unasked) = record { sources = ap (λ (s : SourcesView). s.failures) unasked; input = most.steady }
+
+text_steady : (makes : Makes) (file : Option (List ℕ)) (ended : Ended) (before between : Devices) → WritesText makes file ended before between (Ok tt)
+    → between.faults ≡ before.faults → NoneFailed before between
+text_steady makes file ended before between h silent =
+    let steady = given_steady file h.bytes before between h.given in
+    record { sources = steady.sources; input = steady.input; output = h.writes.0.steady; faults = ap (λ (s : SinkView). s.failures) silent }
+
+-- a service that came to its end had no failure
+ended_service : (asked : Asked) (ended : Ended) (served : Result ℕ OpenFault) (old new : SinkView) (idle busy : ServersView) → IsOneService asked idle served busy
+    → EndsService (listen_of asked) (clients_of asked) served old new (Ok ended) → (busy.failures ≡ idle.failures) × (new.failures ≡ old.failures)
+ended_service asked ended (Ok count) old new idle busy serves ends = (serves.counted, ends.0.0.steady)
+ended_service asked ended (Err fault) old new idle busy serves ends = absurd ends
+
+service_steady : (asked : Asked) (ended : Ended) (before between : Devices) (idle busy : ServersView) → RunsService asked before between idle busy (Ok ended)
+    → (busy.failures ≡ idle.failures) × (between.output.failures ≡ before.output.failures)
+service_steady asked ended before between idle busy h = ended_service asked ended h.served before.output between.output idle busy h.serves h.ends
+
+-- no device failed, and no service
+abbrev AllSteady : Devices → Devices → ServersView → ServersView → Type 0
+AllSteady before between idle busy = NoneFailed before between × (busy.failures ≡ idle.failures)
+
+idle_steady : (before between : Devices) (idle busy : ServersView) → NoneFailed before between → busy ≡ idle → AllSteady before between idle busy
+idle_steady before between idle busy steady same = (steady, ap (λ (s : ServersView). s.failures) same)
+
+node_steady : (values : NodeValues) (ended : Ended) (before between : Devices) (idle busy : ServersView) → NodeGives values before between idle busy (Ok ended)
+    → between.faults ≡ before.faults → AllSteady before between idle busy
+node_steady values ended before between idle busy h silent =
+    let steady = service_steady _ ended before between idle busy h.runs in (
+      record {
+        sources = ap (λ (s : SourcesView). s.failures) h.unasked;
+        input = ap (λ (s : SourceView). s.failures) h.unread;
+        output = steady.1;
+        faults = ap (λ (s : SinkView). s.failures) silent;
+      },
+      steady.0,
+    )
+
+proxy_steady : (values : ProxyValues) (ended : Ended) (before between : Devices) (idle busy : ServersView) → ProxyGives values before between idle busy (Ok ended)
+    → between.faults ≡ before.faults → AllSteady before between idle busy
+proxy_steady values ended before between idle busy h silent =
+    let steady = service_steady _ ended before between idle busy h.runs in (
+      record {
+        sources = config_steady values.config.now before.sources between.sources h.config h.has.loaded;
+        input = ap (λ (s : SourceView). s.failures) h.has.unread;
+        output = steady.1;
+        faults = ap (λ (s : SinkView). s.failures) silent;
+      },
+      steady.0,
+    )
+
+command_steady : (wanted : Wanted) (ended : Ended) (before between : Devices) (idle busy : ServersView) → Gives wanted before between idle busy (Ok ended)
+    → between.faults ≡ before.faults → AllSteady before between idle busy
+command_steady (wanted.Plan values) Done before between idle busy h silent = idle_steady _ _ _ _ (plan_steady values before between h.0 silent) h.1
+command_steady (wanted.Plan values) NotAccepted before between idle busy h silent = absurd h.0
+command_steady (wanted.Plan values) Faulted before between idle busy h silent = absurd h.0
+command_steady (wanted.Timeline values) Done before between idle busy h silent = idle_steady _ _ _ _ (timeline_steady values before between h.0 silent) h.1
+command_steady (wanted.Timeline values) NotAccepted before between idle busy h silent = absurd h.0
+command_steady (wanted.Timeline values) Faulted before between idle busy h silent = absurd h.0
+command_steady (wanted.Run file) ended before between idle busy h silent =
+    idle_steady _ _ _ _ (text_steady _ (path_in file) ended before between h.0 silent) h.1
+command_steady (wanted.Check file) ended before between idle busy h silent =
+    idle_steady _ _ _ _ (text_steady _ (path_in file) ended before between h.0 silent) h.1
+command_steady (wanted.Node values) ended before between idle busy h silent = node_steady values ended before between idle busy h silent
+command_steady (wanted.Proxy values) ended before between idle busy h silent = proxy_steady values ended before between idle busy h silent
+command_steady (wanted.Explain explanation) Done before between idle busy h silent =
+    idle_steady _ _ _ _ (explanation_steady (told_by explanation) before between h.0 silent) h.1
+command_steady (wanted.Explain explanation) NotAccepted before between idle busy h silent = absurd h.0
+command_steady (wanted.Explain explanation) Faulted before between idle busy h silent = absurd h.0
+
+no_fault : (status : ℕ) → status ≡ 1 → (status ≡ 0) ⊎ (status ≡ 3) → ⊥
+no_fault status fault (inl done) = cc
+no_fault status fault (inr not_accepted) = cc
+
+not_wrong : (status : ℕ) → status ≡ 2 → (status ≡ 0) ⊎ (status ≡ 3) → ⊥
+not_wrong status wrong (inl done) = cc
+not_wrong status wrong (inr not_accepted) = cc
+
+ended_steady : (wanted : Wanted) (before between after : Devices) (idle busy : ServersView) (result : Result Ended Fault) (status : ℕ)
+    → Gives wanted before between idle busy result → between.faults ≡ before.faults → EndsWith result status between after → (status ≡ 0) ⊎ (status ≡ 3)
+    → AllSteady before after idle busy
+ended_steady wanted before between after idle busy (Ok ended) status gives silent ends done =
+    subst (λ (d : Devices). AllSteady before d idle busy) (sym ends.1) (command_steady wanted ended before between idle busy gives silent)
+ended_steady wanted before between after idle busy (Err fault) status gives silent ends done = absurd (no_fault status ends.0 done)
+
+pub done_steady : (words : List (List ℕ)) (before after : Devices) (idle busy : ServersView) (status : ℕ) → Runs words before after idle busy status
+    → (status ≡ 0) ⊎ (status ≡ 3) → NoneFailed before after × (busy.failures ≡ idle.failures)
+done_steady words before after idle busy status (inl runs) done =
+    ended_steady runs.wanted before runs.between after idle busy runs.result status runs.gives runs.silent runs.ends done
+done_steady words before after idle busy status (inr (inl refuses, same)) done = absurd (not_wrong status refuses.is_status done)
+done_steady words before after idle busy status (inr (inr (inl refuses), same)) done = absurd (not_wrong status refuses.is_status done)
+done_steady words before after idle busy status (inr (inr (inr memory), same)) done = absurd (no_fault status memory.0 done)
+
+-- one call tells the text that it hands over
+pub told_by_call : (text bytes : List ℕ) (old new : SinkView) (answer : Result (Unit {0}) WriteFault) → bytes ≡ text → IsOneWrite bytes old answer new
+    → IsTold text old new
+told_by_call text bytes old new answer same call = (answer, subst (λ (b : List ℕ). IsOneWrite b old answer new) same call)
+
+-- the other devices stay
+pub tells_alone : (text : List ℕ) (sources : SourcesView) (input : SourceView) (output old new : SinkView) → IsTold text old new
+    → Tells text (devices sources input output old) (devices sources input output new)
+tells_alone text sources input output old new told = record { told = told; unasked = refl; unread = refl; unwritten = refl }
+
+-- the run of a command that words say
+pub command_run : (words : List (List ℕ)) (wanted said : Wanted) (before between after : Devices) (idle busy : ServersView) (result : Result Ended Fault) (status : ℕ)
+    → Say words wanted → wanted ≡ said → Gives said before between idle busy result → between.faults ≡ before.faults → EndsWith result status between after
+    → RunsCommand words before after idle busy status
+command_run words wanted said before between after idle busy result status says is gives silent ends = record {
+  wanted = wanted;
+  says = says;
+  between = between;
+  result = result;
+  gives = subst (λ (w : Wanted). Gives w before between idle busy result) (sym is) gives;
+  silent = silent;
+  ends = ends;
+}
+
+-- the run of words that say no command
+pub refused_words_run : (words : List (List ℕ)) (sources : SourcesView) (input : SourceView) (output old new : SinkView) (servers : ServersView) (status : ℕ)
+    → SayNothing words → ((status ≡ 2) × ((text : List ℕ) × IsTold text old new)) ⊎ ((status ≡ 1) × IsTold (fault_line Memory) old new)
+    → Runs words (devices sources input output old) (devices sources input output new) servers servers status
+refused_words_run words sources input output old new servers status says (inl wrong) =
+    inr (inl (record { says_nothing = says; is_status = wrong.0; text = wrong.1.0; tells = tells_alone wrong.1.0 sources input output old new wrong.1.1 }), refl)
+refused_words_run words sources input output old new servers status says (inr memory) =
+    inr (inr (inr (memory.0, tells_alone (fault_line Memory) sources input output old new memory.1)), refl)
+
+-- the run of words whose readings are no list of numbers
+pub refused_readings_run : (words : List (List ℕ)) (sources : SourcesView) (input : SourceView) (output old new : SinkView) (servers : ServersView) (status : ℕ)
+    → SayBadReadings words → status ≡ 2 → IsTold readings_line old new
+    → Runs words (devices sources input output old) (devices sources input output new) servers servers status
+refused_readings_run words sources input output old new servers status says is told =
+    inr (inr (inl (record { says = says; is_status = is; tells = tells_alone readings_line sources input output old new told })), refl)
+
+-- the run of words that memory was refused for
+pub memory_run : (words : List (List ℕ)) (sources : SourcesView) (input : SourceView) (output old new : SinkView) (servers : ServersView) (status : ℕ) → status ≡ 1
+    → IsTold (fault_line Memory) old new → Runs words (devices sources input output old) (devices sources input output new) servers servers status
+memory_run words sources input output old new servers status is told =
+    inr (inr (inr (is, tells_alone (fault_line Memory) sources input output old new told)), refl)
+
+-- words that are the same run the same
+pub same_words_run : (words others : List (List ℕ)) (before after : Devices) (idle busy : ServersView) (status : ℕ) → words ≡ others
+    → Runs words before after idle busy status → Runs others before after idle busy status
+same_words_run words others before after idle busy status same runs = subst (λ (w : List (List ℕ)). Runs w before after idle busy status) same runs

@@ -1,0 +1,55 @@
+use Rattle.std.proofs.Common.{inr, refl}
+use Rattle.mr_tool.proofs.GivenLemmas.{ends_not_given, ends_not_played}
+use Rattle.mr_tool.specs.Devices.{devices}
+use Rattle.mr_words.specs.Words.{path_in}
+use Rattle.mr_tool.specs.RunCommand.{MakesTranscript, RefusesPlay}
+use Rattle.mr_tool.specs.declared.ended.Ended.TheVariants.{Done}
+use Rattle.mr_tool.proofs.commands.run_script.Goals as goal
+
+pub returns-in_err-bytes : goal.returns-in_err-bytes
+returns-in_err-bytes g c = λ faults.
+    ends_not_given MakesTranscript RefusesPlay (path_in c.args.file) c.from_residual.result c.in_err-bytes.field-0.0
+    (devices (g.S.Sources.told c.args.sources.now) (g.I.Source.told c.args.input.now) (g.O.Sink.told c.args.output.now) faults)
+    (devices (g.S.Sources.told c.given_bytes.new.sources) (g.I.Source.told c.given_bytes.new.input) (g.O.Sink.told c.args.output.now) faults)
+    c.from_residual.ensures.1 (c.in_err-bytes.ensures.lacks (g.O.Sink.told c.args.output.now) (g.O.Sink.told c.args.output.now) faults) refl
+
+pub returns-in_err-text : goal.returns-in_err-text
+returns-in_err-text g c = λ faults.
+    ends_not_played (path_in c.args.file) c.in_ok-bytes.bytes.items c.as_slice.result.now c.from_residual-in_err-text.result c.in_err-text.field-0.0
+    (devices (g.S.Sources.told c.args.sources.now) (g.I.Source.told c.args.input.now) (g.O.Sink.told c.args.output.now) faults)
+    (devices (g.S.Sources.told c.given_bytes.new.sources) (g.I.Source.told c.given_bytes.new.input) (g.O.Sink.told c.args.output.now) faults)
+    c.from_residual-in_err-text.ensures.1 (c.in_ok-bytes.ensures.given (g.O.Sink.told c.args.output.now) (g.O.Sink.told c.args.output.now) faults) c.as_slice.ensures.value
+    c.in_err-text.ensures.refused refl
+
+pub returns-in-Ok : goal.returns-in-Ok
+returns-in-Ok g c = λ faults. record {
+  bytes = c.in_ok-bytes.bytes.items;
+  text = c.in_ok-text.text.items;
+  given = c.in_ok-bytes.ensures.given (g.O.Sink.told c.args.output.now) (g.O.Sink.told c.write_at_once.new.writer) faults;
+  made = (rw c.as_slice.ensures.value at c.in_ok-text.ensures.played, refl);
+  writes = rw c.as_slice-2.ensures.value at c.in-Ok.ensures.text;
+}
+
+pub returns-in-Err-Memory : goal.returns-in-Err-Memory
+returns-in-Err-Memory g c = λ faults. inr (record {
+  bytes = c.in_ok-bytes.bytes.items;
+  text = c.in_ok-text.text.items;
+  ended = Done;
+  given = c.in_ok-bytes.ensures.given (g.O.Sink.told c.args.output.now) (g.O.Sink.told c.write_at_once.new.writer) faults;
+  due = (rw c.as_slice.ensures.value at c.in_ok-text.ensures.played, refl);
+  unwritten = rw c.in-Err-Memory.field-0-is at c.in-Err-Memory.ensures.text;
+})
+
+pub returns : goal.returns
+returns g c = λ faults.
+    let writes = rw (c.in-Err-Write.field-0-is, c.as_slice-2.ensures.value) at c.in-Err-Write.ensures.text in (
+      Done,
+      writes.0,
+      record {
+        bytes = c.in_ok-bytes.bytes.items;
+        text = c.in_ok-text.text.items;
+        given = c.in_ok-bytes.ensures.given (g.O.Sink.told c.args.output.now) (g.O.Sink.told c.write_at_once.new.writer) faults;
+        made = (rw c.as_slice.ensures.value at c.in_ok-text.ensures.played, refl);
+        writes = writes.1;
+      },
+    )

@@ -1,0 +1,34 @@
+-- What a run works on: files, an input, an output, and a place that faults are told to.
+use Rattle.std.specs.Prelude.{◌≡◌, ℕ, List, Result}
+use Rattle.mr_text.specs.Source.{SourceView}
+use Rattle.mr_text.specs.Sink.{SinkView, IsOneWrite}
+use Rattle.mr_text.specs.declared.error.WriteFault.{WriteFault}
+use Rattle.mr_tool.specs.Sources.{SourcesView}
+
+-- the four devices, as contracts see them
+pub record Devices : Type 0 where
+  pub sources : SourcesView
+  pub input : SourceView
+  pub output : SinkView
+  pub faults : SinkView
+
+abbrev pub devices : SourcesView → SourceView → SinkView → SinkView → Devices
+devices sources input output faults = record { sources = sources; input = input; output = output; faults = faults }
+
+-- the text was handed over in one call, whatever that answered
+abbrev pub IsTold : List ℕ → SinkView → SinkView → Type 0
+IsTold text old new = (answer : Result (Unit {0}) WriteFault) × IsOneWrite text old answer new
+
+-- the text was told where faults are told, in one call, and nothing else was done
+pub record Tells (text : List ℕ) (before after : Devices) : Type 0 where
+  pub told : IsTold text before.faults after.faults
+  pub unasked : after.sources ≡ before.sources
+  pub unread : after.input ≡ before.input
+  pub unwritten : after.output ≡ before.output
+
+-- none of the devices failed
+pub record NoneFailed (before after : Devices) : Type 0 where
+  pub sources : after.sources.failures ≡ before.sources.failures
+  pub input : after.input.failures ≡ before.input.failures
+  pub output : after.output.failures ≡ before.output.failures
+  pub faults : after.faults.failures ≡ before.faults.failures

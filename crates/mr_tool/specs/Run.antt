@@ -1,0 +1,110 @@
+-- What a run does with its words and its devices.
+use Rattle.std.specs.Prelude.{◌≡◌, ℕ, ◌+◌, ◌≤◌, ◌⊎◌, List, Option, Some, None, Result, Ok, Err}
+use Rattle.mr_tool.specs.CheckCommand.{CheckGives}
+use Rattle.mr_tool.specs.Devices.{Devices, Tells}
+use Rattle.mr_words.specs.Explain.{told_by}
+use Rattle.mr_tool.specs.ExplainCommand.{ExplainGives}
+use Rattle.mr_tool.specs.Fault.{fault_line, readings_line}
+use Rattle.mr_tool.specs.FirstRequest.{most_reads}
+use Rattle.mr_tool.specs.PlanCommand.{PlanGives}
+use Rattle.mr_tool.specs.RunCommand.{RunGives}
+use Rattle.mr_tool.specs.Services.{NodeGives, ProxyGives}
+use Rattle.mr_tool.specs.TimelineCommand.{TimelineGives}
+use Rattle.mr_tool.specs.WholeInput.{most_taken}
+use Rattle.mr_words.specs.Words.{Say, SayBadReadings, SayNothing, path_in}
+use Rattle.mr_tool.specs.declared.ended.Ended.{Ended}
+use Rattle.mr_tool.specs.declared.ended.Ended.TheVariants.{Done, NotAccepted, Faulted}
+use Rattle.mr_tool.specs.declared.fault.Fault.{Fault}
+use Rattle.mr_tool.specs.declared.fault.Fault.TheVariants.{Memory}
+use Rattle.mr_sockets.specs.Servers.{ServersView}
+use Rattle.mr_words.specs.declared.words.Wanted.{Wanted}
+use Rattle.mr_words.specs.declared.words.Wanted.TheVariants.{Plan, Timeline, Run, Check, Node, Proxy, Explain}
+
+-- the status of a run that did what was wanted
+abbrev pub DONE : ℕ
+DONE = 0
+
+-- the status of a run that found a fault
+abbrev pub FAULT : ℕ
+FAULT = 1
+
+-- the status for wrong words or a call for help
+abbrev pub WRONG_WORDS : ℕ
+WRONG_WORDS = 2
+
+-- the status of a check that doesn't accept its transcript
+abbrev pub NOT_ACCEPTED : ℕ
+NOT_ACCEPTED = 3
+
+-- the status of a run whose command met no fault
+abbrev pub status_of : Ended → ℕ
+status_of Done = DONE
+status_of NotAccepted = NOT_ACCEPTED
+status_of Faulted = FAULT
+
+-- what each command does with the files, the input and the output, and with the services of the machine
+abbrev pub Gives : Wanted → Devices → Devices → ServersView → ServersView → Result Ended Fault → Type 0
+Gives (Plan values) before after idle busy result = PlanGives values before after result × (busy ≡ idle)
+Gives (Timeline values) before after idle busy result = TimelineGives values before after result × (busy ≡ idle)
+Gives (Run file) before after idle busy result = RunGives (path_in file) before after result × (busy ≡ idle)
+Gives (Check file) before after idle busy result = CheckGives (path_in file) before after result × (busy ≡ idle)
+Gives (Node values) before after idle busy result = NodeGives values before after idle busy result
+Gives (Proxy values) before after idle busy result = ProxyGives values before after idle busy result
+Gives (Explain explanation) before after idle busy result = ExplainGives (told_by explanation) before after result × (busy ≡ idle)
+
+-- how a run ends once its command did: the line of a fault is told, and nothing is done after
+abbrev pub EndsWith : Result Ended Fault → ℕ → Devices → Devices → Type 0
+EndsWith (Ok ended) status before after = (status ≡ status_of ended) × (after ≡ before)
+EndsWith (Err fault) status before after = (status ≡ FAULT) × Tells (fault_line fault) before after
+
+-- the words say a command, and it was run; it has nothing of the device for faults
+pub record RunsCommand (words : List (List ℕ)) (before after : Devices) (idle busy : ServersView) (status : ℕ) : Type 0 where
+  pub wanted : Wanted
+  pub says : Say words wanted
+  pub between : Devices
+  pub result : Result Ended Fault
+  pub gives : Gives wanted before between idle busy result
+  pub silent : between.faults ≡ before.faults
+  pub ends : EndsWith result status between after
+
+-- the words say no command, and one text is told of that
+pub record RefusesWords (words : List (List ℕ)) (before after : Devices) (status : ℕ) : Type 0 where
+  pub says_nothing : SayNothing words
+  pub is_status : status ≡ WRONG_WORDS
+  pub text : List ℕ
+  pub tells : Tells text before after
+
+-- the words say a timeline whose readings are no list of numbers, and that is told
+pub record RefusesReadings (words : List (List ℕ)) (before after : Devices) (status : ℕ) : Type 0 where
+  pub says : SayBadReadings words
+  pub is_status : status ≡ WRONG_WORDS
+  pub tells : Tells readings_line before after
+
+-- what is told where no command is run: of wrong words, or that memory was refused while they were read
+abbrev pub RunsNothing : List (List ℕ) → Devices → Devices → ℕ → Type 0
+RunsNothing words before after status =
+    RefusesWords words before after status ⊎ RefusesReadings words before after status ⊎ EndsWith (Err Memory) status before after
+
+-- the run of these words: their command, or nothing, and then no service is asked for
+abbrev pub Runs : List (List ℕ) → Devices → Devices → ServersView → ServersView → ℕ → Type 0
+Runs words before after idle busy status =
+    RunsCommand words before after idle busy status ⊎ (RunsNothing words before after status × (busy ≡ idle))
+
+-- the most reads of a command that is given a file, or else the input
+abbrev pub reads_without : Option (List ℕ) → ℕ
+reads_without (Some path) = 0
+reads_without None = most_taken
+
+-- the most reads of the input that a command makes
+abbrev pub most_reads_of : Wanted → ℕ
+most_reads_of (Plan values) = most_reads
+most_reads_of (Timeline values) = 0
+most_reads_of (Run file) = reads_without (path_in file)
+most_reads_of (Check file) = reads_without (path_in file)
+most_reads_of (Node values) = 0
+most_reads_of (Proxy values) = 0
+most_reads_of (Explain explanation) = 0
+
+-- the input is read no oftener than the command may that the words say
+abbrev pub ReadsFew : List (List ℕ) → Devices → Devices → Type 0
+ReadsFew words before after = (wanted : Wanted) → Say words wanted → after.input.reads ≤ before.input.reads + most_reads_of wanted

@@ -1,0 +1,65 @@
+//! What stops a command once its words were read.
+ghost use Rattle.std.specs.Prelude.{◌≡◌};
+
+use mr_configs::PlanError;
+use mr_node::NodeError;
+use mr_text::{Sink, TextError};
+use mr_words::{node_line, plan_line, text_line};
+use thiserror::Error;
+
+/// Why a command stopped. Its text says it without what is printed around it.
+#[derive(Debug, Drop, Error)]
+pub enum Fault {
+    /// Memory was refused to the program itself.
+    #[error("memory")]
+    Memory,
+    /// The standard input failed.
+    #[error("input")]
+    Input,
+    /// The standard output failed.
+    #[error("output")]
+    Output,
+    /// A file can't be read. This is the line that is printed of it, whole.
+    #[error("{0}")]
+    File(String),
+    /// No socket can be opened. This is the line that is printed of it, whole.
+    #[error("{0}")]
+    Net(String),
+    /// The configuration was refused.
+    #[error("plan: {0}")]
+    Plan(PlanError),
+    /// The node was refused.
+    #[error("node: {0}")]
+    Node(NodeError),
+    /// The text of the request was refused.
+    #[error("text: {0}")]
+    Text(TextError),
+}
+
+impl Fault {
+    ghost use Rattle.mr_tool.specs.Devices.{IsTold};
+    ghost use Rattle.mr_tool.specs.Fault.{fault_line};
+
+    /// The line that is printed: the layer that found the fault, and the number and the name of the refusal.
+    pub fn line(&self) -> &str
+        ensures { result.now ≡ fault_line self.now }
+    {
+        match self {
+            Fault::Memory => "migctl: memory\n",
+            Fault::Input => "migctl: input\n",
+            Fault::Output => "migctl: output\n",
+            Fault::File(line) => line.as_str(),
+            Fault::Net(line) => line.as_str(),
+            Fault::Plan(refusal) => plan_line(*refusal),
+            Fault::Node(refusal) => node_line(*refusal),
+            Fault::Text(refusal) => text_line(*refusal),
+        }
+    }
+
+    /// Tells the line in one call. That its place fails too can't be told anywhere.
+    pub fn tell<F: Sink>(&self, faults: &mut F)
+        ensures { IsTold (fault_line self.now) (F.told faults.old) (F.told faults.new) }
+    {
+        let _ = faults.write_all(self.line().as_bytes());
+    }
+}

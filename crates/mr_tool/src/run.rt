@@ -1,0 +1,141 @@
+//! A run, from its words to the status of the program.
+ghost use Rattle.std.specs.Prelude.{◌≡◌, ◌⊎◌, ℕ, List, map};
+ghost use Rattle.mr_text.specs.Sink.{SinkView};
+ghost use Rattle.mr_text.specs.Source.{SourceView};
+ghost use Rattle.mr_tool.specs.Devices.{devices, IsTold, NoneFailed};
+ghost use Rattle.mr_tool.specs.Fault.{fault_line, not_text_line, readings_line};
+ghost use Rattle.mr_tool.specs.Run.{EndsWith, ReadsFew, Runs};
+ghost use Rattle.mr_tool.specs.Sources.{SourcesView};
+
+use crate::commands::{run_check, run_explain, run_plan, run_script, run_timeline};
+use crate::ended::Ended;
+use crate::fault::Fault;
+use crate::services::{run_node, run_proxy};
+use crate::sources::Sources;
+use mr_sockets::HostServers;
+use mr_text::{Sink, Source};
+use mr_words::{Wanted, WordsFault, read_words};
+use std::alloc::Global;
+use std::net::{Net, TcpListener, TcpStream};
+use std::sync::Wait;
+use std::thread::Threads;
+use std::time;
+
+/// The status of a command that did what was wanted.
+pub const DONE: u8 = 0;
+
+/// The status of a command that found a fault.
+pub const FAULT: u8 = 1;
+
+/// The status for wrong words or a call for help.
+pub const WRONG_WORDS: u8 = 2;
+
+/// The status of a check that doesn't accept its transcript.
+pub const NOT_ACCEPTED: u8 = 3;
+
+/// Tells a fault, which is all that is done of it.
+pub fn tell_fault<F: Sink>(fault: &Fault, faults: &mut F) -> u8
+    ensures status { result ≡ FAULT }
+    ensures told { IsTold (fault_line fault.now) (F.told faults.old) (F.told faults.new) }
+{
+    fault.tell(faults);
+    FAULT
+}
+
+/// Tells that a word isn't text, which no command can have.
+pub fn tell_not_text<F: Sink>(faults: &mut F) -> u8
+    ensures status { result ≡ WRONG_WORDS }
+    ensures told { IsTold not_text_line (F.told faults.old) (F.told faults.new) }
+{
+    let _ = faults.write_all("migctl: words are not UTF-8\n".as_bytes());
+    WRONG_WORDS
+}
+
+/// Tells that the readings are no list of numbers.
+fn tell_bad_readings<F: Sink>(faults: &mut F) -> u8
+    ensures status { result ≡ WRONG_WORDS }
+    ensures told { IsTold readings_line (F.told faults.old) (F.told faults.new) }
+{
+    let _ = faults.write_all("migctl: words --readings\n".as_bytes());
+    WRONG_WORDS
+}
+
+/// Tells why the words are wrong, or the help that they call for.
+fn tell_wrong_words<F: Sink>(alloc: Global, error: &clap::Error, faults: &mut F) -> u8
+    ensures { ((result ≡ WRONG_WORDS) × ((text : List ℕ) × IsTold text (F.told faults.old) (F.told faults.new)))
+        ⊎ ((result ≡ FAULT) × IsTold (fault_line Fault.Memory) (F.told faults.old) (F.told faults.new)) }
+{
+    let Ok(text) = format!(in alloc; "{error}") else {
+        return tell_fault(&Fault::Memory, faults);
+    };
+    let _ = faults.write_all(text.as_bytes());
+    WRONG_WORDS
+}
+
+/// The status of a command that ended so. Its fault is told.
+fn finish<F: Sink>(gave: Result<Ended, Fault>, faults: &mut F) -> u8
+    ensures { (sources : SourcesView) (input : SourceView) (output : SinkView)
+        → EndsWith gave result (devices sources input output (F.told faults.old)) (devices sources input output (F.told faults.new)) }
+{
+    match gave {
+        Ok(Ended::Done) => DONE,
+        Ok(Ended::NotAccepted) => NOT_ACCEPTED,
+        Ok(Ended::Faulted) => FAULT,
+        Err(fault) => tell_fault(&fault, faults),
+    }
+}
+
+/// Runs the command that the words ask for, of which the first names it, and gives the program's status. A node or a proxy
+/// is served by `servers`. Files come from `sources`; what the command is to print goes to `output`, and a fault to `faults`.
+/// Faults are looked for in this order: the words; then for a plan the file, the configuration, the request; for a timeline
+/// the file, the configuration; for a run or a check the file, or the input where none is named, and then the script or the
+/// transcript; for a node its capacity and the socket; for a proxy the file, the configuration, the socket; last the output.
+pub fn run_words<
+    R: Net<Listener = TcpListener, Stream = TcpStream> + Threads + Wait + time::Clock + Sync,
+    S: Sources,
+    I: Source,
+    O: Sink,
+    F: Sink,
+>(
+    alloc: Global,
+    servers: &mut HostServers<'_, R>,
+    words: &[&str],
+    sources: &mut S,
+    input: &mut I,
+    output: &mut O,
+    faults: &mut F,
+) -> u8
+    ensures runs { Runs (map (λ word. word.now) words.now)
+        (devices (S.told sources.old) (I.told input.old) (O.told output.old) (F.told faults.old))
+        (devices (S.told sources.new) (I.told input.new) (O.told output.new) (F.told faults.new)) servers.old servers.new result }
+    ensures reads { ReadsFew (map (λ word. word.now) words.now)
+        (devices (S.told sources.old) (I.told input.old) (O.told output.old) (F.told faults.old))
+        (devices (S.told sources.new) (I.told input.new) (O.told output.new) (F.told faults.new)) }
+
+    // What was wanted was done only where no device failed and each service began, and so was a check that doesn't accept.
+    ensures done { (result ≡ DONE) ⊎ (result ≡ NOT_ACCEPTED) → NoneFailed
+        (devices (S.told sources.old) (I.told input.old) (O.told output.old) (F.told faults.old))
+        (devices (S.told sources.new) (I.told input.new) (O.told output.new) (F.told faults.new))
+        × (servers.new.failures ≡ servers.old.failures) }
+{
+    match read_words(alloc, words) {
+        Ok(Wanted::Plan(values)) => {
+            finish(run_plan(alloc, &values, sources, input, output), faults)
+        }
+        Ok(Wanted::Timeline(values)) => {
+            finish(run_timeline(alloc, &values, sources, output), faults)
+        }
+        Ok(Wanted::Run(file)) => finish(run_script(alloc, file, sources, input, output), faults),
+        Ok(Wanted::Check(file)) => finish(run_check(alloc, file, sources, input, output), faults),
+        Ok(Wanted::Node(values)) => finish(run_node(alloc, &values, servers, output), faults),
+        Ok(Wanted::Proxy(values)) => {
+            finish(run_proxy(alloc, &values, servers, sources, output), faults)
+        }
+        Ok(Wanted::Explain(explanation)) => {
+            finish(run_explain(alloc, &explanation, output), faults)
+        }
+        Err(WordsFault::Wrong(error)) => tell_wrong_words(alloc, &error, faults),
+        Err(WordsFault::Readings) => tell_bad_readings(faults),
+        Err(WordsFault::Memory) => tell_fault(&Fault::Memory, faults),
+    }
+}

@@ -1,0 +1,28 @@
+//! The text that a run prints of a script.
+ghost use Rattle.std.specs.Prelude.{IfOk, IfErr};
+ghost use Rattle.mr_tool.specs.RunCommand.{IsPlayed, IsPlayFault};
+
+use crate::fault::Fault;
+use mr_scripts::read_events;
+use mr_transcripts::write_transcript;
+use std::alloc::Global;
+
+/// The transcript of the script that the bytes are, with a line end. Refusals are those of the script, then those of its
+/// play.
+pub fn text_of_play(alloc: Global, bytes: &[u8]) -> Result<Vec<u8>, Fault>
+    ensures played { IfOk result (λ text. IsPlayed bytes.now text.items) }
+    ensures refused { IfErr result (λ fault. IsPlayFault bytes.now fault) }
+{
+    let script = match read_events(alloc, bytes) {
+        Ok(script) => script,
+        Err(refusal) => return Err(Fault::Plan(refusal)),
+    };
+    let mut text = match write_transcript(alloc, script) {
+        Ok(text) => text,
+        Err(refusal) => return Err(Fault::Plan(refusal)),
+    };
+    match text.extend_from_slice(b"\n") {
+        Ok(()) => Ok(text),
+        Err(_) => Err(Fault::Memory),
+    }
+}

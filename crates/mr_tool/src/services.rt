@@ -1,0 +1,126 @@
+//! The commands that serve clients: what is asked of the machine, and what is printed once all clients have ended.
+ghost use Rattle.std.specs.Prelude.{◌≡◌, IfOk};
+ghost use Rattle.mr_sockets.specs.Servers.{ServersView};
+ghost use Rattle.mr_text.specs.Sink.{SinkView};
+ghost use Rattle.mr_text.specs.Source.{SourceView};
+ghost use Rattle.mr_tool.specs.Devices.{devices};
+ghost use Rattle.mr_tool.specs.Fault.{IsNetFault};
+ghost use Rattle.mr_tool.specs.Services.{served_line, EndsService, NodeGives, ProxyGives};
+ghost use Rattle.mr_tool.specs.Sources.{SourcesView};
+
+use crate::config_file::load_config;
+use crate::ended::Ended;
+use crate::fault::Fault;
+use crate::line::push_number;
+use crate::printing::{PrintFault, write_at_once};
+use crate::sources::Sources;
+use mr_node::CacheNode;
+use mr_proxy::ProxyCore;
+use mr_sockets::{HostServers, OpenFault};
+use mr_text::Sink;
+use mr_words::{NodeValues, ProxyValues};
+use std::alloc::{AllocError, Global};
+use std::net::{Net, TcpListener, TcpStream};
+use std::sync::Wait;
+use std::thread::Threads;
+use std::time;
+
+/// The fault of an address at which no socket can be opened.
+fn unopened(alloc: Global, address: &str) -> Fault
+    ensures { IsNetFault address.now result }
+{
+    match format!(in alloc; "migctl: net {address}\n") {
+        Ok(line) => Fault::Net(line),
+        Err(_) => Fault::Memory,
+    }
+}
+
+/// The line that says how many clients ended without a fault.
+fn line_of(alloc: Global, served: u64) -> Result<Vec<u8>, AllocError>
+    ensures { IfOk result (λ text. text.items ≡ served_line served) }
+{
+    let mut text = Vec::new(alloc);
+    text.extend_from_slice(b"served ")?;
+    push_number(&mut text, served)?;
+    text.extend_from_slice(b"\n")?;
+    Ok(text)
+}
+
+/// Writes what came of a service: how many of its clients ended without a fault, or that it had no socket.
+fn end_service<O: Sink>(
+    alloc: Global,
+    listen: &str,
+    clients: u64,
+    served: Result<u64, OpenFault>,
+    output: &mut O,
+) -> Result<Ended, Fault>
+    ensures { EndsService listen.now clients served (O.told output.old) (O.told output.new) result }
+{
+    let served = match served {
+        Ok(served) => served,
+        Err(OpenFault::Net) => return Err(unopened(alloc, listen)),
+    };
+    let Ok(line) = line_of(alloc, served) else {
+        return Err(Fault::Memory);
+    };
+    match write_at_once(line.as_slice(), output) {
+        Ok(()) if served == clients => Ok(Ended::Done),
+        Ok(()) => Ok(Ended::Faulted),
+        Err(PrintFault::Memory) => Err(Fault::Memory),
+        Err(PrintFault::Write) => Err(Fault::Output),
+    }
+}
+
+/// Serves a node, and writes how many of its clients ended without a fault once all have.
+pub fn run_node<
+    R: Net<Listener = TcpListener, Stream = TcpStream> + Threads + Wait + time::Clock + Sync,
+    O: Sink,
+>(
+    alloc: Global,
+    values: &NodeValues,
+    servers: &mut HostServers<'_, R>,
+    output: &mut O,
+) -> Result<Ended, Fault>
+    ensures { (sources : SourcesView) (input : SourceView) (faults : SinkView) → NodeGives values.now
+        (devices sources input (O.told output.old) faults)
+        (devices sources input (O.told output.new) faults) servers.old servers.new result }
+{
+    let node = match CacheNode::new(alloc, values.capacity as usize) {
+        Ok(node) => node,
+        Err(refusal) => return Err(Fault::Node(refusal)),
+    };
+    let served = servers.serve_node(alloc, values.listen, node, values.clients, values.turns);
+    end_service(alloc, values.listen, values.clients, served, output)
+}
+
+/// Serves a proxy by the configuration in a file, and writes how many of its clients ended without a fault once all have.
+pub fn run_proxy<
+    R: Net<Listener = TcpListener, Stream = TcpStream> + Threads + Wait + time::Clock + Sync,
+    S: Sources,
+    O: Sink,
+>(
+    alloc: Global,
+    values: &ProxyValues,
+    servers: &mut HostServers<'_, R>,
+    sources: &mut S,
+    output: &mut O,
+) -> Result<Ended, Fault>
+    ensures { (input : SourceView) (faults : SinkView) → ProxyGives values.now
+        (devices (S.told sources.old) input (O.told output.old) faults)
+        (devices (S.told sources.new) input (O.told output.new) faults) servers.old servers.new result }
+{
+    let config = load_config(alloc, values.config, sources)?;
+    let Ok(routing) = config.routing().copy() else {
+        return Err(Fault::Memory);
+    };
+    let core = ProxyCore::new(alloc, 0, 0, routing, config.schedule(), values.room);
+    let served = servers.serve_proxy(
+        alloc,
+        values.listen,
+        core,
+        config.routing(),
+        values.clients,
+        values.turns,
+    );
+    end_service(alloc, values.listen, values.clients, served, output)
+}
