@@ -1,4 +1,4 @@
-pub mod Script
+pub mod ListClock
 pub mod Readings
 pub mod Clocks
 pub mod ClockError

@@ -3,6 +3,6 @@ use Rattle.std.specs.Prelude.{◌≡◌, ℕ, ◌+◌, ◌<◌, ◌^◌, Option,
 
 -- One call, by how often the clock had failed before and has failed after: a reading within the range of the machine's
 -- time, or one failure more. No more is known of what the machine shows.
-abbrev pub Reads : ℕ → Option ℕ → ℕ → Type 0
-Reads failures (Some seconds) failures' = (seconds < 2 ^ 63) × (failures' ≡ failures)
-Reads failures None failures' = failures' ≡ failures + 1
+abbrev pub ReadsMachine : ℕ → Option ℕ → ℕ → Type 0
+ReadsMachine failures (Some seconds) failures' = (seconds < 2 ^ 63) × (failures' ≡ failures)
+ReadsMachine failures None failures' = failures' ≡ failures + 1

@@ -1,3 +1,4 @@
+//! What a clock is, whoever keeps it: a machine, a list or a test.
 ghost use Rattle.std.specs.Prelude.{◌≡◌, ◌+◌, ℕ, Option, Some, None, MatchResult};
 
 use crate::error::ClockFault;

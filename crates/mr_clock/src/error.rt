@@ -1,3 +1,4 @@
+//! Why a clock or readings refuse.
 ghost use Rattle.std.specs.Prelude.{◌≡◌};
 
 use std::alloc::AllocError;

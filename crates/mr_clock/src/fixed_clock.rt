@@ -1,3 +1,4 @@
+//! A clock that stands still, for tests and for planning at one moment.
 ghost use Rattle.std.specs.Prelude.{◌≡◌, Option, Some};
 
 use crate::clock::Clock;

@@ -1,3 +1,4 @@
+//! A clock that follows a list, so that a test can say when a phase changes and when a reading fails.
 ghost use Rattle.std.specs.Prelude.{◌≡◌, ◌+◌, MatchResult};
 
 use crate::clock::Clock;
@@ -16,9 +17,9 @@ pub struct ListClock {
 
 impl Model for ListClock {
     ghost use Rattle.std.specs.Prelude.{drop};
-    ghost use Rattle.mr_clock.specs.Script.{Script};
+    ghost use Rattle.mr_clock.specs.ListClock.{ClockList};
 
-    ghost Value = { Script };
+    ghost Value = { ClockList };
 
     ghost view = { λ c. record { left = drop c.next c.readings.items; failures = c.failures } };
 }
@@ -40,7 +41,7 @@ impl ListClock {
 }
 
 impl Clock for ListClock {
-    ghost use Rattle.mr_clock.specs.Script.{GivesNext, first_reading, left_after};
+    ghost use Rattle.mr_clock.specs.ListClock.{GivesNext, first_reading, left_after};
 
     ghost failures = { λ c. c.failures };
 

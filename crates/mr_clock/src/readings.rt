@@ -1,3 +1,4 @@
+//! What the clocks of a fleet did so far: how far they were ever apart, and whether one went back.
 ghost use Rattle.std.specs.Prelude.{◌≡◌, ◌≤◌, ◌<◌, length, slice_get, IfOk, MatchResult};
 ghost use Rattle.mr_clock.specs.Readings.{spread_of};
 

@@ -1,7 +1,7 @@
 //! The machine's time as a clock.
 ghost use Rattle.std.specs.Prelude.{◌≡◌, ◌+◌, ◌/◌, ◌<◌, ◌^◌, Some, None, IfOk, MatchResult};
 ghost use Rattle.std.specs.Time.{system_time_nanos};
-ghost use Rattle.mr_clock.specs.SystemClock.{Reads};
+ghost use Rattle.mr_clock.specs.SystemClock.{ReadsMachine};
 
 use crate::{Clock, ClockFault};
 use mr_text::GhostCount;
@@ -46,7 +46,7 @@ impl<'a, R: time::Clock> SystemClock<'a, R> {
 impl<'a, R: time::Clock> Clock for SystemClock<'a, R> {
     ghost failures = { λ c. c };
 
-    ghost reads = { Reads };
+    ghost reads = { ReadsMachine };
 
     fn now(&mut self) -> Result<u64, ClockFault> {
         match seconds_now(self.rt) {

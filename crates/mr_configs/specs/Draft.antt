@@ -19,7 +19,7 @@ config_drafted draft =
     record { routing = routing_between (names_of_old draft) (names_of_new draft) draft.hash; schedule = draft.migration.schedule }
 
 -- nothing but want of memory keeps it from being made
-pub record CanBeMade (draft : Draft) : Type 0 where
+pub record IsConfigReady (draft : Draft) : Type 0 where
   pub old : pool_of_names (names_of_old draft) ≡ Ok (names_of_old draft)
   pub new : pool_of_names (names_of_new draft) ≡ Ok (names_of_new draft)
   pub apart : stand_apart (names_of_old draft) (names_of_new draft) ≡ true

@@ -3,7 +3,7 @@ ghost use Rattle.std.specs.Prelude.{◌≡◌, Ok, Err, IfOk, IfErr, codes};
 ghost use Rattle.serde_json.specs.Find.{get};
 ghost use Rattle.serde_json.specs.View.{view};
 ghost use Rattle.mr_configs.specs.Config.{hash_of, config_of, IsJson, IsNoJson, ReadsConfig};
-ghost use Rattle.mr_configs.specs.Draft.{config_drafted, CanBeMade};
+ghost use Rattle.mr_configs.specs.Draft.{config_drafted, IsConfigReady};
 
 use crate::error::PlanError;
 use crate::fields::{check_object, field};
@@ -55,7 +55,7 @@ fn hash_of(value: &Value) -> Result<NamedHash, PlanError>
 /// Looks at a configuration whole, without taking memory, and tells the first refusal.
 pub fn draft_of(value: &Value) -> Result<Draft<'_>, PlanError>
     ensures config { IfOk result (λ draft. config_of (view value.now) ≡ Ok (config_drafted draft)) }
-    ensures makeable { IfOk result (λ draft. CanBeMade draft) }
+    ensures makeable { IfOk result (λ draft. IsConfigReady draft) }
     ensures refused { IfErr result (λ e. config_of (view value.now) ≡ Err e) }
 {
     check_object(value, &CONFIG_KEYS)?;
@@ -76,7 +76,7 @@ pub fn draft_of(value: &Value) -> Result<Draft<'_>, PlanError>
 impl<'a> Draft<'a> {
     /// The configuration, made.
     pub fn make(&self, alloc: Global) -> Result<Config, AllocError>
-        requires { CanBeMade self.now }
+        requires { IsConfigReady self.now }
         ensures { IfOk result (λ config. config ≡ config_drafted self.now) }
     {
         let old = make_pool(alloc, self.migration.old)?;

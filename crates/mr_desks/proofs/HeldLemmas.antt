@@ -12,13 +12,13 @@ use Rattle.mr_proxy.specs.ProxyView.{ProxyView}
 use Rattle.mr_proxy.specs.Transitions.{place_of_op, pending_with, open_sheet, noted_by, settled, after_take, after_give_up}
 use Rattle.mr_desks.specs.Recorded.{Gave, PendingStands}
 use Rattle.mr_desks.specs.Issuing.{IsDeskRefusal}
-use Rattle.mr_desks.specs.Shared.{IsHeld, why_turned_down}
+use Rattle.mr_desks.specs.Shared.{IsSharedCore, why_turned_down}
 use Rattle.mr_desks.specs.declared.desk_error.DeskError.{DeskError}
 use Rattle.mr_desks.specs.declared.desk_error.DeskError.TheVariants.{ClockFault, NumbersSpent, NoRoom}
 use Rattle.mr_desks.proofs.KeptLemmas.{open_stands, noted_stands, settled_as, settled_next, left_stands, left_next}
 
-pub held_issue : (gave : Gave) (core new : ProxyView) (issues t : ℕ) (request : Request) → IsHeld gave core issues → new ≡ after_issue core t request
-    → IsHeld gave new (issues + 1)
+pub held_issue : (gave : Gave) (core new : ProxyView) (issues t : ℕ) (request : Request) → IsSharedCore gave core issues → new ≡ after_issue core t request
+    → IsSharedCore gave new (issues + 1)
 held_issue gave core new issues t request h is =
     rw is
     (record {
@@ -27,8 +27,8 @@ held_issue gave core new issues t request h is =
     })
 
 held_by : (gave : Gave) (core : ProxyView) (issues n : ℕ) (back : LegBack) (w : Option PendingView) → noted_by core back.sheet.id back.reply ≡ w
-    → IsHeld gave core issues → ∥ gave back.sheet back.reply ∥₁ → open_sheet core back.sheet.id ≡ Some back.sheet
-    → IsHeld gave (settled core n w) issues
+    → IsSharedCore gave core issues → ∥ gave back.sheet back.reply ∥₁ → open_sheet core back.sheet.id ≡ Some back.sheet
+    → IsSharedCore gave (settled core n w) issues
 held_by gave core issues n back None e h g own = h
 held_by gave core issues n back (Some noted) e h g own =
     record {
@@ -37,13 +37,13 @@ held_by gave core issues n back (Some noted) e h g own =
     }
 
 pub held_take : (gave : Gave) (core new : ProxyView) (issues : ℕ) (back : LegBack) (id : LegId) (reply : LegReply)
-    → IsHeld gave core issues → ∥ gave back.sheet back.reply ∥₁ → open_sheet core back.sheet.id ≡ Some back.sheet
-    → id ≡ back.sheet.id → reply ≡ back.reply → new ≡ after_take core id reply → IsHeld gave new issues
+    → IsSharedCore gave core issues → ∥ gave back.sheet back.reply ∥₁ → open_sheet core back.sheet.id ≡ Some back.sheet
+    → id ≡ back.sheet.id → reply ≡ back.reply → new ≡ after_take core id reply → IsSharedCore gave new issues
 held_take gave core new issues back id reply h g own named same is =
     rw (is, named, same)
     (held_by gave core issues (place_of_op core.outstanding back.sheet.id.op) back (noted_by core back.sheet.id back.reply) refl h g own)
 
-pub held_give_up : (gave : Gave) (core : ProxyView) (issues : ℕ) (op : OpId) → IsHeld gave core issues → IsHeld gave (after_give_up core op) issues
+pub held_give_up : (gave : Gave) (core : ProxyView) (issues : ℕ) (op : OpId) → IsSharedCore gave core issues → IsSharedCore gave (after_give_up core op) issues
 held_give_up gave core issues op h =
     let n = place_of_op core.outstanding op in
     let o = pending_with core.outstanding op in

@@ -25,8 +25,8 @@ use Rattle.mr_proxy.specs.Sound.{IsSound}
 use Rattle.mr_proxy.specs.Transitions.{place_of_op, pending_with, open_sheet_in, open_sheet, open_legs_of, noted_by, settled, after_take, taken_by, taken_of, left_by, after_give_up, given_up_in, given_up_of}
 use Rattle.mr_proxy.proofs.OpenLemmas.{issue_opens_lem, take_closes_one_lem, give_up_closes_lem}
 use Rattle.mr_proxy.proofs.SoundLemmas.{noting_in}
-use Rattle.mr_desks.specs.Recorded.{Gave, SlotStands, PendingStands, CoreStands, AnswerStands, IsKept}
-use Rattle.mr_desks.specs.Replay.{after, replay, is_issue, IsNoted, IsStep, AreSteps}
+use Rattle.mr_desks.specs.Recorded.{Gave, SlotStands, PendingStands, CoreStands, AnswerStands, IsRecordedCore}
+use Rattle.mr_desks.specs.Replay.{after, replay, is_issue, IsNoted, IsBookStep, AreSteps}
 use Rattle.mr_desks.specs.declared.step.Step.{Step}
 use Rattle.mr_desks.specs.declared.step.Step.TheVariants.{Issue, Take, GiveUp}
 
@@ -40,24 +40,24 @@ open_stands gave (sheet ∷ sheets) zero d within = tt
 open_stands gave (sheet ∷ sheets) (suc k) d within = open_stands gave sheets k d (omega arith)
 
 -- one step more
-steps_push : (p : ProxyView) (steps : List Step) (step : Step) → AreSteps p steps → IsStep (replay p steps) step → AreSteps p (steps ++ step ∷ [])
+steps_push : (p : ProxyView) (steps : List Step) (step : Step) → AreSteps p steps → IsBookStep (replay p steps) step → AreSteps p (steps ++ step ∷ [])
 steps_push p [] step are is = (is, tt)
 steps_push p (first ∷ steps) step are is = (are.0, steps_push (after p first) steps step are.1 is)
 
 -- one step more, of the proxy that the steps before it leave
-step_made : (core : ProxyView) (steps : List Step) (step : Step) → core ≡ replay (opening_of core) steps → AreSteps (opening_of core) steps → IsStep core step
+step_made : (core : ProxyView) (steps : List Step) (step : Step) → core ≡ replay (opening_of core) steps → AreSteps (opening_of core) steps → IsBookStep core step
     → AreSteps (opening_of core) (steps ++ step ∷ [])
-step_made core steps step replays made is = steps_push (opening_of core) steps step made (subst (λ p. IsStep p step) replays is)
+step_made core steps step replays made is = steps_push (opening_of core) steps step made (subst (λ p. IsBookStep p step) replays is)
 
 pub keeps_issue : (gave : Gave) (core new : ProxyView) (steps longer : List Step) (issues limit capacity larger t : ℕ) (request : Request)
-    → IsKept gave core steps issues limit capacity
+    → IsRecordedCore gave core steps issues limit capacity
     → refusal_of core ≡ None
     → request ≢ Quit
     → new ≡ after_issue core t request
     → longer ≡ steps ++ Issue t request ∷ []
     → length steps + open_legs_of core + 1 + length (sheets_of core t request) ≤ limit
     → length steps + (open_legs_of core + 1 + length (sheets_of core t request)) ≤ larger
-    → IsKept gave new longer (issues + 1) limit larger
+    → IsRecordedCore gave new longer (issues + 1) limit larger
 keeps_issue gave core new steps longer issues limit capacity larger t request k accepted asked is noted fits roomy =
     let opens = issue_opens_lem core t request in
     let one_more = length_push steps (Issue t request) in
@@ -139,9 +139,9 @@ is_noted_by reply noted None e = cc
 is_noted_by reply noted (Some other) e = is_noted_in other (is_complete other)
 
 pub keeps_noted : (gave : Gave) (core : ProxyView) (steps : List Step) (issues limit capacity : ℕ) (back : LegBack) (noted : PendingView)
-    → IsKept gave core steps issues limit capacity → ∥ gave back.sheet back.reply ∥₁ → open_sheet core back.sheet.id ≡ Some back.sheet
+    → IsRecordedCore gave core steps issues limit capacity → ∥ gave back.sheet back.reply ∥₁ → open_sheet core back.sheet.id ≡ Some back.sheet
     → noted_by core back.sheet.id back.reply ≡ Some noted
-    → IsKept gave (after_take core back.sheet.id back.reply) (steps ++ Take back ∷ []) issues limit capacity
+    → IsRecordedCore gave (after_take core back.sheet.id back.reply) (steps ++ Take back ∷ []) issues limit capacity
 keeps_noted gave core steps issues limit capacity back noted k g own e =
     let n = place_of_op core.outstanding back.sheet.id.op in
     let new = after_take core back.sheet.id back.reply in
@@ -168,10 +168,10 @@ noted_of reply taken None e noted = absurd (subst IsNoted e noted)
 noted_of reply taken (Some pending) e noted = (pending, refl)
 
 pub keeps_take : (gave : Gave) (core new : ProxyView) (steps longer : List Step) (issues limit capacity : ℕ) (back : LegBack) (taken : Taken)
-    → IsKept gave core steps issues limit capacity → ∥ gave back.sheet back.reply ∥₁ → open_sheet core back.sheet.id ≡ Some back.sheet
+    → IsRecordedCore gave core steps issues limit capacity → ∥ gave back.sheet back.reply ∥₁ → open_sheet core back.sheet.id ≡ Some back.sheet
     → taken ≡ taken_of core back.sheet.id back.reply → IsNoted taken
     → new ≡ after_take core back.sheet.id back.reply → longer ≡ steps ++ Take back ∷ []
-    → IsKept gave new longer issues limit capacity
+    → IsRecordedCore gave new longer issues limit capacity
 keeps_take gave core new steps longer issues limit capacity back taken k g own e noted is told =
     let w = noted_of back.reply taken (noted_by core back.sheet.id back.reply) e noted in
     rw (is, told) (keeps_noted gave core steps issues limit capacity back w.0 k g own w.1)
@@ -220,9 +220,9 @@ left_next core n None = refl
 left_next core n (Some pending) = refl
 
 pub keeps_give_up : (gave : Gave) (core new : ProxyView) (steps longer : List Step) (issues limit capacity : ℕ) (op : OpId) (answer : AnswerView)
-    → IsKept gave core steps issues limit capacity → IsSound core → given_up_of core op ≡ Some answer
+    → IsRecordedCore gave core steps issues limit capacity → IsSound core → given_up_of core op ≡ Some answer
     → new ≡ after_give_up core op → longer ≡ steps ++ GiveUp op ∷ []
-    → IsKept gave new longer issues limit capacity
+    → IsRecordedCore gave new longer issues limit capacity
 keeps_give_up gave core new steps longer issues limit capacity op answer k s e is told =
     let n = place_of_op core.outstanding op in
     let o = pending_with core.outstanding op in
@@ -259,7 +259,7 @@ given_answer_stands gave core op answer e all =
 
 -- there is room for the step of a reply that is noted
 pub take_has_room : (gave : Gave) (core : ProxyView) (steps : List Step) (issues limit capacity : ℕ) (id : LegId) (reply : LegReply) (taken : Taken)
-    → IsKept gave core steps issues limit capacity → taken ≡ taken_of core id reply → IsNoted taken → length steps < capacity
+    → IsRecordedCore gave core steps issues limit capacity → taken ≡ taken_of core id reply → IsNoted taken → length steps < capacity
 take_has_room gave core steps issues limit capacity id reply taken k e noted =
     let w = noted_of reply taken (noted_by core id reply) e noted in
     let closes = take_closes_one_lem core id reply w.0 w.1 in

@@ -36,14 +36,14 @@ AreAmong all (session ∷ sessions) = All (Contains all) session × AreAmong all
 
 -- the proxy is the one that it was at first, as many requests were accepted as the sessions issued, and the answers that
 -- they hold are to different requests
-pub record IsCounted (opening core : ProxyView) (shares : List ℕ) (sessions : List (List AnswerView)) : Type 0 where
+pub record CountsIssues (opening core : ProxyView) (shares : List ℕ) (sessions : List (List AnswerView)) : Type 0 where
   pub alike : AreAlike opening core
   pub counted : sum shares ≡ core.next
   pub different : have_different_ops sessions ≡ true
 
 -- the book stands with what the sessions did: it is counted, and each answer of theirs is one of the book
 pub record StandsWith (opening core : ProxyView) (steps : List Step) (shares : List ℕ) (sessions : List (List AnswerView)) : Type 0 where
-  pub counted : IsCounted opening core shares sessions
+  pub counted : CountsIssues opening core shares sessions
   pub among : AreAmong (answers_of (opening_of core) steps) sessions
 
 -- what the book came to: it stands with what the sessions did, or it doesn't

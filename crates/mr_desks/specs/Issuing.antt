@@ -42,16 +42,16 @@ pub record IssuesAt (old : Recorded) (share t : ℕ) (request : Request) (op : O
   pub sent : legs ≡ sheets_of old.core t request
 
 -- what one call of a clock does: the clock before it, the reading or none at a fault, and the clock after it
-abbrev pub Reads : Type 0 → Type 1
-Reads K = K → Option ℕ → K → Type 0
+abbrev pub ClockRelation : Type 0 → Type 1
+ClockRelation K = K → Option ℕ → K → Type 0
 
 -- the clock was read once, and the request was issued at that reading
-abbrev pub Issues : {K : Type 0} → Reads K → (K → ℕ) → K → K → Recorded → ℕ → Request → OpId → List LegSheet → Recorded → ℕ → Type 0
-Issues reads failures clock clock' old share request op legs new raised =
+abbrev pub DeskIssues : {K : Type 0} → ClockRelation K → (K → ℕ) → K → K → Recorded → ℕ → Request → OpId → List LegSheet → Recorded → ℕ → Type 0
+DeskIssues reads failures clock clock' old share request op legs new raised =
     (t : ℕ) × reads clock (Some t) clock' × (failures clock' ≡ failures clock) × IssuesAt old share t request op legs new raised
 
 -- the clock was read once, and the request was refused at that reading, or there was none
-abbrev pub Refuses : {K : Type 0} → Reads K → (K → ℕ) → K → K → Recorded → ℕ → Request → DeskError → Type 0
-Refuses reads failures clock clock' old share request e =
+abbrev pub DeskRefuses : {K : Type 0} → ClockRelation K → (K → ℕ) → K → K → Recorded → ℕ → Request → DeskError → Type 0
+DeskRefuses reads failures clock clock' old share request e =
     ((t : ℕ) × reads clock (Some t) clock' × (failures clock' ≡ failures clock) × IsDeskRefusal (why_refused old share t request) e) ⊎
     (reads clock None clock' × (failures clock' ≡ failures clock + 1) × (e ≡ ClockFault))

@@ -5,14 +5,14 @@ use Rattle.mr_join.specs.declared.leg_reply.LegReply.{LegReply}
 use Rattle.mr_join.specs.declared.leg_reply.LegReply.TheVariants.{Failed}
 use Rattle.mr_node.specs.Kinds.{IsOfKind}
 use Rattle.mr_proxy.specs.declared.sheet.LegSheet.{LegSheet}
-use Rattle.mr_desks.specs.Issuing.{Reads}
+use Rattle.mr_desks.specs.Issuing.{ClockRelation}
 
 -- the reply is of the kind of the leg's command
-abbrev pub IsOfItsKind : LegSheet → LegReply → Type 0
-IsOfItsKind sheet reply = IsOfKind sheet.command reply
+abbrev pub IsReplyOfKind : LegSheet → LegReply → Type 0
+IsReplyOfKind sheet reply = IsOfKind sheet.command reply
 
 -- The clock was read once, and there is a reply: of the command's kind where there was a reading, else that the clock failed.
-abbrev pub CarriesLocally : {K : Type 0} → Reads K → K → LegSheet → Option LegReply → K → Type 0
+abbrev pub CarriesLocally : {K : Type 0} → ClockRelation K → K → LegSheet → Option LegReply → K → Type 0
 CarriesLocally reads clock sheet None clock' = ⊥
 CarriesLocally reads clock sheet (Some reply) clock' =
-    ((t : ℕ) × reads clock (Some t) clock' × IsOfItsKind sheet reply) ⊎ (reads clock None clock' × (reply ≡ Failed ClockFault))
+    ((t : ℕ) × reads clock (Some t) clock' × IsReplyOfKind sheet reply) ⊎ (reads clock None clock' × (reply ≡ Failed ClockFault))

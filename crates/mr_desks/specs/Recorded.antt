@@ -40,7 +40,7 @@ abbrev pub AnswerStands : Gave → AnswerView → Type 0
 AnswerStands gave answer = All (SlotStands gave) answer.slots
 
 -- What a recorded proxy keeps. The room for the steps of all open legs is there already: a leg needs one step at most.
-pub record IsKept (gave : Gave) (core : ProxyView) (steps : List Step) (issues limit capacity : ℕ) : Type 0 where
+pub record IsRecordedCore (gave : Gave) (core : ProxyView) (steps : List Step) (issues limit capacity : ℕ) : Type 0 where
   pub replays : core ≡ replay (opening_of core) steps
   pub made : AreSteps (opening_of core) steps
   pub counted : issues ≡ core.next

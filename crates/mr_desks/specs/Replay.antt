@@ -53,12 +53,12 @@ IsNoted Waiting = Unit {0}
 IsNoted (Answered answer) = Unit {0}
 
 -- the proxy makes this step: it accepts the request, notes the reply, or has the request under way that is given up
-abbrev pub IsStep : ProxyView → Step → Type 0
-IsStep p (Issue reading request) = (refusal_of p ≡ None) × (request ≢ Quit)
-IsStep p (Take back) = IsNoted (taken_of p back.sheet.id back.reply)
-IsStep p (GiveUp op) = given_up_of p op ≢ None
+abbrev pub IsBookStep : ProxyView → Step → Type 0
+IsBookStep p (Issue reading request) = (refusal_of p ≡ None) × (request ≢ Quit)
+IsBookStep p (Take back) = IsNoted (taken_of p back.sheet.id back.reply)
+IsBookStep p (GiveUp op) = given_up_of p op ≢ None
 
 -- the proxy makes these steps, one after another
 abbrev pub AreSteps : ProxyView → List Step → Type 0
 AreSteps p [] = Unit {0}
-AreSteps p (step ∷ steps) = IsStep p step × AreSteps (after p step) steps
+AreSteps p (step ∷ steps) = IsBookStep p step × AreSteps (after p step) steps

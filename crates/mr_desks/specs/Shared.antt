@@ -7,7 +7,7 @@ use Rattle.mr_desks.specs.declared.desk_error.DeskError.TheVariants.{NumbersSpen
 
 -- What it keeps: each reply that was noted is one that a carrier may give for its sheet, and as many requests were accepted
 -- as numbers were given out.
-pub record IsHeld (gave : Gave) (core : ProxyView) (issues : ℕ) : Type 0 where
+pub record IsSharedCore (gave : Gave) (core : ProxyView) (issues : ℕ) : Type 0 where
   pub stands : CoreStands gave core
   pub counted : issues ≡ core.next
 

@@ -1,7 +1,7 @@
 //! Whether the book of a proxy stands with what its sessions did.
 ghost use Rattle.std.specs.Prelude.{◌≡◌, ◌↔◌, IsTrue, All, Contains, IfOk, IfErr, sum, map};
 ghost use Rattle.mr_proxy.specs.Pending.{is_same_op};
-ghost use Rattle.mr_desks.specs.Closing.{has_op, some_has_op, are_apart, have_different_ops, AreAmong, IsCounted, StandsWith, ClosesSo};
+ghost use Rattle.mr_desks.specs.Closing.{has_op, some_has_op, are_apart, have_different_ops, AreAmong, CountsIssues, StandsWith, ClosesSo};
 
 use crate::carrier::Carrier;
 use crate::closed::Closed;
@@ -126,7 +126,7 @@ fn is_counted<C: Carrier>(
     shares: &[Share],
     sessions: &[Vec<Answer>],
 ) -> bool
-    ensures { IsTrue result ↔ IsCounted opening.now state.now.core shares.now (map (λ session. session.items) sessions.now) }
+    ensures { IsTrue result ↔ CountsIssues opening.now state.now.core shares.now (map (λ session. session.items) sessions.now) }
 {
     opening.alike(state.core())
         && is_sum_of(state.core().next(), shares)

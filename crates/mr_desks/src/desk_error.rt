@@ -48,11 +48,11 @@ impl From<ClockFault> for DeskError {
 
 impl DeskError {
     ghost use Rattle.std.specs.Prelude.{◌≡◌};
-    ghost use Rattle.mr_desks.specs.DeskError.{cause_of};
+    ghost use Rattle.mr_desks.specs.DeskError.{cause_of_refusal};
 
     /// What a client is told whose request was refused.
     pub fn cause(self) -> Cause
-        ensures { result ≡ cause_of self }
+        ensures { result ≡ cause_of_refusal self }
     {
         match self {
             DeskError::ClockFault => Cause::ClockFault,

@@ -1,6 +1,6 @@
 //! Carriers that a session uses in its own thread.
 ghost use Rattle.std.specs.Prelude.{◌≡◌, ◌+◌, [], ◌∷◌, MatchOption, IfSome, IfOk, IfErr, OnErr, map};
-ghost use Rattle.mr_desks.specs.Direct.{NodeCarries, PoolCarries, IsSent};
+ghost use Rattle.mr_desks.specs.Direct.{NodeCarries, PoolCarries, IsSentDirectly};
 
 use crate::carried::Carried;
 use crate::carrier::Carrier;
@@ -89,7 +89,7 @@ impl<C: Carrier> Carriers<C> for DirectCarriers<C> {
     fn send(&mut self, leg: Leg) -> Option<Leg>
         ensures leg { IfSome result (λ back. back ≡ leg) }
         ensures sent { MatchOption result
-            (IsSent C.carries C.faults self.old.pools self.old.came leg self.new.pools self.new.came)
+            (IsSentDirectly C.carries C.faults self.old.pools self.old.came leg self.new.pools self.new.came)
             (λ _. (self.new.pools ≡ self.old.pools) × (self.new.came ≡ self.old.came)) }
         ensures losses { MatchOption result (self.new.losses ≡ self.old.losses) (λ _. self.new.losses ≡ self.old.losses + 1) }
         ensures brought { self.new.brought ≡ self.old.brought }

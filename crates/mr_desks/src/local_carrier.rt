@@ -1,7 +1,7 @@
 //! A carrier that performs legs on a shared cache of the same process.
 ghost use Rattle.std.specs.Prelude.{◌≡◌, Some, None, IfOk};
 ghost use Rattle.mr_node.specs.Kinds.{IsOfKind};
-ghost use Rattle.mr_desks.specs.Local.{IsOfItsKind, CarriesLocally};
+ghost use Rattle.mr_desks.specs.Local.{IsReplyOfKind, CarriesLocally};
 
 use crate::carrier::Carrier;
 use crate::error::WorkerError;
@@ -51,7 +51,7 @@ impl<'a, K: Clock, R: Wait> LocalCarrier<'a, K, R> {
 }
 
 impl<'a, K: Clock, R: Wait> Carrier for LocalCarrier<'a, K, R> {
-    ghost gave = { IsOfItsKind };
+    ghost gave = { IsReplyOfKind };
 
     ghost faults = { λ _. 0 };
 

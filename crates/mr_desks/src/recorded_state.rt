@@ -6,7 +6,7 @@ ghost use Rattle.mr_proxy.specs.Transitions.{open_sheet, taken_of, given_up_of};
 ghost use Rattle.mr_proxy.specs.Sound.{IsSound};
 ghost use Rattle.mr_desks.specs.Recorded.{AnswerStands};
 ghost use Rattle.mr_desks.specs.Taking.{BecomesOf, after_taken, after_given_up, TakenStands, TakenInTime};
-ghost use Rattle.mr_desks.specs.Issuing.{steps_needed, why_refused, IsDeskRefusal, after_issued, Issues, Refuses};
+ghost use Rattle.mr_desks.specs.Issuing.{steps_needed, why_refused, IsDeskRefusal, after_issued, DeskIssues, DeskRefuses};
 
 use crate::awaiting::awaits;
 use crate::book::Book;
@@ -47,14 +47,14 @@ impl<C: Carrier> Drop for RecordedState<C> {
 }
 
 impl<C: Carrier> Model for RecordedState<C> {
-    ghost use Rattle.mr_desks.specs.Recorded.{Recorded, IsKept};
+    ghost use Rattle.mr_desks.specs.Recorded.{Recorded, IsRecordedCore};
     ghost use Rattle.std.specs.Prelude.{vec_capacity};
 
     ghost Value = { Recorded };
 
     ghost view = { λ s. record { core = s.core; steps = s.book.items; limit = s.limit } };
 
-    ghost invariant = { λ s. IsKept C.gave s.core s.book.items s.issues s.limit (vec_capacity s.book) };
+    ghost invariant = { λ s. IsRecordedCore C.gave s.core s.book.items s.issues s.limit (vec_capacity s.book) };
 }
 
 /// Does nothing but tell the prover what the type of a proxy keeps.
@@ -203,9 +203,9 @@ impl<C: Carrier> RecordedState<C> {
         request: &Request,
     ) -> Result<Issued, DeskError>
         requires { request.now ≢ Request.Quit }
-        ensures issued { IfOk result (λ issued. Issues K.reads K.failures clock.old clock.new self.old share.old request.now issued.op issued.legs.items self.new share.new) }
+        ensures issued { IfOk result (λ issued. DeskIssues K.reads K.failures clock.old clock.new self.old share.old request.now issued.op issued.legs.items self.new share.new) }
         ensures has_leg { IfOk result (λ issued. 1 ≤ length issued.legs.items) }
-        ensures refused { IfErr result (Refuses K.reads K.failures clock.old clock.new self.old share.old request.now) }
+        ensures refused { IfErr result (DeskRefuses K.reads K.failures clock.old clock.new self.old share.old request.now) }
         ensures unchanged { OnErr result ((self.new ≡ self.old) × (share.new ≡ share.old)) }
     {
         let reading = clock.now()?;

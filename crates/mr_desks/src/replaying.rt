@@ -2,7 +2,7 @@
 ghost use Rattle.std.specs.Prelude.{◌≡◌, option_map, IfOk, OnOk};
 ghost use Rattle.mr_proxy.specs.ProxyView.{opening_of};
 ghost use Rattle.mr_proxy.specs.Transitions.{taken_of, after_take};
-ghost use Rattle.mr_desks.specs.Replay.{after, answered_in, answer_at, answers_of, IsStep, AreSteps};
+ghost use Rattle.mr_desks.specs.Replay.{after, answered_in, answer_at, answers_of, IsBookStep, AreSteps};
 
 use crate::issuing::issue_copy;
 use crate::step::Step;
@@ -23,7 +23,7 @@ fn take_copy(core: &mut ProxyCore, back: &LegBack) -> Result<Option<Answer>, All
 
 /// Makes a step once more, and gives its answer, if it has one.
 fn play_step(core: &mut ProxyCore, step: &Step) -> Result<Option<Answer>, AllocError>
-    requires { IsStep core.old step.now }
+    requires { IsBookStep core.old step.now }
     ensures core { OnOk result (core.new ≡ after core.old step.now) }
     ensures answer { IfOk result (λ answer. option_map (λ a. a) answer ≡ answer_at core.old step.now) }
 {

@@ -40,13 +40,13 @@ impl<C: Carrier> Drop for SharedState<C> {
 
 impl<C: Carrier> Model for SharedState<C> {
     ghost use Rattle.mr_proxy.specs.ProxyView.{ProxyView};
-    ghost use Rattle.mr_desks.specs.Shared.{IsHeld};
+    ghost use Rattle.mr_desks.specs.Shared.{IsSharedCore};
 
     ghost Value = { ProxyView };
 
     ghost view = { λ s. s.core };
 
-    ghost invariant = { λ s. IsHeld C.gave s.core s.issues };
+    ghost invariant = { λ s. IsSharedCore C.gave s.core s.issues };
 }
 
 impl<C: Carrier> SharedState<C> {

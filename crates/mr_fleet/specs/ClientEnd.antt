@@ -5,12 +5,12 @@ use Rattle.mr_text.specs.Source.{SourceView, AreOffered}
 use Rattle.mr_node.specs.Session.{station, read_length}
 use Rattle.mr_node.specs.declared.ended.Ended.{Ended}
 use Rattle.mr_proxy.specs.Answer.{AnswerView}
-use Rattle.mr_desks.specs.Issuing.{Reads}
+use Rattle.mr_desks.specs.Issuing.{ClockRelation}
 use Rattle.mr_desks.specs.Recorded.{Gave}
 use Rattle.mr_desks.specs.declared.error.WorkerError.{WorkerError}
 use Rattle.mr_desks.specs.declared.error.WorkerError.TheVariants.{ReadFault, WriteFault, TurnsSpent, NoThread}
 use Rattle.mr_sessions.specs.Account.{account}
-use Rattle.mr_sessions.specs.Asking.{Asks, AsksInVain}
+use Rattle.mr_sessions.specs.Asking.{AsksDesk, AsksInVain}
 use Rattle.mr_sessions.specs.ClientSession.{ClientSessionIs, unanswered_count, given_up_count}
 
 -- nothing was read
@@ -23,7 +23,7 @@ IsUnwritten writer = writer ≡ record { written = []; handed = []; calls = 0; f
 
 -- A session at a proxy with a book served what this reader gave, from its beginning, and this is all that this writer was
 -- handed. It issued so many requests, took these answers, and ended so. What is said of it is what is said of any session.
-pub record HadSession {K : Type 0} (reads : Reads K) (failures : K → ℕ) (gave : Gave) (turns : ℕ) (reader : SourceView) (writer : SinkView) (issued : ℕ)
+pub record HadSession {K : Type 0} (reads : ClockRelation K) (failures : K → ℕ) (gave : Gave) (turns : ℕ) (reader : SourceView) (writer : SinkView) (issued : ℕ)
     (took : List AnswerView) (result : Result Ended WorkerError) : Type 0 where
   pub reader_before : SourceView
   pub writer_before : SinkView
@@ -35,7 +35,7 @@ pub record HadSession {K : Type 0} (reads : Reads K) (failures : K → ℕ) (gav
   pub brought_after : ℕ
   pub unread : IsUnread reader_before
   pub unwritten : IsUnwritten writer_before
-  pub session : ClientSessionIs (Asks reads failures gave true) (AsksInVain reads failures) reader_before reader
+  pub session : ClientSessionIs (AsksDesk reads failures gave true) (AsksInVain reads failures) reader_before reader
       (station clock_before (account 0 [] losses_before brought_before) writer_before)
       (station clock_after (account issued took losses_after brought_after) writer) result
   pub share : issued ≡ length took + unanswered_count result
@@ -61,6 +61,6 @@ pub record HadNoThread (reader : SourceView) (writer : SinkView) (issued : ℕ) 
   pub untaken : took ≡ []
 
 -- how a client ended, with what its reader read, what its writer wrote, how many requests were issued and which answers taken
-abbrev pub EndStands : {K : Type 0} → Reads K → (K → ℕ) → Gave → ℕ → SourceView → SinkView → ℕ → List AnswerView → Result Ended WorkerError → Type 0
+abbrev pub EndStands : {K : Type 0} → ClockRelation K → (K → ℕ) → Gave → ℕ → SourceView → SinkView → ℕ → List AnswerView → Result Ended WorkerError → Type 0
 EndStands reads failures gave turns reader writer issued took result =
     HadSession reads failures gave turns reader writer issued took result ⊎ HadNoThread reader writer issued took result

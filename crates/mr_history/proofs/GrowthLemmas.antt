@@ -7,7 +7,7 @@ use Rattle.mr_history.specs.declared.entry.Entry.{Entry}
 use Rattle.mr_history.specs.declared.verdict.Verdict.{Verdict}
 use Rattle.mr_history.specs.declared.verdict.Verdict.TheVariants.{Safe, Stale, Invented}
 use Rattle.mr_history.specs.Places.{At}
-use Rattle.mr_history.specs.History.{IsIssued, IsStored, IsAcknowledged, IsHit, IsFresh, IsSafe, IsWellFormed}
+use Rattle.mr_history.specs.History.{IsIssued, IsStored, IsAcknowledged, IsHit, IsFreshHit, IsSafe, IsWellFormed}
 use Rattle.mr_history.specs.Judgement.{Judges}
 use Rattle.mr_history.proofs.Lists.{at_within, at_left, at_before, at_last}
 use Rattle.mr_history.proofs.FormLemmas.{answered_after}
@@ -17,8 +17,8 @@ issued_before : (history later : List Entry) (op : OpId) (request : Request) (pl
 issued_before history later op request place issued below = record { proxy = issued.proxy; there = at_before history later issued.there below }
 
 -- the get was issued in what was there, and a delete acknowledged before that was issued in it too
-pub fresh_grows : (history later : List Entry) (item : Item) (issue answer : ℕ) → IsWellFormed (history ++ later) → IsFresh history item issue answer
-    → issue ≤ length history → IsFresh (history ++ later) item issue answer
+pub fresh_grows : (history later : List Entry) (item : Item) (issue answer : ℕ) → IsWellFormed (history ++ later) → IsFreshHit history item issue answer
+    → issue ≤ length history → IsFreshHit (history ++ later) item issue answer
 fresh_grows history later item issue answer formed fresh below = record {
   place = fresh.place;
   stored = record { by = fresh.stored.by; there = at_left later fresh.stored.there };
@@ -38,7 +38,7 @@ fresh_grows history later item issue answer formed fresh below = record {
 
 pub safe_grows : (history : List Entry) (entry : Entry) → IsWellFormed (history ++ entry ∷ []) → IsSafe history
     → ((get : OpId) (item : Item) (issue index : ℕ) → IsHit (history ++ entry ∷ []) get item issue (length history) index
-    → IsFresh (history ++ entry ∷ []) item issue (length history))
+    → IsFreshHit (history ++ entry ∷ []) item issue (length history))
     → IsSafe (history ++ entry ∷ [])
 safe_grows history entry formed safe new get item issue answer index hit =
     let first : issue < answer = answered_after formed hit.answered hit.issued in
@@ -55,7 +55,7 @@ safe_grows history entry formed safe new get item issue answer index hit =
           }))
           (omega arith)
       | inr last ↦
-          subst (λ k. IsFresh (history ++ entry ∷ []) item issue k) (sym last.0)
+          subst (λ k. IsFreshHit (history ++ entry ∷ []) item issue k) (sym last.0)
           (new get item issue index (subst (λ k. IsHit (history ++ entry ∷ []) get item issue k index) last.0 hit))
     ]
 

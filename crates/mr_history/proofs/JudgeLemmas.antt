@@ -11,9 +11,9 @@ use Rattle.mr_history.specs.declared.op_id.OpId.{OpId}
 use Rattle.mr_history.specs.declared.entry.Entry.{Entry}
 use Rattle.mr_history.specs.declared.entry.Entry.TheVariants.{Issued, Answered}
 use Rattle.mr_history.specs.Places.{At}
-use Rattle.mr_history.specs.History.{IsIssued, IsAcknowledged, IsHit, IsFresh, IsSafe, IsWellFormed}
+use Rattle.mr_history.specs.History.{IsIssued, IsAcknowledged, IsHit, IsFreshHit, IsSafe, IsWellFormed}
 use Rattle.mr_history.specs.Judgement.{IsFirstBadHit, IsInvented, IsLastStored, Convicts, IsFirstConvict, ShowsInvented, ShowsStale, AreFreshBefore, AreFreshUpTo}
-use Rattle.mr_history.specs.steps.Tests.{is_stored, is_issued_get, is_acknowledged, delete_of, NonePasses, LastPasses, NoConvict, FirstConvict}
+use Rattle.mr_history.specs.steps.Tests.{is_stored, is_issued_get, is_acknowledged, issued_delete, NonePasses, LastPasses, NoConvict, FirstConvict}
 use Rattle.mr_history.proofs.Lists.{at_within, at_one, at_taken, at_take, at_dropped, at_drop, any_place, position_none}
 use Rattle.mr_history.proofs.TestLemmas.{place_any, same_op_true, stored_entry, stored_passes, acknowledged_entry, acknowledged_passes, issued_get_entry, deleting_entry, deleting_passes}
 use Rattle.mr_history.proofs.FormLemmas.{issued_once, answered_after}
@@ -60,7 +60,7 @@ module _ (history : List Entry) (item : Item) (issue answer stored : ℕ) (forme
 
   -- such a delete is seen among them
   convict_seen : (delete : OpId) (start : ℕ) → Convicts history item.key stored issue delete start
-      → (entry : Entry) × At between (start - stored) entry × (delete_of item.key entry ≡ Some delete) × (list_any (is_acknowledged delete) between ≡ true)
+      → (entry : Entry) × At between (start - stored) entry × (issued_delete item.key entry ≡ Some delete) × (list_any (is_acknowledged delete) between ≡ true)
   convict_seen delete start convicts =
       let ack = convicts.acknowledged in
       let later : start < convicts.done = answered_after formed ack.answered ack.issued in
@@ -91,7 +91,7 @@ module _ (history : List Entry) (item : Item) (issue answer stored : ℕ) (forme
     ]
   ]
 
-  pub fresh : ((delete : OpId) (start : ℕ) → Convicts history item.key stored issue delete start → ⊥) → IsFresh history item issue answer
+  pub fresh : ((delete : OpId) (start : ℕ) → Convicts history item.key stored issue delete start → ⊥) → IsFreshHit history item issue answer
   fresh none = record {
     place = stored;
     stored = last.stored;
@@ -102,7 +102,7 @@ module _ (history : List Entry) (item : Item) (issue answer stored : ℕ) (forme
     ];
   }
 
-  pub fresh_behind : issue ≤ stored → IsFresh history item issue answer
+  pub fresh_behind : issue ≤ stored → IsFreshHit history item issue answer
   fresh_behind behind = fresh (λ delete start convicts.
       let ack = convicts.acknowledged in
       let later : start < convicts.done = answered_after formed ack.answered ack.issued in
@@ -140,7 +140,7 @@ module _ (history : List Entry) (item : Item) (issue answer stored : ℕ) (forme
       }
 
   -- what was stored before a delete that convicts it isn't fresh
-  pub outdated_is_bad : (delete : OpId) → IsFirstConvict history item.key stored issue delete → ¬ IsFresh history item issue answer
+  pub outdated_is_bad : (delete : OpId) → IsFirstConvict history item.key stored issue delete → ¬ IsFreshHit history item issue answer
   outdated_is_bad delete convicted fresh' =
       let first = last.last fresh'.place fresh'.stored fresh'.before in
       let convicts = convicted.convicts in
@@ -148,13 +148,13 @@ module _ (history : List Entry) (item : Item) (issue answer stored : ℕ) (forme
       let behind = convicts.after in
       omega arith
 
-pub unstored_is_bad : (history : List Entry) (item : Item) (issue answer : ℕ) → IsInvented history item answer → ¬ IsFresh history item issue answer
+pub unstored_is_bad : (history : List Entry) (item : Item) (issue answer : ℕ) → IsInvented history item answer → ¬ IsFreshHit history item issue answer
 unstored_is_bad history item issue answer invented fresh' = invented fresh'.place fresh'.stored fresh'.before
 
 -- what stands at the place of an answer that isn't a get's, or that isn't an answer, leaves the hits fresh
 pub fresh_next : (history : List Entry) (place : ℕ) → AreFreshBefore history place
     → ((get : OpId) (items : List Item) → At history place (Answered get (Items items)) → (keys : List (List ℕ)) (issue : ℕ) → IsIssued history get (Get keys) issue
-    → (index : ℕ) (item : Item) → At items index item → IsFresh history item issue place)
+    → (index : ℕ) (item : Item) → At items index item → IsFreshHit history item issue place)
     → AreFreshBefore history (place + 1)
 fresh_next history place before here = record {
   fresh = λ get item issue answer index hit below. elim (cases_lt answer place) [
@@ -162,7 +162,7 @@ fresh_next history place before here = record {
     | inr other ↦
         let same : answer ≡ place = omega arith in
         let answered = subst (λ k. At history k (Answered get (Items hit.items))) same hit.answered in
-        subst (λ k. IsFresh history item issue k) (sym same) (here get hit.items answered hit.keys issue hit.issued index item hit.has)
+        subst (λ k. IsFreshHit history item issue k) (sym same) (here get hit.items answered hit.keys issue hit.issued index item hit.has)
   ];
 }
 
@@ -209,9 +209,9 @@ module _ (history : List Entry) (formed : IsWellFormed history) (get : OpId) (it
     all_fresh here = fresh_next history answer before (λ get' items' answered' keys issue' issued index item has.
         let hit : IsHit history get' item issue' answer index = record { keys = keys; items = items'; issued = issued; answered = answered'; has = has } in
         let (same, there) = hit_here get' item issue' index hit in
-        subst (λ k. IsFresh history item k answer) (sym same) (here.fresh index item (at_within there) there))
+        subst (λ k. IsFreshHit history item k answer) (sym same) (here.fresh index item (at_within there) there))
 
-    pub one_more : (end : ℕ) (item : Item) → AreFreshUpTo history items issue answer end → At items end item → IsFresh history item issue answer
+    pub one_more : (end : ℕ) (item : Item) → AreFreshUpTo history items issue answer end → At items end item → IsFreshHit history item issue answer
         → AreFreshUpTo history items issue answer (end + 1)
     one_more end item here there fresh' = record {
       fresh = λ index item' below at. elim (cases_lt index end) [
@@ -219,12 +219,12 @@ module _ (history : List Entry) (formed : IsWellFormed history) (get : OpId) (it
         | inr other ↦
             let same : index ≡ end = omega arith in
             let items' = at_one (subst (λ k. At items k item') same at) there in
-            subst (λ i. IsFresh history i issue answer) (sym items') fresh'
+            subst (λ i. IsFreshHit history i issue answer) (sym items') fresh'
       ];
     }
 
     pub first_bad : (index : ℕ) (item : Item) → AreFreshUpTo history items issue answer index → At items index item
-        → (¬ IsFresh history item issue answer) → IsFirstBadHit history get item issue answer index
+        → (¬ IsFreshHit history item issue answer) → IsFirstBadHit history get item issue answer index
     first_bad index item here there bad =
         let (keys, issued) = get_issued issue found in
         record {
@@ -235,7 +235,7 @@ module _ (history : List Entry) (formed : IsWellFormed history) (get : OpId) (it
             | inr both ↦
                 let hit' = subst (λ k. IsHit history get' item' issue' k index') both.0 hit in
                 let (same, there') = hit_here get' item' issue' index' hit' in
-                subst (λ k. IsFresh history item' issue' k) (sym both.0) (subst (λ k. IsFresh history item' k answer) (sym same) (here.fresh index' item' both.1 there'))
+                subst (λ k. IsFreshHit history item' issue' k) (sym both.0) (subst (λ k. IsFreshHit history item' k answer) (sym same) (here.fresh index' item' both.1 there'))
           ];
         }
 

@@ -16,7 +16,7 @@ use Rattle.mr_history.specs.declared.entry.Entry.{Entry}
 use Rattle.mr_history.specs.declared.entry.Entry.TheVariants.{Issued, Stored, Removed, Answered}
 use Rattle.mr_history.specs.Places.{At}
 use Rattle.mr_history.specs.History.{WasIssued, WasAnswered}
-use Rattle.mr_history.specs.steps.Tests.{is_same_op, is_issued, is_answered, is_get, is_issued_get, is_stored, acknowledges, is_acknowledged, delete_of, delete_of_request}
+use Rattle.mr_history.specs.steps.Tests.{is_same_op, is_issued, is_answered, is_get, is_issued_get, is_stored, acknowledges, is_acknowledged, issued_delete, delete_of_request}
 use Rattle.mr_history.proofs.Lists.{any_place, none_passes}
 
 both : (a b : Bool) → (a && b) ≡ true → (a ≡ true) × (b ≡ true)
@@ -152,7 +152,7 @@ deleted key op (Delete key' noreply) delete h =
       | false ↦ λ e f. cc
     ] refl h
 
-pub deleting_entry : (key : List ℕ) (entry : Entry) (delete : OpId) → delete_of key entry ≡ Some delete
+pub deleting_entry : (key : List ℕ) (entry : Entry) (delete : OpId) → issued_delete key entry ≡ Some delete
     → (proxy : ℕ) × (noreply : Bool) × (entry ≡ Issued delete proxy (Delete key noreply))
 deleting_entry key (Stored by key' flags block) delete h = cc
 deleting_entry key (Removed op' side key') delete h = cc
@@ -161,5 +161,5 @@ deleting_entry key (Issued op proxy request) delete h =
     let (noreply, same, same') = deleted key op request delete h in
     (proxy, noreply, cc)
 
-pub deleting_passes : (key : List ℕ) (delete : OpId) (proxy : ℕ) (noreply : Bool) → delete_of key (Issued delete proxy (Delete key noreply)) ≡ Some delete
+pub deleting_passes : (key : List ℕ) (delete : OpId) (proxy : ℕ) (noreply : Bool) → issued_delete key (Issued delete proxy (Delete key noreply)) ≡ Some delete
 deleting_passes key delete proxy noreply = rw ((bytes_eq-Decides key key).1 refl) refl

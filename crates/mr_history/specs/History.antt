@@ -69,7 +69,7 @@ pub record IsStored (history : List Entry) (item : Item) (place : ℕ) : Type 0 
 
 -- the item was stored before the answer, and after the issue of each delete of its key that was acknowledged before
 -- the get was issued
-pub record IsFresh (history : List Entry) (item : Item) (issue answer : ℕ) : Type 0 where
+pub record IsFreshHit (history : List Entry) (item : Item) (issue answer : ℕ) : Type 0 where
   pub place : ℕ
   pub stored : IsStored history item place
   pub before : place < answer
@@ -77,4 +77,4 @@ pub record IsFresh (history : List Entry) (item : Item) (issue answer : ℕ) : T
 
 -- each hit is fresh
 abbrev pub IsSafe : List Entry → Type 0
-IsSafe history = (get : OpId) (item : Item) (issue answer index : ℕ) → IsHit history get item issue answer index → IsFresh history item issue answer
+IsSafe history = (get : OpId) (item : Item) (issue answer index : ℕ) → IsHit history get item issue answer index → IsFreshHit history item issue answer

@@ -8,7 +8,7 @@ use Rattle.mr_history.specs.declared.verdict.Verdict.TheVariants.{Safe, Stale, I
 use Rattle.mr_history.specs.declared.judge.Finding.{Finding}
 use Rattle.mr_history.specs.declared.judge.Finding.TheVariants.{Fresh, Unstored, Outdated}
 use Rattle.mr_history.specs.Places.{At}
-use Rattle.mr_history.specs.History.{IsHit, IsFresh, IsStored, IsAcknowledged, IsSafe}
+use Rattle.mr_history.specs.History.{IsHit, IsFreshHit, IsStored, IsAcknowledged, IsSafe}
 
 -- this answer and item come before those
 abbrev pub ComesBefore : (answer index answer' index' : ℕ) → Type 0
@@ -17,9 +17,9 @@ ComesBefore answer index answer' index' = (answer < answer') ⊎ ((answer ≡ an
 -- the hit isn't fresh, and each hit before it is: by the place of the answer and then that of the item in it
 pub record IsFirstBadHit (history : List Entry) (get : OpId) (item : Item) (issue answer index : ℕ) : Type 0 where
   pub hit : IsHit history get item issue answer index
-  pub bad : ¬ IsFresh history item issue answer
+  pub bad : ¬ IsFreshHit history item issue answer
   pub first : (get' : OpId) (item' : Item) (issue' answer' index' : ℕ) → IsHit history get' item' issue' answer' index'
-      → ComesBefore answer' index' answer index → IsFresh history item' issue' answer'
+      → ComesBefore answer' index' answer index → IsFreshHit history item' issue' answer'
 
 -- nothing stored the item before the answer
 abbrev pub IsInvented : List Entry → Item → ℕ → Type 0
@@ -73,14 +73,14 @@ Judges history (Stale get key delete) = ShowsStale history get key.now delete
 
 -- each hit of an answer before this place is fresh
 pub record AreFreshBefore (history : List Entry) (end : ℕ) : Type 0 where
-  pub fresh : (get : OpId) (item : Item) (issue answer index : ℕ) → IsHit history get item issue answer index → answer < end → IsFresh history item issue answer
+  pub fresh : (get : OpId) (item : Item) (issue answer index : ℕ) → IsHit history get item issue answer index → answer < end → IsFreshHit history item issue answer
 
 -- what was found of one item of an answer
-abbrev pub Finds : List Entry → Item → ℕ → ℕ → Finding → Type 0
-Finds history item issue answer Fresh = IsFresh history item issue answer
-Finds history item issue answer Unstored = IsInvented history item answer
-Finds history item issue answer (Outdated delete) = (stored : ℕ) × IsLastStored history item answer stored × IsFirstConvict history item.key stored issue delete
+abbrev pub FindsItem : List Entry → Item → ℕ → ℕ → Finding → Type 0
+FindsItem history item issue answer Fresh = IsFreshHit history item issue answer
+FindsItem history item issue answer Unstored = IsInvented history item answer
+FindsItem history item issue answer (Outdated delete) = (stored : ℕ) × IsLastStored history item answer stored × IsFirstConvict history item.key stored issue delete
 
 -- the items before this index are fresh
 pub record AreFreshUpTo (history : List Entry) (items : List Item) (issue answer end : ℕ) : Type 0 where
-  pub fresh : (index : ℕ) (item : Item) → index < end → At items index item → IsFresh history item issue answer
+  pub fresh : (index : ℕ) (item : Item) → index < end → At items index item → IsFreshHit history item issue answer

@@ -1,3 +1,4 @@
+//! Why a history couldn't grow.
 ghost use Rattle.std.specs.Prelude.{◌≡◌};
 
 use std::alloc::AllocError;

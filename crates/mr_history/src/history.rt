@@ -1,3 +1,4 @@
+//! Histories: what happened to a fleet's requests, in the order in which it happened.
 ghost use Rattle.std.specs.Prelude.{◌≡◌, ◌↔◌, ◌+◌, ◌-◌, ◌≤◌, [], ◌∷◌, ◌++◌, ℕ, IsTrue, IfOk, MatchResult, Ok};
 ghost use Rattle.mr_history.specs.History.{Fits, IsKnown, IsWellFormed};
 

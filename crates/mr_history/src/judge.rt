@@ -4,7 +4,7 @@ ghost use Rattle.mr_history.specs.History.{IsWellFormed};
 ghost use Rattle.mr_history.specs.Places.{At};
 ghost use Rattle.mr_text.specs.declared.reply.Reply.TheVariants.{Items};
 ghost use Rattle.mr_history.specs.declared.entry.Entry.TheVariants.{Answered};
-ghost use Rattle.mr_history.specs.Judgement.{Judges, Finds, AreFreshBefore};
+ghost use Rattle.mr_history.specs.Judgement.{Judges, FindsItem, AreFreshBefore};
 
 use crate::entry::Entry;
 use crate::history::History;
@@ -29,7 +29,7 @@ fn judge_item(entries: &[Entry], item: &Item, issue: usize, answer: usize) -> Fi
     requires well_formed { IsWellFormed entries.now }
     requires issued { issue < answer }
     requires answered { answer ≤ length entries.now }
-    ensures { Finds entries.now item.now issue answer result }
+    ensures { FindsItem entries.now item.now issue answer result }
 {
     let Some(stored) = last_stored(&entries[..answer], item) else {
         return Finding::Unstored;

@@ -1,3 +1,5 @@
+//! Names of requests.
+
 /// The name of a request in a fleet: no two requests that were ever accepted have the same.
 #[derive(Clone, Copy, Debug, PartialEq, Eq)]
 pub struct OpId {

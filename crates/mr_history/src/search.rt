@@ -1,7 +1,7 @@
 //! Searches in a list of entries. None of them takes memory.
 ghost use Rattle.std.specs.Prelude.{◌≡◌, length, position, MatchOption};
 ghost use Rattle.std.specs.List.{list_any};
-ghost use Rattle.mr_history.specs.steps.Tests.{is_same_op, is_issued, is_answered, is_get, is_issued_get, is_stored, acknowledges, is_acknowledged, delete_of, NonePasses, LastPasses, NoConvict, FirstConvict};
+ghost use Rattle.mr_history.specs.steps.Tests.{is_same_op, is_issued, is_answered, is_get, is_issued_get, is_stored, acknowledges, is_acknowledged, issued_delete, NonePasses, LastPasses, NoConvict, FirstConvict};
 
 use crate::entry::Entry;
 use crate::op_id::OpId;
@@ -94,7 +94,7 @@ fn is_stored(entry: &Entry, item: &Item) -> bool
 
 /// The op that the entry issues, where it is a delete of this key.
 fn delete_of(entry: &Entry, key: &Key) -> Option<OpId>
-    ensures { result ≡ delete_of key.now entry.now }
+    ensures { result ≡ issued_delete key.now entry.now }
 {
     match entry {
         Entry::Issued {

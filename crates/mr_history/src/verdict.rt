@@ -1,3 +1,4 @@
+//! What a judged history comes to.
 use crate::op_id::OpId;
 use mr_text::Key;
 

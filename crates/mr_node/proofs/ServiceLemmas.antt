@@ -15,7 +15,7 @@ use Rattle.mr_node.specs.declared.session.SessionFault.{SessionFault}
 use Rattle.mr_node.specs.declared.session.Step.{Step}
 use Rattle.mr_node.specs.declared.session.Step.TheVariants.{Served, Waits, Ends}
 use Rattle.mr_text.specs.Sink.{SinkView}
-use Rattle.mr_node.specs.Output.{IsServed, is_silent, answer_of}
+use Rattle.mr_node.specs.Output.{IsServed, is_silent, answer_to}
 use Rattle.mr_node.specs.Session.{Station, station, Answers, AnswersRefusal}
 use Rattle.mr_node.specs.Output.Exchange.{Asked, Unknown}
 use Rattle.mr_node.specs.steps.Step.{RequestIs, StepIs, EndIs}
@@ -46,7 +46,7 @@ served_is_not_quit Quit is = absurd is
 
 -- what is written is the answer of the exchange
 pub answers_exchange : (request : Request) (outcome : Reply) (silent : Bool) (answer : Option Reply) (old new : SinkView) → Answers answer old new
-    → answer ≡ cond silent None (Some outcome) → silent ≡ is_silent request → Answers (answer_of (Asked request outcome)) old new
+    → answer ≡ cond silent None (Some outcome) → silent ≡ is_silent request → Answers (answer_to (Asked request outcome)) old new
 answers_exchange request outcome silent answer old new answers is quiet =
     subst (λ (a : Option Reply). Answers a old new) (is ∙ ap (λ b. cond b None (Some outcome)) quiet) answers
 

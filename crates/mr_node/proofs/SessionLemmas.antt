@@ -15,8 +15,8 @@ use Rattle.mr_node.specs.declared.session.SessionFault.{SessionFault}
 use Rattle.mr_node.specs.declared.session.SessionFault.TheVariants.{OutOfMemory, ReadFault, WriteFault, TurnsSpent}
 use Rattle.mr_node.specs.declared.session.Step.{Step}
 use Rattle.mr_node.specs.declared.session.Step.TheVariants.{Served, Waits, Ends}
-use Rattle.mr_node.specs.Output.{Exchange, Reads, SpellsExchange, answer_of, output_of, text_of_answer, text_of_exchange}
-use Rattle.mr_node.specs.Session.{Station, Answers, StopsAnswering, Performs, DoesExchange, Serves, SessionIs, PieceIs}
+use Rattle.mr_node.specs.Output.{Exchange, ReadsExchanges, SpellsExchange, answer_to, output_of, text_of_answer, text_of_exchange}
+use Rattle.mr_node.specs.Session.{Station, Answers, StopsAnswering, Performs, DoesExchange, SessionServes, SessionIs, PieceIs}
 use Rattle.mr_node.specs.steps.Step.{StepIs}
 use Rattle.mr_node.specs.Outcome.{Outcomes}
 
@@ -33,22 +33,22 @@ stopped None old new is = absurd is
 stopped (Some reply) old new is = (is.0.failed, is.0.last)
 
 module _ {C P : Type 0} (Does : Outcomes C P) (reader : SourceView) (old : Station C P) where
-  serves_nothing : Serves Does reader reader old old []
+  serves_nothing : SessionServes Does reader reader old old []
   serves_nothing = record {
     exchanges = [];
     bytes = [];
     takes = sym (append-nil reader.taken);
     leaves = Consumes-nil reader.left;
-    reads = Reads.begins;
+    reads = ReadsExchanges.begins;
     performs = Performs.begins;
     writes = written_none old.writer;
   }
 
   -- one more exchange
   serves_more : (reader' : SourceView) (between new : Station C P) (rest spelling after : List ℕ) (exchange : Exchange)
-      → Serves Does reader reader' old between rest → rest ≡ spelling ++ after → SpellsExchange spelling exchange
-      → DoesExchange Does between exchange new → Answers (answer_of exchange) between.writer new.writer
-      → Serves Does reader reader' old new after
+      → SessionServes Does reader reader' old between rest → rest ≡ spelling ++ after → SpellsExchange spelling exchange
+      → DoesExchange Does between exchange new → Answers (answer_to exchange) between.writer new.writer
+      → SessionServes Does reader reader' old new after
   serves_more reader' between new rest spelling after exchange so splits spells does answers =
       let same : so.bytes ++ rest ≡ (so.bytes ++ spelling) ++ after = ap (λ (r : List ℕ). so.bytes ++ r) splits ∙ sym (append_assoc so.bytes spelling after) in
       let more : output_of so.exchanges ++ text_of_exchange exchange ≡ output_of (so.exchanges ++ exchange ∷ []) =
@@ -58,16 +58,16 @@ module _ {C P : Type 0} (Does : Outcomes C P) (reader : SourceView) (old : Stati
         bytes = so.bytes ++ spelling;
         takes = so.takes ∙ ap (λ (r : List ℕ). reader.taken ++ r) same;
         leaves = subst (λ (r : List ℕ). Consumes reader.left reader'.left r) same so.leaves;
-        reads = Reads.reads spelling exchange so.reads spells;
+        reads = ReadsExchanges.reads spelling exchange so.reads spells;
         performs = Performs.performs exchange so.performs does answers;
         writes = subst (λ (t : List ℕ). HasWritten t old.writer new.writer) more
             (written_then (output_of so.exchanges) (text_of_exchange exchange) old.writer between.writer new.writer so.writes
-            (answered (answer_of exchange) between.writer new.writer answers));
+            (answered (answer_to exchange) between.writer new.writer answers));
       }
 
   -- more bytes come
-  serves_fed : (reader' reader'' : SourceView) (now : Station C P) (rest piece : List ℕ) → Serves Does reader reader' old now rest
-      → reader''.taken ≡ reader'.taken ++ piece → Consumes reader'.left reader''.left piece → Serves Does reader reader'' old now (rest ++ piece)
+  serves_fed : (reader' reader'' : SourceView) (now : Station C P) (rest piece : List ℕ) → SessionServes Does reader reader' old now rest
+      → reader''.taken ≡ reader'.taken ++ piece → Consumes reader'.left reader''.left piece → SessionServes Does reader reader'' old now (rest ++ piece)
   serves_fed reader' reader'' now rest piece so more gone = record {
     exchanges = so.exchanges;
     bytes = so.bytes;
@@ -81,8 +81,8 @@ module _ {C P : Type 0} (Does : Outcomes C P) (reader : SourceView) (old : Stati
   }
 
   -- none come
-  serves_unfed : (reader' reader'' : SourceView) (now : Station C P) (rest : List ℕ) → Serves Does reader reader' old now rest
-      → reader''.taken ≡ reader'.taken → Keeps reader'.left reader''.left → Serves Does reader reader'' old now rest
+  serves_unfed : (reader' reader'' : SourceView) (now : Station C P) (rest : List ℕ) → SessionServes Does reader reader' old now rest
+      → reader''.taken ≡ reader'.taken → Keeps reader'.left reader''.left → SessionServes Does reader reader'' old now rest
   serves_unfed reader' reader'' now rest so none kept = record {
     exchanges = so.exchanges;
     bytes = so.bytes;
@@ -97,7 +97,7 @@ module _ {C P : Type 0} (Does : Outcomes C P) (reader : SourceView) (old : Stati
   pub record UnderWay (reader' : SourceView) (now : Station C P) (requests : ReaderView) (ended : Bool) : Type 0 where
     pub rest : List ℕ
     pub becomes : Becomes requests rest ended false
-    pub serves : Serves Does reader reader' old now rest
+    pub serves : SessionServes Does reader reader' old now rest
     pub at_end : ended ≡ true → IsAtEnd reader'.left
 
   pub begins_so : (requests : ReaderView) → Becomes requests [] false false → UnderWay reader old requests false
@@ -136,8 +136,8 @@ module _ {C P : Type 0} (Does : Outcomes C P) (reader : SourceView) (old : Stati
         omega (arith, ap (λ (l : List ℕ). length l) kept, ap (λ (l : List ℕ). length l) left, length-append step.1 step.2)
 
     -- nothing is whole
-    waits : StepIs Does now new ended so.rest requests' (Ok Waits) → Serves Does reader reader' old new so.rest
-    waits step = subst (λ (s : Station C P). Serves Does reader reader' old s so.rest) (sym step.0) so.serves
+    waits : StepIs Does now new ended so.rest requests' (Ok Waits) → SessionServes Does reader reader' old new so.rest
+    waits step = subst (λ (s : Station C P). SessionServes Does reader reader' old s so.rest) (sym step.0) so.serves
 
     -- the service ends
     pub ends : (how : Ended) → StepIs Does now new ended so.rest requests' (Ok (Ends how)) → SessionIs Does reader reader' old new (Ok how)
@@ -172,7 +172,7 @@ module _ {C P : Type 0} (Does : Outcomes C P) (reader : SourceView) (old : Stati
 
     pub step_fails : (e : SessionFault) → StepIs Does now new ended so.rest requests' (Err e) → SessionIs Does reader reader' old new (Err e)
     step_fails e (inl step) = subst (λ (x : SessionFault). SessionIs Does reader reader' old new (Err x)) (sym step.0)
-        (so.rest, subst (λ (s : Station C P). Serves Does reader reader' old s so.rest) (sym step.1) so.serves)
+        (so.rest, subst (λ (s : Station C P). SessionServes Does reader reader' old s so.rest) (sym step.1) so.serves)
     step_fails e (inr step) = subst (λ (x : SessionFault). SessionIs Does reader reader' old new (Err x)) (sym step.0)
         (so.rest, now, so.serves, step.1)
 
@@ -211,7 +211,7 @@ module _ {C P : Type 0} (Does : Outcomes C P) (reader : SourceView) (old : Stati
     where
       failed : SessionIs Does reader reader' old new (Err WriteFault) → (new.writer.failures ≡ old.writer.failures + 1) × (new.writer.last_failed ≡ true)
       failed (rest, between, so, inl next) =
-          let stop = stopped (answer_of next.0) between.writer new.writer next.6 in
+          let stop = stopped (answer_to next.0) between.writer new.writer next.6 in
           (stop.0 ∙ ap (λ n. n + 1) so.writes.steady, stop.1)
       failed (rest, between, so, inr next) =
           let stop = stopped _ between.writer new.writer next.5 in

@@ -7,7 +7,7 @@ use Rattle.mr_node.specs.declared.command.NodeCommand.{NodeCommand}
 use Rattle.mr_node.specs.declared.command.NodeCommand.TheVariants.{Get, Set, Delete}
 use Rattle.mr_node.specs.Expiry.{expiry_of, is_alive}
 use Rattle.mr_node.specs.Items.{NamedItem, is_named, named_item_of, without}
-use Rattle.mr_node.specs.Recency.{CacheView, RecencyStep, unless_expired, items_after, after_set, put_in_front, hit_or_miss, reply_of}
+use Rattle.mr_node.specs.Recency.{CacheView, RecencyStep, unless_expired, items_after, after_set, put_in_front, hit_or_miss, reply_to}
 use Rattle.mr_node.specs.CacheStep.{Datum, Holds, OnlyLoses, LosesKey, Puts, CacheStep, contents_of}
 use Rattle.mr_node.proofs.ItemLemmas.{named_key, found_key, item_of-without, item_of-without_other, item_of-take}
 
@@ -95,7 +95,7 @@ set_step capacity now item items =
     ]
 
 step_of : (capacity now : ℕ) (command : NodeCommand) (items : List NamedItem)
-    → CacheStep (contents_of items) command (reply_of now command items) (contents_of (items_after capacity now command items))
+    → CacheStep (contents_of items) command (reply_to now command items) (contents_of (items_after capacity now command items))
 step_of capacity now (Get key) items = get_step now key items (named_item_of key items) refl
 step_of capacity now (Set key flags exptime block) items =
     set_step capacity now (key, record { flags = flags; block = block; expires_at = expiry_of now exptime }) items
@@ -104,7 +104,7 @@ step_of capacity now (Delete key) items = delete_step now key items (named_item_
 pub cache_step_of : (old new : CacheView) (now : ℕ) (command : NodeCommand) (reply : LegReply) → RecencyStep old now command reply new
     → CacheStep (contents_of old.items) command reply (contents_of new.items)
 cache_step_of old new now command reply step =
-    let replies : (r : LegReply) → r ≡ reply_of now command old.items
+    let replies : (r : LegReply) → r ≡ reply_to now command old.items
     → CacheStep (contents_of old.items) command r (contents_of (items_after old.capacity now command old.items)) =
     (λ r e. subst (λ x. CacheStep (contents_of old.items) command x (contents_of (items_after old.capacity now command old.items))) (sym e)
     (step_of old.capacity now command old.items)) in

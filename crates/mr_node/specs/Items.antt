@@ -29,7 +29,7 @@ HasDistinctKeys [] = Unit {0}
 HasDistinctKeys (named ∷ others) = (named_item_of named.0 others ≡ None) × HasDistinctKeys others
 
 -- what a cache may keep
-pub record IsKept (capacity : ℕ) (items : List NamedItem) : Type 0 where
+pub record IsCacheContent (capacity : ℕ) (items : List NamedItem) : Type 0 where
   pub not_zero : 1 ≤ capacity
   pub within : length items ≤ capacity
   pub distinct : HasDistinctKeys items

@@ -6,7 +6,7 @@ use Rattle.mr_node.specs.Items.{NamedItem}
 use Rattle.mr_node.specs.declared.command.NodeCommand.{NodeCommand}
 use Rattle.mr_node.specs.declared.command.NodeCommand.TheVariants.{Get, Set, Delete}
 use Rattle.mr_node.specs.Kinds.{IsOfKind}
-use Rattle.mr_node.specs.Recency.{CacheView, RecencyStep, live_item, hit_or_miss, reply_of}
+use Rattle.mr_node.specs.Recency.{CacheView, RecencyStep, live_item, hit_or_miss, reply_to}
 
 found-IsOfKind : (key : List ℕ) (found : Option NamedItem) → IsOfKind (Get key) (hit_or_miss found)
 found-IsOfKind key None = tt
@@ -16,7 +16,7 @@ deleted-IsOfKind : (key : List ℕ) (found : Bool) → IsOfKind (Delete key) (co
 deleted-IsOfKind key true = tt
 deleted-IsOfKind key false = tt
 
-reply-IsOfKind : (now : ℕ) (command : NodeCommand) (items : List NamedItem) → IsOfKind command (reply_of now command items)
+reply-IsOfKind : (now : ℕ) (command : NodeCommand) (items : List NamedItem) → IsOfKind command (reply_to now command items)
 reply-IsOfKind now (Get key) items = found-IsOfKind key (live_item now key items)
 reply-IsOfKind now (Set key flags exptime block) items = tt
 reply-IsOfKind now (Delete key) items = deleted-IsOfKind key (is_some (live_item now key items))

@@ -51,13 +51,13 @@ text_of_answer None = []
 text_of_answer (Some reply) = canonical_reply reply
 
 -- what an exchange is answered, where it is
-abbrev pub answer_of : Exchange → Option Reply
-answer_of (Asked request outcome) = if is_silent request then None else Some outcome
-answer_of Unknown = Some Error
+abbrev pub answer_to : Exchange → Option Reply
+answer_to (Asked request outcome) = if is_silent request then None else Some outcome
+answer_to Unknown = Some Error
 
 -- what is written for an exchange
 abbrev pub text_of_exchange : Exchange → List ℕ
-text_of_exchange exchange = text_of_answer (answer_of exchange)
+text_of_exchange exchange = text_of_answer (answer_to exchange)
 
 -- what is written for them all
 abbrev pub output_of : List Exchange → List ℕ
@@ -69,7 +69,7 @@ SpellsExchange bytes (Asked request outcome) = SpellsRequest bytes request × Is
 SpellsExchange bytes Unknown = (words : List (List ℕ)) × IsLineOfWords bytes words × IsUnknown words false
 
 -- the bytes, all of them, are what the exchanges read, one after another
-pub data Reads : List ℕ → List Exchange → Type 0 where
-  begins : Reads [] []
+pub data ReadsExchanges : List ℕ → List Exchange → Type 0 where
+  begins : ReadsExchanges [] []
   reads : {bytes : List ℕ} {exchanges : List Exchange} (spelling : List ℕ) (exchange : Exchange)
-      → Reads bytes exchanges → SpellsExchange spelling exchange → Reads (bytes ++ spelling) (exchanges ++ exchange ∷ [])
+      → ReadsExchanges bytes exchanges → SpellsExchange spelling exchange → ReadsExchanges (bytes ++ spelling) (exchanges ++ exchange ∷ [])

@@ -44,14 +44,14 @@ abbrev pub hit_or_miss : Option NamedItem → LegReply
 hit_or_miss None = Miss
 hit_or_miss (Some named) = Hit named.1.flags named.1.block
 
-abbrev pub reply_of : ℕ → NodeCommand → List NamedItem → LegReply
-reply_of now (Get key) items = hit_or_miss (live_item now key items)
-reply_of now (Set key flags exptime block) items = Stored
-reply_of now (Delete key) items = if is_some (live_item now key items) then Deleted else NotFound
+abbrev pub reply_to : ℕ → NodeCommand → List NamedItem → LegReply
+reply_to now (Get key) items = hit_or_miss (live_item now key items)
+reply_to now (Set key flags exptime block) items = Stored
+reply_to now (Delete key) items = if is_some (live_item now key items) then Deleted else NotFound
 
 -- the command is performed now
 pub record RecencyStep (old : CacheView) (now : ℕ) (command : NodeCommand) (reply : LegReply) (new : CacheView) : Type 0 where
-  pub answers : reply ≡ reply_of now command old.items
+  pub answers : reply ≡ reply_to now command old.items
   pub leaves : new ≡ record old { items = items_after old.capacity now command old.items }
 
 -- only a hit needs memory, for a copy, and a new key that is kept

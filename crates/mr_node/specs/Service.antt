@@ -10,11 +10,11 @@ use Rattle.mr_node.specs.Session.{Station, SessionIs}
 use Rattle.mr_node.specs.Outcome.{Outcomes}
 
 -- a fault of a session, as the service tells it
-abbrev pub error_of : SessionFault → NodeError
-error_of fault.ReadFault = ReadFault
-error_of fault.WriteFault = WriteFault
-error_of fault.TurnsSpent = TurnsSpent
-error_of fault.OutOfMemory = OutOfMemory
+abbrev pub node_error_of : SessionFault → NodeError
+node_error_of fault.ReadFault = ReadFault
+node_error_of fault.WriteFault = WriteFault
+node_error_of fault.TurnsSpent = TurnsSpent
+node_error_of fault.OutOfMemory = OutOfMemory
 
 module _ {C P : Type 0} (Does : Outcomes C P) (reader reader' : SourceView) (old new : Station C P) where
   abbrev pub ServiceIs : Result Ended NodeError → Type 0

@@ -18,7 +18,7 @@ use Rattle.mr_node.specs.declared.session.SessionFault.{SessionFault}
 use Rattle.mr_node.specs.declared.session.SessionFault.TheVariants.{OutOfMemory, ReadFault, WriteFault, TurnsSpent}
 use Rattle.mr_node.specs.declared.session.Step.{Step}
 use Rattle.mr_node.specs.declared.session.Step.TheVariants.{Served, Ends}
-use Rattle.mr_node.specs.Output.{Exchange, Reads, SpellsExchange, answer_of, output_of, reply_to_refusal}
+use Rattle.mr_node.specs.Output.{Exchange, ReadsExchanges, SpellsExchange, answer_to, output_of, reply_to_refusal}
 use Rattle.mr_node.specs.Output.Exchange.{Asked, Unknown}
 use Rattle.mr_node.specs.Outcome.{Outcomes}
 
@@ -55,17 +55,17 @@ DoesExchange Does old Unknown new = (new.clock ≡ old.clock) × (new.node ≡ o
 pub data Performs {C P : Type 0} (Does : Outcomes C P) (old : Station C P) : List Exchange → Station C P → Type 0 where
   begins : Performs Does old [] old
   performs : {between new : Station C P} {exchanges : List Exchange} (exchange : Exchange)
-      → Performs Does old exchanges between → DoesExchange Does between exchange new → Answers (answer_of exchange) between.writer new.writer
+      → Performs Does old exchanges between → DoesExchange Does between exchange new → Answers (answer_to exchange) between.writer new.writer
       → Performs Does old (exchanges ++ exchange ∷ []) new
 
 -- what was taken is the text of exchanges, in order, and this rest; what was written is their output
-pub record Serves {C P : Type 0} (Does : Outcomes C P) (reader reader' : SourceView) (old new : Station C P)
+pub record SessionServes {C P : Type 0} (Does : Outcomes C P) (reader reader' : SourceView) (old new : Station C P)
     (rest : List ℕ) : Type 0 where
   pub exchanges : List Exchange
   pub bytes : List ℕ
   pub takes : reader'.taken ≡ reader.taken ++ (bytes ++ rest)
   pub leaves : Consumes reader.left reader'.left (bytes ++ rest)
-  pub reads : Reads bytes exchanges
+  pub reads : ReadsExchanges bytes exchanges
   pub performs : Performs Does old exchanges new
   pub writes : HasWritten (output_of exchanges) old.writer new.writer
 
@@ -79,10 +79,10 @@ EndsSo left rest (how.Refused number) answer =
 
 -- What came next, when its answer could not be written: an exchange, and that was done; or a refusal that ends the
 -- session, and nothing was done. A beginning of that answer went out.
-abbrev pub IsUnanswered : {C P : Type 0} → Outcomes C P → List ℕ → Station C P → Station C P → Type 0
-IsUnanswered Does rest old new =
+abbrev pub LeavesUnanswered : {C P : Type 0} → Outcomes C P → List ℕ → Station C P → Station C P → Type 0
+LeavesUnanswered Does rest old new =
     ((exchange : Exchange) × (spelling : List ℕ) × (after : List ℕ) × (rest ≡ spelling ++ after) × SpellsExchange spelling exchange
-    × DoesExchange Does old exchange new × StopsAnswering (answer_of exchange) old.writer new.writer) ⊎
+    × DoesExchange Does old exchange new × StopsAnswering (answer_to exchange) old.writer new.writer) ⊎
     ((refusal : TextError) × FaultAt SpellsRequest RefusesRequest refusal rest × (skips_line refusal ≡ false) × (new.clock ≡ old.clock)
     × (new.node ≡ old.node) × StopsAnswering (reply_to_refusal refusal) old.writer new.writer)
 
@@ -92,13 +92,13 @@ IsUnanswered Does rest old new =
 module _ {C P : Type 0} (Does : Outcomes C P) (reader reader' : SourceView) (old new : Station C P) where
   abbrev pub SessionIs : Result Ended SessionFault → Type 0
   SessionIs (Ok ended) =
-      (rest : List ℕ) × (answer : Option Reply) × (between : Station C P) × Serves Does reader reader' old between rest
+      (rest : List ℕ) × (answer : Option Reply) × (between : Station C P) × SessionServes Does reader reader' old between rest
       × EndsSo reader'.left rest ended answer × (new.clock ≡ between.clock) × (new.node ≡ between.node) × Answers answer between.writer new.writer
-  SessionIs (Err ReadFault) = (rest : List ℕ) × Serves Does reader reader' old new rest × IsUnfinished SpellsRequest RefusesRequest rest
-  SessionIs (Err TurnsSpent) = (rest : List ℕ) × Serves Does reader reader' old new rest × IsUnfinished SpellsRequest RefusesRequest rest
-  SessionIs (Err OutOfMemory) = (rest : List ℕ) × Serves Does reader reader' old new rest
+  SessionIs (Err ReadFault) = (rest : List ℕ) × SessionServes Does reader reader' old new rest × IsUnfinished SpellsRequest RefusesRequest rest
+  SessionIs (Err TurnsSpent) = (rest : List ℕ) × SessionServes Does reader reader' old new rest × IsUnfinished SpellsRequest RefusesRequest rest
+  SessionIs (Err OutOfMemory) = (rest : List ℕ) × SessionServes Does reader reader' old new rest
   SessionIs (Err WriteFault) =
-      (rest : List ℕ) × (between : Station C P) × Serves Does reader reader' old between rest × IsUnanswered Does rest between new
+      (rest : List ℕ) × (between : Station C P) × SessionServes Does reader reader' old between rest × LeavesUnanswered Does rest between new
 
 -- one read: some bytes come and are handed on, or it is the end of the input
 abbrev pub PieceIs : ℕ → List ℕ → ReaderView → SourceView → Result Bool SessionFault → SourceView → Type 0

@@ -1,3 +1,4 @@
+//! A memory cache of a bounded number of items, as one node of a pool.
 ghost use Rattle.std.specs.Prelude.{◌≡◌, ◌<◌, ◌≤◌, ◌↔◌, [], length, IsTrue, Option, None, MatchResult, OnErr};
 ghost use Rattle.std.specs.Option.{option_copied};
 
@@ -21,13 +22,13 @@ pub struct CacheNode {
 
 impl Model for CacheNode {
     ghost use Rattle.mr_node.specs.Recency.{CacheView};
-    ghost use Rattle.mr_node.specs.Items.{IsKept};
+    ghost use Rattle.mr_node.specs.Items.{IsCacheContent};
 
     ghost Value = { CacheView };
 
     ghost view = { λ c. record { capacity = c.capacity; items = c.items.items } };
 
-    ghost invariant = { λ c. IsKept c.capacity c.items.items };
+    ghost invariant = { λ c. IsCacheContent c.capacity c.items.items };
 }
 
 impl CacheNode {

@@ -1,3 +1,4 @@
+//! What stands under a key: data, flags, and the moment at which it expires.
 ghost use Rattle.std.specs.Prelude.{◌≡◌, IfOk};
 
 use mr_text::Block;

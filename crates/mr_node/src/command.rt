@@ -1,5 +1,6 @@
+//! The commands of a node.
 ghost use Rattle.std.specs.Prelude.{◌≡◌, ◌↔◌, IsTrue, IfOk};
-ghost use Rattle.mr_node.specs.Command.{key_of};
+ghost use Rattle.mr_node.specs.Command.{key_of_command};
 
 use mr_text::{Block, Key};
 use std::alloc::AllocError;
@@ -28,7 +29,7 @@ pub enum NodeCommand {
 impl NodeCommand {
     /// The key that the command names.
     pub fn key(&self) -> &Key
-        ensures { result.now ≡ key_of self.now }
+        ensures { result.now ≡ key_of_command self.now }
     {
         match self {
             NodeCommand::Get(key) | NodeCommand::Set { key, .. } | NodeCommand::Delete(key) => key,

@@ -1,3 +1,5 @@
+//! How a service of requests ends.
+
 /// How a service of requests ended.
 #[derive(Clone, Copy, Debug, PartialEq, Eq)]
 pub enum Ended {

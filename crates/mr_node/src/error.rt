@@ -1,3 +1,4 @@
+//! Why a node refuses, or its service ends early.
 ghost use Rattle.std.specs.Prelude.{◌≡◌};
 
 use crate::session::SessionFault;
@@ -54,9 +55,9 @@ impl From<AllocError> for NodeError {
 
 impl From<SessionFault> for NodeError {
     ghost use Rattle.std.specs.Prelude.{◌≡◌};
-    ghost use Rattle.mr_node.specs.Service.{error_of};
+    ghost use Rattle.mr_node.specs.Service.{node_error_of};
 
-    ghost from_gives = { λ fault e. e ≡ error_of fault };
+    ghost from_gives = { λ fault e. e ≡ node_error_of fault };
 
     fn from(fault: SessionFault) -> NodeError {
         match fault {

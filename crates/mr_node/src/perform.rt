@@ -1,3 +1,4 @@
+//! What a node is to those that serve it: a cache of one thread, or one that many threads share.
 ghost use Rattle.std.specs.Prelude.{ℕ, MatchResult};
 ghost use Rattle.mr_node.specs.Outcome.{Did, Refused};
 ghost use Rattle.mr_join.specs.declared.leg_reply.LegReply.{LegReply};

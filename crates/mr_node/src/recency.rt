@@ -1,7 +1,7 @@
 //! Keys and items in order of use, the one used last in front.
 ghost use Rattle.std.specs.Prelude.{◌≡◌, ◌+◌, ◌<◌, ◌≤◌, ◌∷◌, Some, None, length, vec_len, vec_capacity, position, OnSome, MatchResult};
 ghost use Rattle.std.specs.List.{remove, slice_get};
-ghost use Rattle.mr_node.specs.Items.{NamedItem, is_named, item_of, without, HasDistinctKeys, IsKept};
+ghost use Rattle.mr_node.specs.Items.{NamedItem, is_named, item_of, without, HasDistinctKeys, IsCacheContent};
 ghost use Rattle.mr_node.specs.Recency.{put_in_front};
 
 use crate::cached_item::CachedItem;
@@ -60,7 +60,7 @@ pub(crate) fn keep(
     capacity: usize,
     named: (Key, CachedItem),
 ) -> Result<(), AllocError>
-    requires { IsKept capacity items.old.items }
+    requires { IsCacheContent capacity items.old.items }
     ensures { MatchResult result
         (λ _. items.new.items ≡ put_in_front capacity named (without named.0 items.old.items))
         (λ _. (items.new.items ≡ items.old.items) × (item_of named.0 items.old.items ≡ None) × (vec_len items.old < capacity)) }

@@ -2,7 +2,10 @@
 //! fleet's events; and the transcripts of their plays, which anyone can check.
 #![tactic(auto)]
 
-pub use mr_configs::{Advice, Config, DEFAULT_INTERVAL, PhaseTimes, PlanError, RequestPlan, Span, advise, plan, timeline};
+pub use mr_configs::{
+    Advice, Config, DEFAULT_INTERVAL, PhaseTimes, PlanError, RequestPlan, Span, advise, plan,
+    timeline,
+};
 pub use mr_scripts::{MAX_EVENTS, MAX_HELD, MAX_PROXIES, MAX_SCRIPT, Script, read_events};
 pub use mr_shown::KeptVerdict;
 pub use mr_transcripts::{Checked, Outcome, check_transcript, write_transcript};

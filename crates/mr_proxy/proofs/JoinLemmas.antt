@@ -10,19 +10,19 @@ use Rattle.mr_join.specs.declared.leg_reply.LegReply.{LegReply}
 use Rattle.mr_join.specs.declared.leg_reply.LegReply.TheVariants.{Hit, Miss, Stored, Deleted, NotFound, Failed}
 use Rattle.mr_join.specs.Join.{badness_of, worse_of, worst_of, first_cause, hits_of, items_unless, reply_by, joined_reply}
 use Rattle.mr_proxy.specs.declared.slot.Slot.{Slot}
-use Rattle.mr_proxy.specs.Slots.{is_failed, has_failed, outcome_of}
+use Rattle.mr_proxy.specs.Slots.{is_failed, has_failed, reply_of_slot}
 
 -- what the leg of a place came to
 abbrev pub outcome_at : List Slot → ℕ → LegReply
-outcome_at slots i = get_or (map outcome_of slots) i (Failed LegLost)
+outcome_at slots i = get_or (map reply_of_slot slots) i (Failed LegLost)
 
 -- the place of the worst of the first leg and of those before a place
 pub record IsWorstSoFar (slots : List Slot) (i worst : ℕ) : Type 0 where
   pub within : worst < length slots
-  pub is : fold worse_of (outcome_at slots 0) (map outcome_of (take i slots)) ≡ outcome_at slots worst
+  pub is : fold worse_of (outcome_at slots 0) (map reply_of_slot (take i slots)) ≡ outcome_at slots worst
 
-read : (slots : List Slot) (i : ℕ) (slot : Slot) → i < length slots → slot ≡ get_or slots i slot → outcome_at slots i ≡ outcome_of slot
-read slots i slot within is = get_or-map outcome_of slots i slot (Failed LegLost) within ∙ ap outcome_of (sym is)
+read : (slots : List Slot) (i : ℕ) (slot : Slot) → i < length slots → slot ≡ get_or slots i slot → outcome_at slots i ≡ reply_of_slot slot
+read slots i slot within is = get_or-map reply_of_slot slots i slot (Failed LegLost) within ∙ ap reply_of_slot (sym is)
 
 -- a leg that did not fail has no cause
 pub no_cause_of : (reply : LegReply) (rest : List LegReply) → is_failed reply ≡ false → first_cause (reply ∷ rest) ≡ first_cause rest
@@ -91,28 +91,28 @@ failed_told NotFound keys replies e = cc
 failed_told (Failed cause) keys replies e = refl
 
 worst_at : (slots : List Slot) (i : ℕ) (slot : Slot) → i < length slots → slot ≡ get_or slots i slot
-    → slice_get (map outcome_of slots) i ≡ worst_of (map outcome_of slots) → worst_of (map outcome_of slots) ≡ Some (outcome_of slot)
+    → slice_get (map reply_of_slot slots) i ≡ worst_of (map reply_of_slot slots) → worst_of (map reply_of_slot slots) ≡ Some (reply_of_slot slot)
 worst_at slots i slot within is worst =
-    let count : length (map outcome_of slots) ≡ length slots = length-map slots outcome_of in
-    sym worst ∙ slice_get-get_or (map outcome_of slots) i (Failed LegLost) (omega arith) ∙ ap Some (read slots i slot within is)
+    let count : length (map reply_of_slot slots) ≡ length slots = length-map slots reply_of_slot in
+    sym worst ∙ slice_get-get_or (map reply_of_slot slots) i (Failed LegLost) (omega arith) ∙ ap Some (read slots i slot within is)
 
 -- where the worst leg of a get didn't fail, none did
 pub found_by_worst : (keys : List (List ℕ)) (slots : List Slot) (i : ℕ) (slot : Slot) → i < length slots → slot ≡ get_or slots i slot
-    → slice_get (map outcome_of slots) i ≡ worst_of (map outcome_of slots) → has_failed slot ≡ false
-    → joined_reply (Get keys) (map outcome_of slots) ≡ reply.Items (hits_of keys (map outcome_of slots))
+    → slice_get (map reply_of_slot slots) i ≡ worst_of (map reply_of_slot slots) → has_failed slot ≡ false
+    → joined_reply (Get keys) (map reply_of_slot slots) ≡ reply.Items (hits_of keys (map reply_of_slot slots))
 found_by_worst keys slots i slot within is worst mild =
-    ap (λ cause. items_unless cause (hits_of keys (map outcome_of slots)))
-    (cause_of_worst (map outcome_of slots) (outcome_of slot) (worst_at slots i slot within is worst) ∙ no_cause_of (outcome_of slot) [] mild)
+    ap (λ cause. items_unless cause (hits_of keys (map reply_of_slot slots)))
+    (cause_of_worst (map reply_of_slot slots) (reply_of_slot slot) (worst_at slots i slot within is worst) ∙ no_cause_of (reply_of_slot slot) [] mild)
 
 -- else the worst leg is what is told
 pub failed_by_worst : (request : Request) (slots : List Slot) (i : ℕ) (slot : Slot) → i < length slots → slot ≡ get_or slots i slot
-    → slice_get (map outcome_of slots) i ≡ worst_of (map outcome_of slots)
+    → slice_get (map reply_of_slot slots) i ≡ worst_of (map reply_of_slot slots)
     → ((keys : List (List ℕ)) → request ≡ Get keys → has_failed slot ≡ true)
-    → joined_reply request (map outcome_of slots) ≡ reply_by (outcome_of slot)
+    → joined_reply request (map reply_of_slot slots) ≡ reply_by (reply_of_slot slot)
 failed_by_worst (Get keys) slots i slot within is worst failed =
-    ap (λ cause. items_unless cause (hits_of keys (map outcome_of slots)))
-    (cause_of_worst (map outcome_of slots) (outcome_of slot) (worst_at slots i slot within is worst))
-    ∙ failed_told (outcome_of slot) keys (map outcome_of slots) (failed keys refl)
+    ap (λ cause. items_unless cause (hits_of keys (map reply_of_slot slots)))
+    (cause_of_worst (map reply_of_slot slots) (reply_of_slot slot) (worst_at slots i slot within is worst))
+    ∙ failed_told (reply_of_slot slot) keys (map reply_of_slot slots) (failed keys refl)
 failed_by_worst (Set key flags exptime block noreply) slots i slot within is worst failed = rw (worst_at slots i slot within is worst)
 failed_by_worst (Delete key noreply) slots i slot within is worst failed = rw (worst_at slots i slot within is worst)
 failed_by_worst Quit slots i slot within is worst failed = rw (worst_at slots i slot within is worst)

@@ -25,21 +25,21 @@ use Rattle.mr_phases.specs.declared.side.Side.{Side}
 use Rattle.mr_phases.specs.declared.side.Side.TheVariants.{Old, New}
 use Rattle.mr_pools.specs.Routing.{RoutingView, IsRouting, pool_of}
 use Rattle.mr_pools.specs.Hash.{spot_by}
-use Rattle.mr_node.specs.Command.{key_of}
+use Rattle.mr_node.specs.Command.{key_of_command}
 use Rattle.mr_node.specs.declared.command.NodeCommand.{NodeCommand}
 use Rattle.mr_node.specs.declared.command.NodeCommand.TheVariants.{Get, Set, Delete}
 use Rattle.mr_proxy.specs.declared.sheet.LegId.{LegId}
 use Rattle.mr_proxy.specs.declared.sheet.LegSheet.{LegSheet}
 use Rattle.mr_proxy.specs.declared.taken.Taken.TheVariants.{Waiting, Answered}
 use Rattle.mr_proxy.specs.declared.slot.Slot.{Slot}
-use Rattle.mr_proxy.specs.Slots.{open_slot, is_open, outcome_of, is_of_kind, is_awaiting}
+use Rattle.mr_proxy.specs.Slots.{open_slot, is_open, reply_of_slot, is_of_kind, is_awaiting}
 use Rattle.mr_proxy.specs.Pending.{PendingView, is_complete, with_reply, with_reply_in}
 use Rattle.mr_proxy.specs.Answer.{AnswerView, answer_of, reply_of}
 use Rattle.mr_proxy.specs.ProxyView.{ProxyView, fresh_proxy}
 use Rattle.mr_proxy.specs.Issue.{next_op, used_reading, sheets_of, pending_of, after_issue}
 use Rattle.mr_proxy.specs.Transitions.{place_of_op, pending_with, settled, taken_by, taken_of, left_by, given_up_in, given_up_of}
 use Rattle.mr_proxy.specs.Sheets.{pool_at, IsPlaced, sheets_by, sheets_from, targets_of}
-use Rattle.mr_proxy.specs.Whole.{IsCommandAt, IsLegAt, IsOfItsKind, IsWhole}
+use Rattle.mr_proxy.specs.Whole.{IsCommandAt, IsLegAt, IsOfItsKind, IsWholeAnswer}
 use Rattle.mr_proxy.specs.Sound.{HasLegs, ProxyStep, sheet_of, IsSoundPending, IsSoundAnswer, IsSound, HasFound, WasDeleted}
 use Rattle.mr_proxy.specs.Sound.ProxyStep.{issues, takes, gives_up, restarts}
 use Rattle.mr_proxy.proofs.SheetLemmas.{get_map, mapped, only, sheets_say_lem, gets_ask_in_order_lem}
@@ -346,10 +346,10 @@ key_at : (keys : List (List ℕ)) (place : ℕ) (key : List ℕ) (command : Node
 key_at keys place key command there told =
     let got = get_map Get keys place key there in cc
 
-found_by : (answer : AnswerView) (keys : List (List ℕ)) (item : Item) → IsWhole answer → answer.request ≡ request.Get keys
-    → IsHitOf keys (map outcome_of answer.slots) item → HasFound answer.slots item
+found_by : (answer : AnswerView) (keys : List (List ℕ)) (item : Item) → IsWholeAnswer answer → answer.request ≡ request.Get keys
+    → IsHitOf keys (map reply_of_slot answer.slots) item → HasFound answer.slots item
 found_by answer keys item s asked h =
-    let m = mapped outcome_of answer.slots h.place (Hit item.flags item.block) h.hit in
+    let m = mapped reply_of_slot answer.slots h.place (Hit item.flags item.block) h.hit in
     let leg = s.legs h.place m.from m.there in
     let told = subst (λ q. IsCommandAt q h.place m.from.sheet.command) asked leg.told in
     record {
@@ -361,11 +361,11 @@ found_by answer keys item s asked h =
     }
 
 pub items_were_found_lem : ((q : Request) (replies : List LegReply) (items : List Item) → joined_reply q replies ≡ reply.Items items → AreHits q replies items)
-    → (answer : AnswerView) (items : List Item) → IsWhole answer
+    → (answer : AnswerView) (items : List Item) → IsWholeAnswer answer
     → reply_of answer ≡ reply.Items items → All (HasFound answer.slots) items
 items_were_found_lem hits answer items s e =
-    let h = hits answer.request (map outcome_of answer.slots) items e in
-    All-weaker (IsHitOf h.keys (map outcome_of answer.slots)) (HasFound answer.slots) (λ item found. found_by answer h.keys item s h.asked found) items h.found
+    let h = hits answer.request (map reply_of_slot answer.slots) items e in
+    All-weaker (IsHitOf h.keys (map reply_of_slot answer.slots)) (HasFound answer.slots) (λ item found. found_by answer h.keys item s h.asked found) items h.found
 
 deleted_by : (key : List ℕ) (r : LegReply) → is_of_kind (Delete key) r ≡ true → HasSucceeded r → (r ≡ Deleted) ⊎ (r ≡ NotFound)
 deleted_by key (Hit flags block) kind mild = cc
@@ -379,23 +379,23 @@ was_noted : (o : Option LegReply) → HasSucceeded (unwrap_or o (Failed LegLost)
 was_noted None mild = absurd (omega arith)
 was_noted (Some r) mild = (r, refl, mild)
 
-slot_deleted : (key : List ℕ) (slot : Slot) → slot.sheet.command ≡ Delete key → IsOfItsKind slot → HasSucceeded (outcome_of slot) → WasDeleted slot
+slot_deleted : (key : List ℕ) (slot : Slot) → slot.sheet.command ≡ Delete key → IsOfItsKind slot → HasSucceeded (reply_of_slot slot) → WasDeleted slot
 slot_deleted key slot command kind mild =
     let (r, noted, good) = was_noted slot.reply mild in
     record { reply = r; noted = noted; deleted = deleted_by key r (ap (λ c. is_of_kind c r) (sym command) ∙ kind r noted) good }
 
 pub acknowledged_by_legs_lem : ((q : Request) (replies : List LegReply) → Acknowledges (joined_reply q replies) → All HasSucceeded replies)
-    → (answer : AnswerView) (key : List ℕ) (noreply : Bool) → IsWhole answer
+    → (answer : AnswerView) (key : List ℕ) (noreply : Bool) → IsWholeAnswer answer
     → answer.request ≡ request.Delete key noreply → Acknowledges (reply_of answer) → All WasDeleted answer.slots
 acknowledged_by_legs_lem all answer key noreply s asked a k d below =
     let slots = answer.slots in
     let slot = get_or slots k d in
     let leg = s.legs k slot (slice_get-get_or slots k d below) in
     let command : slot.sheet.command ≡ Delete key = subst (λ q. IsCommandAt q k slot.sheet.command) asked leg.told in
-    let outcomes = all answer.request (map outcome_of slots) a in
-    let count : length (map outcome_of slots) ≡ length slots = length-map slots outcome_of in
-    let mild = outcomes k (outcome_of d) (omega arith) in
-    let read : get_or (map outcome_of slots) k (outcome_of d) ≡ outcome_of slot = get_or-map outcome_of slots k d (outcome_of d) below in
+    let outcomes = all answer.request (map reply_of_slot slots) a in
+    let count : length (map reply_of_slot slots) ≡ length slots = length-map slots reply_of_slot in
+    let mild = outcomes k (reply_of_slot d) (omega arith) in
+    let read : get_or (map reply_of_slot slots) k (reply_of_slot d) ≡ reply_of_slot slot = get_or-map reply_of_slot slots k d (reply_of_slot d) below in
     slot_deleted key slot command (s.kinds k d below) (subst HasSucceeded read mild)
 
 -- a fresh proxy is sound where its routing and its schedule are
@@ -427,5 +427,5 @@ nodes_within routing hops op u q r k d below =
     let there = pool_there routing sheet.side r in
     let sized = r.sized (pool_at sheet) there in
     let some = sized.not_empty in
-    let least = mod_below (spot_by routing.hash (key_of sheet.command)) (length (pool_of routing (pool_at sheet))) (omega arith) in
+    let least = mod_below (spot_by routing.hash (key_of_command sheet.command)) (length (pool_of routing (pool_at sheet))) (omega arith) in
     record { pool = there; within = omega arith }

@@ -5,7 +5,7 @@ use Rattle.mr_text.specs.declared.reply.Reply.{Reply}
 use Rattle.mr_history.specs.declared.op_id.OpId.{OpId}
 use Rattle.mr_join.specs.Join.{joined_reply}
 use Rattle.mr_proxy.specs.declared.slot.Slot.{Slot}
-use Rattle.mr_proxy.specs.Slots.{outcome_of}
+use Rattle.mr_proxy.specs.Slots.{reply_of_slot}
 use Rattle.mr_proxy.specs.Pending.{PendingView}
 
 pub record AnswerView : Type 0 where
@@ -22,4 +22,4 @@ answer_of pending given_up =
 
 -- what the client is told: the join of what the legs came to
 abbrev pub reply_of : AnswerView → Reply
-reply_of answer = joined_reply answer.request (map outcome_of answer.slots)
+reply_of answer = joined_reply answer.request (map reply_of_slot answer.slots)

@@ -5,7 +5,7 @@ use Rattle.mr_text.specs.declared.request.Request.{Request}
 use Rattle.mr_history.specs.declared.op_id.OpId.{OpId}
 use Rattle.mr_join.specs.declared.leg_reply.LegReply.{LegReply}
 use Rattle.mr_proxy.specs.declared.slot.Slot.{Slot}
-use Rattle.mr_proxy.specs.Slots.{is_open, is_awaiting, outcome_of}
+use Rattle.mr_proxy.specs.Slots.{is_open, is_awaiting, reply_of_slot}
 
 -- the request with the reading by which it was judged, and its legs in order of place
 pub record PendingView : Type 0 where
@@ -23,7 +23,7 @@ is_complete pending = not (list_any is_open pending.slots)
 
 -- what each leg came to
 abbrev pub outcomes_of : PendingView → List LegReply
-outcomes_of pending = map outcome_of pending.slots
+outcomes_of pending = map reply_of_slot pending.slots
 
 abbrev pub with_reply_in : PendingView → ℕ → LegReply → Option Slot → Option PendingView
 with_reply_in pending place reply None = None

@@ -12,7 +12,7 @@ use Rattle.mr_phases.specs.Sides.{sides_at}
 use Rattle.mr_phases.specs.Pools.{pool_number, read_pool, delete_pools}
 use Rattle.mr_pools.specs.Names.{name_at, HasNode}
 use Rattle.mr_pools.specs.Routing.{RoutingView, pool_of, place_of}
-use Rattle.mr_node.specs.Command.{key_of}
+use Rattle.mr_node.specs.Command.{key_of_command}
 use Rattle.mr_node.specs.declared.command.NodeCommand.{NodeCommand}
 use Rattle.mr_node.specs.declared.command.NodeCommand.TheVariants.{Get, Set, Delete}
 use Rattle.mr_proxy.specs.declared.sheet.LegSheet.{LegSheet}
@@ -31,7 +31,7 @@ node_name routing sheet = name_at routing (pool_at sheet) sheet.node
 
 -- the index, in the sheet's pool, of the node that keeps its key
 abbrev pub node_by_key : RoutingView → LegSheet → ℕ
-node_by_key routing sheet = place_of routing.hash (pool_of routing (pool_at sheet)) (key_of sheet.command)
+node_by_key routing sheet = place_of routing.hash (pool_of routing (pool_at sheet)) (key_of_command sheet.command)
 
 -- the sheet, to the node that keeps its key
 abbrev pub placed : RoutingView → LegSheet → LegSheet

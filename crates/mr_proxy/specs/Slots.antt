@@ -17,8 +17,8 @@ abbrev pub is_open : Slot → Bool
 is_open slot = is_none slot.reply
 
 -- a leg of which no reply came counts as lost
-abbrev pub outcome_of : Slot → LegReply
-outcome_of slot = unwrap_or slot.reply (Failed LegLost)
+abbrev pub reply_of_slot : Slot → LegReply
+reply_of_slot slot = unwrap_or slot.reply (Failed LegLost)
 
 -- a node may answer this command so
 abbrev pub is_of_kind : NodeCommand → LegReply → Bool
@@ -40,4 +40,4 @@ is_failed reply = false
 
 -- the leg failed, or no reply came
 abbrev pub has_failed : Slot → Bool
-has_failed slot = is_failed (outcome_of slot)
+has_failed slot = is_failed (reply_of_slot slot)

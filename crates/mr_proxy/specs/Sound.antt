@@ -14,7 +14,7 @@ use Rattle.mr_proxy.specs.declared.sheet.LegSheet.{LegSheet}
 use Rattle.mr_proxy.specs.declared.slot.Slot.{Slot}
 use Rattle.mr_proxy.specs.Pending.{PendingView, is_complete}
 use Rattle.mr_proxy.specs.Answer.{AnswerView}
-use Rattle.mr_proxy.specs.Whole.{IsOfItsKind, IsWhole}
+use Rattle.mr_proxy.specs.Whole.{IsOfItsKind, IsWholeAnswer}
 use Rattle.mr_proxy.specs.Sheets.{sheets_by}
 use Rattle.mr_proxy.specs.ProxyView.{ProxyView}
 use Rattle.mr_proxy.specs.Issue.{refusal_of, after_issue}
@@ -61,7 +61,7 @@ pub record IsSoundAnswer (p : ProxyView) (answer : AnswerView) : Type 0 where
   pub incarnation : answer.op.incarnation ≡ p.incarnation
   pub number : answer.op.number < p.next
   pub sheets : map sheet_of answer.slots ≡ sheets_by p.routing p.schedule answer.op answer.reading answer.request
-  pub whole : IsWhole answer
+  pub whole : IsWholeAnswer answer
 
 -- the op was given out: by an earlier incarnation, or by this one
 pub record WasGivenOut (p : ProxyView) (op : OpId) : Type 0 where

@@ -29,7 +29,7 @@ IsOfItsKind slot = (reply : LegReply) → slot.reply ≡ Some reply → is_of_ki
 
 -- it has a leg, each leg is the request's of its place, each noted reply is of its leg's kind, and it was given up
 -- exactly where a leg of it didn't answer
-pub record IsWhole (answer : AnswerView) : Type 0 where
+pub record IsWholeAnswer (answer : AnswerView) : Type 0 where
   pub has_leg : 1 ≤ length answer.slots
   pub legs : (place : ℕ) (slot : Slot) → slice_get answer.slots place ≡ Some slot → IsLegAt answer.op answer.request place slot
   pub kinds : All IsOfItsKind answer.slots

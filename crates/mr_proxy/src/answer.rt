@@ -27,18 +27,18 @@ impl Model for Answer {
 
     ghost view = { λ a. answer_of a.pending a.given_up };
 
-    ghost use Rattle.mr_proxy.specs.Whole.{IsWhole};
+    ghost use Rattle.mr_proxy.specs.Whole.{IsWholeAnswer};
 
-    ghost invariant = { λ a. IsWhole (answer_of a.pending a.given_up) };
+    ghost invariant = { λ a. IsWholeAnswer (answer_of a.pending a.given_up) };
 }
 
 impl Answer {
     ghost use Rattle.mr_proxy.specs.Answer.{answer_of, reply_of};
-    ghost use Rattle.mr_proxy.specs.Whole.{IsWhole};
+    ghost use Rattle.mr_proxy.specs.Whole.{IsWholeAnswer};
 
     /// The answer to a request as it stands.
     pub(crate) fn of(pending: Pending, given_up: bool) -> Answer
-        requires { IsWhole (answer_of pending given_up) }
+        requires { IsWholeAnswer (answer_of pending given_up) }
         ensures { result ≡ answer_of pending given_up }
     {
         Answer { pending, given_up }
@@ -69,7 +69,7 @@ impl Answer {
     /// legs are those of its request, each reply is of its leg's kind, and it was given up where a leg is silent.
     pub fn slots(&self) -> &[Slot]
         ensures slots { result.now ≡ self.now.slots }
-        ensures whole { IsWhole self.now }
+        ensures whole { IsWholeAnswer self.now }
     {
         self.pending.slots()
     }

@@ -1,3 +1,4 @@
+//! Why a proxy refuses.
 ghost use Rattle.std.specs.Prelude.{◌≡◌};
 
 use thiserror::Error;

@@ -1,3 +1,4 @@
+//! What an accepted request becomes.
 use crate::leg::Leg;
 use mr_history::OpId;
 

@@ -1,6 +1,6 @@
 //! The one reply to a request, by what its legs came to.
 ghost use Rattle.std.specs.Prelude.{◌≡◌, ◌≤◌, ◌<◌, [], map, length, slice_get, vec_len, vec_capacity};
-ghost use Rattle.mr_proxy.specs.Slots.{outcome_of};
+ghost use Rattle.mr_proxy.specs.Slots.{reply_of_slot};
 ghost use Rattle.mr_proxy.specs.steps.Room.{HasRoomFor, most_items};
 ghost use Rattle.mr_join.specs.Join.{joined_reply, hits_of, worst_of, reply_by};
 
@@ -12,7 +12,7 @@ use mr_text::{Cause, Item, ItemList, Key, Reply, Request};
 pub(crate) fn place_of_worst(slots: &[Slot]) -> usize
     requires { 1 ≤ length slots.now }
     ensures within { result < length slots.now }
-    ensures worst { slice_get (map outcome_of slots.now) result ≡ worst_of (map outcome_of slots.now) }
+    ensures worst { slice_get (map reply_of_slot slots.now) result ≡ worst_of (map reply_of_slot slots.now) }
 {
     let mut worst = 0;
     for (place, slot) in slots.iter().enumerate() {
@@ -27,7 +27,7 @@ pub(crate) fn place_of_worst(slots: &[Slot]) -> usize
 fn into_hits(keys: Vec<Key>, slots: Vec<Slot>, mut items: Vec<Item>) -> Vec<Item>
     requires unused { items.items ≡ [] }
     requires fits { vec_len keys ≤ vec_capacity items }
-    ensures hits { result.items ≡ hits_of keys.items (map outcome_of slots.items) }
+    ensures hits { result.items ≡ hits_of keys.items (map reply_of_slot slots.items) }
     ensures few { vec_len result ≤ vec_len keys }
 {
     let mut slots = slots.into_iter();
@@ -58,7 +58,7 @@ fn reply_by(outcome: LegReply) -> Reply
 pub(crate) fn joined(request: Request, mut slots: Vec<Slot>, items: Vec<Item>) -> Reply
     requires legs { 1 ≤ length slots.items }
     requires room { HasRoomFor request items.items (vec_capacity items) }
-    ensures { result ≡ joined_reply request (map outcome_of slots.items) }
+    ensures { result ≡ joined_reply request (map reply_of_slot slots.items) }
 {
     let worst = place_of_worst(&slots);
     match request {

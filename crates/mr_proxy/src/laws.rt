@@ -20,7 +20,7 @@ ghost use Rattle.mr_proxy.specs.ProxyView.{ProxyView, fresh_proxy};
 ghost use Rattle.mr_proxy.specs.Issue.{next_op, sheets_of, after_issue};
 ghost use Rattle.mr_proxy.specs.Transitions.{open_legs_of, noted_by, taken_of, after_take, given_up_of, after_give_up};
 ghost use Rattle.mr_proxy.specs.Sheets.{pool_at, sheets_by, IsSheetOf, GoesBy, DeletesIn, AsksFor};
-ghost use Rattle.mr_proxy.specs.Whole.{IsWhole};
+ghost use Rattle.mr_proxy.specs.Whole.{IsWholeAnswer};
 ghost use Rattle.mr_proxy.specs.Sound.{ProxyStep, IsSound, IsSoundAnswer, WasGivenOut, HasFound, WasDeleted};
 
 use mr_join::laws::{acknowledged_by_all, items_are_hits};
@@ -74,7 +74,7 @@ pub fn given_up_early()
 
 /// Each item of a get's answer is a hit that was noted for a leg of that get and of that key.
 pub fn items_were_found()
-    ensures { (answer : AnswerView) (items : List Item) → IsWhole answer
+    ensures { (answer : AnswerView) (items : List Item) → IsWholeAnswer answer
         → reply_of answer ≡ Items items → All (HasFound answer.slots) items }
 {
     items_are_hits();
@@ -82,7 +82,7 @@ pub fn items_were_found()
 
 /// The answer to a delete is Deleted or NotFound only where each leg's reply is.
 pub fn acknowledged_by_legs()
-    ensures { (answer : AnswerView) (key : List ℕ) (noreply : Bool) → IsWhole answer
+    ensures { (answer : AnswerView) (key : List ℕ) (noreply : Bool) → IsWholeAnswer answer
         → answer.request ≡ Delete key noreply → Acknowledges (reply_of answer) → All WasDeleted answer.slots }
 {
     acknowledged_by_all();

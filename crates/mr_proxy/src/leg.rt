@@ -1,3 +1,4 @@
+//! Legs, which are moved and never copied, so that none is sent twice.
 ghost use Rattle.std.specs.Prelude.{◌≡◌};
 
 use crate::sheet::{LegBack, LegSheet};

@@ -3,7 +3,7 @@ ghost use Rattle.std.specs.Prelude.{◌≡◌, ◌↔◌, nat_lt, IsTrue, IfOk};
 ghost use Rattle.mr_text.specs.declared.cause.Cause.TheVariants.{LegLost};
 ghost use Rattle.mr_join.specs.declared.leg_reply.LegReply.TheVariants.{Failed};
 ghost use Rattle.mr_join.specs.Join.{badness_of};
-ghost use Rattle.mr_proxy.specs.Slots.{open_slot, is_open, is_awaiting, has_failed, outcome_of, is_of_kind};
+ghost use Rattle.mr_proxy.specs.Slots.{open_slot, is_open, is_awaiting, has_failed, reply_of_slot, is_of_kind};
 
 use crate::sheet::LegSheet;
 use mr_join::LegReply;
@@ -62,14 +62,14 @@ impl Slot {
     /// since no constant that has something to drop can be lent.
     pub(crate) fn outcome<'a>(&'a self, lost: &'a LegReply) -> &'a LegReply
         requires { lost.now ≡ Failed LegLost }
-        ensures { result.now ≡ outcome_of self.now }
+        ensures { result.now ≡ reply_of_slot self.now }
     {
         self.reply.as_ref().unwrap_or(lost)
     }
 
     /// The same, taken out.
     pub fn into_outcome(self) -> LegReply
-        ensures { result ≡ outcome_of self }
+        ensures { result ≡ reply_of_slot self }
     {
         let Slot { sheet: _, reply } = self;
         reply.unwrap_or(LOST)
@@ -84,7 +84,7 @@ impl Slot {
 
     /// Whether the leg came to what is worse than what the other one came to.
     pub(crate) fn is_worse_than(&self, other: &Slot) -> bool
-        ensures { result ≡ nat_lt (badness_of (outcome_of other.now)) (badness_of (outcome_of self.now)) }
+        ensures { result ≡ nat_lt (badness_of (reply_of_slot other.now)) (badness_of (reply_of_slot self.now)) }
     {
         other.outcome(&LOST).badness() < self.outcome(&LOST).badness()
     }

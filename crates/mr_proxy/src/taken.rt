@@ -1,3 +1,4 @@
+//! What becomes of a reply that came back.
 use crate::answer::Answer;
 use mr_join::LegReply;
 

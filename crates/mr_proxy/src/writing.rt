@@ -5,7 +5,7 @@ ghost use Rattle.mr_text.specs.Gathering.{Gathers, Costs, TakesFewCalls, parts_o
 ghost use Rattle.mr_text.specs.Sink.{Writes};
 ghost use Rattle.mr_text.specs.declared.reply.Reply.TheVariants.{Items};
 ghost use Rattle.mr_join.specs.Join.{reply_by, hits_of, joined_reply};
-ghost use Rattle.mr_proxy.specs.Slots.{outcome_of};
+ghost use Rattle.mr_proxy.specs.Slots.{reply_of_slot};
 
 use crate::join::place_of_worst;
 use crate::slot::{LOST, Slot};
@@ -23,9 +23,9 @@ pub(crate) fn write_joined<W: Sink>(
     writer: &mut W,
 ) -> Result<(), WriteFault>
     requires { 1 ≤ length slots.now }
-    ensures text { Writes (canonical_reply (joined_reply request.now (map outcome_of slots.now))) (W.told writer.old) result (W.told writer.new) }
-    ensures calls { TakesFewCalls (canonical_reply (joined_reply request.now (map outcome_of slots.now)))
-        (parts_of_reply (joined_reply request.now (map outcome_of slots.now))) (W.told writer.old) (W.told writer.new) }
+    ensures text { Writes (canonical_reply (joined_reply request.now (map reply_of_slot slots.now))) (W.told writer.old) result (W.told writer.new) }
+    ensures calls { TakesFewCalls (canonical_reply (joined_reply request.now (map reply_of_slot slots.now)))
+        (parts_of_reply (joined_reply request.now (map reply_of_slot slots.now))) (W.told writer.old) (W.told writer.new) }
 {
     let worst = &slots[place_of_worst(slots)];
     match request {
@@ -38,9 +38,9 @@ pub(crate) fn write_joined<W: Sink>(
 
 /// The items that the legs of these keys found.
 fn write_found<W: Sink>(keys: &[Key], slots: &[Slot], writer: &mut W) -> Result<(), WriteFault>
-    ensures text { Writes (canonical_reply (Items (hits_of keys.now (map outcome_of slots.now)))) (W.told writer.old) result (W.told writer.new) }
-    ensures calls { TakesFewCalls (canonical_reply (Items (hits_of keys.now (map outcome_of slots.now))))
-        (length (hits_of keys.now (map outcome_of slots.now))) (W.told writer.old) (W.told writer.new) }
+    ensures text { Writes (canonical_reply (Items (hits_of keys.now (map reply_of_slot slots.now)))) (W.told writer.old) result (W.told writer.new) }
+    ensures calls { TakesFewCalls (canonical_reply (Items (hits_of keys.now (map reply_of_slot slots.now))))
+        (length (hits_of keys.now (map reply_of_slot slots.now))) (W.told writer.old) (W.told writer.new) }
 {
     let mut buffer = FixedBuffer::new();
     put_found(keys, slots, &mut buffer, writer)?;
@@ -54,8 +54,8 @@ fn put_found<W: Sink>(
     buffer: &mut FixedBuffer,
     writer: &mut W,
 ) -> Result<(), WriteFault>
-    ensures text { Gathers (canonical_reply (Items (hits_of keys.now (map outcome_of slots.now)))) buffer.old (W.told writer.old) result buffer.new (W.told writer.new) }
-    ensures calls { (W.told writer.new).calls ≤ (W.told writer.old).calls + owes buffer.old + 2 * length (hits_of keys.now (map outcome_of slots.now)) }
+    ensures text { Gathers (canonical_reply (Items (hits_of keys.now (map reply_of_slot slots.now)))) buffer.old (W.told writer.old) result buffer.new (W.told writer.new) }
+    ensures calls { (W.told writer.new).calls ≤ (W.told writer.old).calls + owes buffer.old + 2 * length (hits_of keys.now (map reply_of_slot slots.now)) }
 {
     put_hits(keys, slots, buffer, writer)?;
     put_end(buffer, writer)
@@ -69,8 +69,8 @@ fn put_hits<W: Sink>(
     buffer: &mut FixedBuffer,
     writer: &mut W,
 ) -> Result<(), WriteFault>
-    ensures text { Gathers (items_text (hits_of keys.now (map outcome_of slots.now))) buffer.old (W.told writer.old) result buffer.new (W.told writer.new) }
-    ensures calls { Costs (2 * length (hits_of keys.now (map outcome_of slots.now))) buffer.old (W.told writer.old) result buffer.new (W.told writer.new) }
+    ensures text { Gathers (items_text (hits_of keys.now (map reply_of_slot slots.now))) buffer.old (W.told writer.old) result buffer.new (W.told writer.new) }
+    ensures calls { Costs (2 * length (hits_of keys.now (map reply_of_slot slots.now))) buffer.old (W.told writer.old) result buffer.new (W.told writer.new) }
 {
     for (place, key) in keys.iter().enumerate() {
         if place >= slots.len() {
@@ -88,8 +88,8 @@ fn put_hit<W: Sink>(
     buffer: &mut FixedBuffer,
     writer: &mut W,
 ) -> Result<(), WriteFault>
-    ensures text { Gathers (items_text (hits_of (key.now ∷ []) (outcome_of slot.now ∷ []))) buffer.old (W.told writer.old) result buffer.new (W.told writer.new) }
-    ensures calls { Costs (2 * length (hits_of (key.now ∷ []) (outcome_of slot.now ∷ []))) buffer.old (W.told writer.old) result buffer.new (W.told writer.new) }
+    ensures text { Gathers (items_text (hits_of (key.now ∷ []) (reply_of_slot slot.now ∷ []))) buffer.old (W.told writer.old) result buffer.new (W.told writer.new) }
+    ensures calls { Costs (2 * length (hits_of (key.now ∷ []) (reply_of_slot slot.now ∷ []))) buffer.old (W.told writer.old) result buffer.new (W.told writer.new) }
 {
     match slot.outcome(&LOST) {
         LegReply::Hit { flags, block } => put_item(key, *flags, block, buffer, writer),

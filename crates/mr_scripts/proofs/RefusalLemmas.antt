@@ -11,7 +11,7 @@ use Rattle.mr_world.specs.declared.setup.ProxySetup.{ProxySetup}
 use Rattle.mr_configs.specs.Fields.{Text, is_one_of}
 use Rattle.mr_configs.specs.declared.error.PlanError.{PlanError}
 use Rattle.mr_configs.specs.declared.error.PlanError.TheVariants.{BadSetup}
-use Rattle.mr_scripts.specs.Setups.{pools_name, proxies_name, have_homes, have_room, settled}
+use Rattle.mr_scripts.specs.Setups.{pools_name, proxies_name, have_homes, have_room, checked_setup}
 
 left_or : (a b : Bool) → a ≡ true → (a || b) ≡ true
 left_or true b e = refl
@@ -69,7 +69,7 @@ not_settled : (setup : SetupView) (e : PlanError) (test : Bool) → test ≡ tru
 not_settled setup e true is refused = cc
 not_settled setup e false is refused = cc
 
-pub refused_has_no_fleet : (setup : SetupView) (e : PlanError) → settled setup ≡ Err e → CanBeMade setup → ⊥
+pub refused_has_no_fleet : (setup : SetupView) (e : PlanError) → checked_setup setup ≡ Err e → CanBeMade setup → ⊥
 refused_has_no_fleet setup e refused can =
     not_settled setup e (have_room setup.capacity setup.proxies && have_homes setup.proxies setup.held)
     (both (have_room setup.capacity setup.proxies) (have_homes setup.proxies setup.held) (room_found setup.capacity setup.proxies can.not_zero)

@@ -15,7 +15,7 @@ use Rattle.mr_scripts.specs.Lists.{all_of}
 use Rattle.mr_scripts.specs.Script.{ScriptParts, count_in, counts_check}
 use Rattle.mr_scripts.specs.ScriptDraft.{script_between, parts_between, parts_drafted, IsScriptReady}
 use Rattle.mr_scripts.specs.SetupDraft.{setup_between, setup_drafted}
-use Rattle.mr_scripts.specs.Setups.{held_of, proxy_of, settled}
+use Rattle.mr_scripts.specs.Setups.{held_of, proxy_of, checked_setup}
 use Rattle.mr_configs.specs.declared.error.PlanError.{PlanError}
 use Rattle.mr_scripts.specs.declared.script.ScriptDraft.{ScriptDraft}
 use Rattle.mr_scripts.proofs.HomeLemmas.{taken, read_as}
@@ -41,15 +41,15 @@ setup_counted : (common : ConfigView) (capacity : ℕ) (held proxies : List Valu
     setup_between common capacity (map view held) (map view proxies) ≡ Ok setup → AreCounted held proxies setup
 setup_counted common capacity held proxies setup e =
     let items = taken (all_of held_of (map view held))
-    (λ items. all_of (proxy_of common) (map view proxies) >>= λ fleet. settled (record { proxies = fleet; capacity = capacity; held = items })) setup e in
-    let fleet = taken (all_of (proxy_of common) (map view proxies)) (λ fleet. settled (record { proxies = fleet; capacity = capacity; held = items.value })) setup items.went in
+    (λ items. all_of (proxy_of common) (map view proxies) >>= λ fleet. checked_setup (record { proxies = fleet; capacity = capacity; held = items })) setup e in
+    let fleet = taken (all_of (proxy_of common) (map view proxies)) (λ fleet. checked_setup (record { proxies = fleet; capacity = capacity; held = items.value })) setup items.went in
     let same = settled_same (record { proxies = fleet.value; capacity = capacity; held = items.value }) setup fleet.went in
     record {
       items = ap (λ (s : SetupView). length s.held) (sym same) ∙ sym (all_counted held_of (map view held) items.value items.gave) ∙ length-map held view;
       fleet = ap (λ (s : SetupView). length s.proxies) (sym same) ∙ sym (all_counted (proxy_of common) (map view proxies) fleet.value fleet.gave) ∙ length-map proxies view;
     }
   where
-    settled_same : (made setup : SetupView) → settled made ≡ Ok setup → made ≡ setup
+    settled_same : (made setup : SetupView) → checked_setup made ≡ Ok setup → made ≡ setup
     settled_same made setup is = search (rules, is)
 
 -- the lists can be counted before they are made

@@ -6,7 +6,7 @@ use Rattle.serde_json.specs.View.{view}
 use Rattle.serde_json.specs.Written.{has_float}
 use Rattle.std.specs.Str.{bytes_eq}
 use Rattle.std.proofs.lemmas.Slice.Eq.{bytes_eq-Decides}
-use Rattle.mr_world.specs.Setup.{SetupView, CanBeMade, IsNamed, NamesNode, HasNode}
+use Rattle.mr_world.specs.Setup.{SetupView, CanBeMade, IsNamed, NamesNode, HasNamedNode}
 use Rattle.mr_world.specs.declared.error.WorldError.TheVariants.{NoSuchNode}
 use Rattle.mr_world.specs.declared.event.Event.{Event}
 use Rattle.mr_world.specs.declared.setup.HeldItem.{HeldItem}
@@ -18,7 +18,7 @@ use Rattle.mr_configs.specs.Fields.{Text, is_one_of, object_check, field, whole_
 use Rattle.mr_scripts.specs.Limits.{most_events, most_held, most_proxies}
 use Rattle.mr_scripts.specs.Lists.{all_of}
 use Rattle.mr_scripts.specs.Script.{ScriptParts, ScriptView, script_keys, format_check, count_in, counts_check, script_in, IsScript, IsPlayable}
-use Rattle.mr_scripts.specs.Setups.{pools_name, proxies_name, have_homes, have_room, settled, held_of, proxy_of, setup_keys, setup_of}
+use Rattle.mr_scripts.specs.Setups.{pools_name, proxies_name, have_homes, have_room, checked_setup, held_of, proxy_of, setup_keys, setup_of}
 use Rattle.mr_configs.specs.declared.error.PlanError.{PlanError}
 use Rattle.mr_configs.specs.declared.error.PlanError.TheVariants.{BadSetup, TooLarge, WrongKind}
 use Rattle.mr_scripts.proofs.HomeLemmas.{taken}
@@ -90,7 +90,7 @@ passes setup e = record {
   named = are_named setup.proxies setup.held (right_true (have_room setup.capacity setup.proxies) (have_homes setup.proxies setup.held) e);
 }
 
-settled_passes : (setup made : SetupView) → settled setup ≡ Ok made → (have_room made.capacity made.proxies && have_homes made.proxies made.held) ≡ true
+settled_passes : (setup made : SetupView) → checked_setup setup ≡ Ok made → (have_room made.capacity made.proxies && have_homes made.proxies made.held) ≡ true
 settled_passes setup made e = go (have_room setup.capacity setup.proxies && have_homes setup.proxies setup.held) refl e
   where
     go : (test : Bool) → (have_room setup.capacity setup.proxies && have_homes setup.proxies setup.held) ≡ test →
@@ -99,7 +99,7 @@ settled_passes setup made e = go (have_room setup.capacity setup.proxies && have
         let P : SetupView → Type 0 = λ s. (have_room s.capacity s.proxies && have_homes s.proxies s.held) ≡ true in subst P kept is
     go false is same = absurd (cc)
 
-pub settled_made : (setup made : SetupView) → settled setup ≡ Ok made → CanBeMade made
+pub settled_made : (setup made : SetupView) → checked_setup setup ≡ Ok made → CanBeMade made
 settled_made setup made e = passes made (settled_passes setup made e)
 
 -- what comes of a setup's values
@@ -109,18 +109,18 @@ with_values capacity config held proxies =
     config_of config >>= λ common.
     list_of held >>= all_of held_of >>= λ held.
     list_of proxies >>= all_of (proxy_of common) >>= λ proxies.
-    settled (record { proxies = proxies; capacity = capacity; held = held })
+    checked_setup (record { proxies = proxies; capacity = capacity; held = held })
 
 values_made : (capacity config held proxies : Data) (setup : SetupView) → with_values capacity config held proxies ≡ Ok setup → CanBeMade setup
 values_made capacity config held proxies setup e =
     let number = taken (whole_number capacity) (λ capacity. config_of config >>= λ common. list_of held >>= all_of held_of >>= λ held.
-    list_of proxies >>= all_of (proxy_of common) >>= λ proxies. settled (record { proxies = proxies; capacity = capacity; held = held })) setup e in
+    list_of proxies >>= all_of (proxy_of common) >>= λ proxies. checked_setup (record { proxies = proxies; capacity = capacity; held = held })) setup e in
     let common = taken (config_of config) (λ common. list_of held >>= all_of held_of >>= λ held.
-    list_of proxies >>= all_of (proxy_of common) >>= λ proxies. settled (record { proxies = proxies; capacity = number.value; held = held })) setup number.went in
+    list_of proxies >>= all_of (proxy_of common) >>= λ proxies. checked_setup (record { proxies = proxies; capacity = number.value; held = held })) setup number.went in
     let items = taken (list_of held >>= all_of held_of) (λ held.
-    list_of proxies >>= all_of (proxy_of common.value) >>= λ proxies. settled (record { proxies = proxies; capacity = number.value; held = held })) setup common.went in
+    list_of proxies >>= all_of (proxy_of common.value) >>= λ proxies. checked_setup (record { proxies = proxies; capacity = number.value; held = held })) setup common.went in
     let fleet = taken (list_of proxies >>= all_of (proxy_of common.value))
-    (λ proxies. settled (record { proxies = proxies; capacity = number.value; held = items.value })) setup items.went in
+    (λ proxies. checked_setup (record { proxies = proxies; capacity = number.value; held = items.value })) setup items.went in
     settled_made (record { proxies = fleet.value; capacity = number.value; held = items.value }) setup fleet.went
 
 abbrev with_fleet : Data → SetupView → Result ScriptParts PlanError

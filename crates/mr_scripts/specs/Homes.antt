@@ -8,8 +8,8 @@ use Rattle.mr_configs.specs.Route.{name_pointed_to}
 use Rattle.mr_scripts.specs.Setups.{pools_name}
 
 -- the name of the pool that a configuration's route names at this key
-abbrev pub name_at : Text → Data → Option Text
-name_at key config =
+abbrev pub pool_name_at : Text → Data → Option Text
+pool_name_at key config =
     option_and_then name_pointed_to (option_and_then as_str (option_and_then (get key) (get (codes "route") config)))
 
 -- the nodes of a configuration's pool of this name
@@ -18,7 +18,7 @@ servers_at config name = option_and_then as_array (option_and_then (get (codes "
 
 -- the names of the pool that a configuration's route names at this key
 abbrev pub names_at : Text → Data → List Text
-names_at key config = unwrap_or (option_map (λ items. names_in (values_in items)) (option_and_then (servers_at config) (name_at key config))) []
+names_at key config = unwrap_or (option_map (λ items. names_in (values_in items)) (option_and_then (servers_at config) (pool_name_at key config))) []
 
 -- the names of both pools of a configuration
 abbrev pub pools_at : Data → List (List Text)

@@ -8,9 +8,9 @@ use Rattle.mr_world.specs.declared.setup.HeldItem.{HeldItem}
 use Rattle.mr_world.specs.declared.setup.ProxySetup.{ProxySetup}
 use Rattle.mr_configs.specs.Checking.{◌>>=◌}
 use Rattle.mr_configs.specs.Config.{ConfigView}
-use Rattle.mr_configs.specs.Draft.{config_drafted, CanBeMade}
+use Rattle.mr_configs.specs.Draft.{config_drafted, IsConfigReady}
 use Rattle.mr_scripts.specs.Lists.{all_of}
-use Rattle.mr_scripts.specs.Setups.{held_of, proxy_of, settled}
+use Rattle.mr_scripts.specs.Setups.{held_of, proxy_of, checked_setup}
 use Rattle.mr_scripts.specs.Texts.{key_of_text, block_of_text, node_name_of_text}
 use Rattle.mr_configs.specs.declared.config.Draft.{Draft}
 use Rattle.mr_configs.specs.declared.error.PlanError.{PlanError}
@@ -36,7 +36,7 @@ config_chosen common (Some own) = config_drafted own
 -- its own configuration can be made, if it has one
 abbrev pub CanOwnBeMade : Option Draft → Type 0
 CanOwnBeMade None = ⊤
-CanOwnBeMade (Some own) = CanBeMade own
+CanOwnBeMade (Some own) = IsConfigReady own
 
 -- the proxy that it becomes, beside a common configuration
 abbrev pub proxy_drafted : ConfigView → ProxyDraft → ProxySetup
@@ -53,7 +53,7 @@ abbrev pub setup_between : ConfigView → ℕ → List Data → List Data → Re
 setup_between common capacity held proxies =
     all_of held_of held >>= λ items.
     all_of (proxy_of common) proxies >>= λ fleet.
-    settled (record { proxies = fleet; capacity = capacity; held = items })
+    checked_setup (record { proxies = fleet; capacity = capacity; held = items })
 
 -- the setup that it becomes
 abbrev pub setup_drafted : SetupDraft → Result SetupView PlanError
@@ -61,7 +61,7 @@ setup_drafted draft = setup_between (config_drafted draft.common) draft.capacity
 
 -- nothing but want of memory keeps it from being made
 pub record IsSetupReady (draft : SetupDraft) : Type 0 where
-  pub common : CanBeMade draft.common
+  pub common : IsConfigReady draft.common
   pub held : IsOk (all_of held_of (map view draft.held.now))
   pub proxies : IsOk (all_of (proxy_of (config_drafted draft.common)) (map view draft.proxies.now))
   pub whole : IsOk (setup_drafted draft)

@@ -72,8 +72,8 @@ have_room capacity [] = true
 have_room capacity (proxy ∷ proxies) = nat_le 1 capacity
 
 -- the fleet, unless its nodes could hold nothing or an item's node isn't there
-abbrev pub settled : SetupView → Result SetupView PlanError
-settled setup =
+abbrev pub checked_setup : SetupView → Result SetupView PlanError
+checked_setup setup =
     if have_room setup.capacity setup.proxies && have_homes setup.proxies setup.held then Ok setup else Err (BadSetup NoSuchNode)
 
 abbrev pub setup_keys : List Text
@@ -91,4 +91,4 @@ setup_of value =
     config_of config >>= λ common.
     list_of held >>= all_of held_of >>= λ held.
     list_of proxies >>= all_of (proxy_of common) >>= λ proxies.
-    settled (record { proxies = proxies; capacity = capacity; held = held })
+    checked_setup (record { proxies = proxies; capacity = capacity; held = held })

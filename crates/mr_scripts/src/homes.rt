@@ -1,7 +1,7 @@
 //! The nodes of a setup's proxies, looked up in its JSON values without making them.
 ghost use Rattle.std.specs.Prelude.{◌≡◌, map, option_map};
 ghost use Rattle.serde_json.specs.View.{view, items_view};
-ghost use Rattle.mr_scripts.specs.Homes.{name_at, servers_at, names_at, pools_at, config_at, values_name, node_at, are_housed, values_have_room};
+ghost use Rattle.mr_scripts.specs.Homes.{pool_name_at, servers_at, names_at, pools_at, config_at, values_name, node_at, are_housed, values_have_room};
 ghost use Rattle.mr_configs.specs.Pools.{names_in};
 ghost use Rattle.mr_scripts.specs.Setups.{pools_name};
 
@@ -10,7 +10,7 @@ use serde_json::Value;
 
 /// The name of the pool that a configuration's route names at this key.
 fn name_at<'a>(config: &'a Value, key: &str) -> Option<&'a str>
-    ensures { option_map (λ name. name.now) result ≡ name_at key.now (view config.now) }
+    ensures { option_map (λ name. name.now) result ≡ pool_name_at key.now (view config.now) }
 {
     name_pointed_to(config.get("route")?.get(key)?.as_str()?)
 }

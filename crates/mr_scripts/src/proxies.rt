@@ -3,7 +3,7 @@ ghost use Rattle.std.specs.Prelude.{◌≡◌, Ok, Err, IfOk, IfErr, OnOk, IsOk,
 ghost use Rattle.serde_json.specs.Find.{get};
 ghost use Rattle.serde_json.specs.View.{view};
 ghost use Rattle.mr_configs.specs.Config.{ConfigView};
-ghost use Rattle.mr_configs.specs.Draft.{config_drafted, CanBeMade};
+ghost use Rattle.mr_configs.specs.Draft.{config_drafted, IsConfigReady};
 ghost use Rattle.mr_scripts.specs.Lists.{all_of};
 ghost use Rattle.mr_scripts.specs.Setups.{config_or, proxy_of};
 ghost use Rattle.mr_scripts.specs.SetupDraft.{config_chosen, proxy_drafted, CanOwnBeMade};
@@ -62,7 +62,7 @@ impl ProxyDraft<'_> {
     /// The configuration of the proxy, made.
     fn make_config(&self, alloc: Global, common: &Draft<'_>) -> Result<Config, AllocError>
         requires own { CanOwnBeMade self.now.own }
-        requires common { CanBeMade common.now }
+        requires common { IsConfigReady common.now }
         ensures { IfOk result (λ config. config ≡ config_chosen (config_drafted common.now) self.now.own) }
     {
         match &self.own {
@@ -74,7 +74,7 @@ impl ProxyDraft<'_> {
     /// The proxy, made.
     fn make(&self, alloc: Global, common: &Draft<'_>) -> Result<ProxySetup, AllocError>
         requires own { CanOwnBeMade self.now.own }
-        requires common { CanBeMade common.now }
+        requires common { IsConfigReady common.now }
         ensures { IfOk result (λ proxy. proxy ≡ proxy_drafted (config_drafted common.now) self.now) }
     {
         let config = self.make_config(alloc, common)?;
@@ -104,7 +104,7 @@ pub fn check_proxies(values: &[Value]) -> Result<(), PlanError>
 
 /// The proxy that a value is, beside a common configuration.
 fn make_proxy(alloc: Global, common: &Draft<'_>, value: &Value) -> Result<ProxySetup, AllocError>
-    requires common { CanBeMade common.now }
+    requires common { IsConfigReady common.now }
     requires ready { IsOk (proxy_of (config_drafted common.now) (view value.now)) }
     ensures { IfOk result (λ proxy. proxy_of (config_drafted common.now) (view value.now) ≡ Ok proxy) }
 {
@@ -120,7 +120,7 @@ pub fn make_proxies(
     common: &Draft<'_>,
     values: &[Value],
 ) -> Result<Vec<ProxySetup>, AllocError>
-    requires common { CanBeMade common.now }
+    requires common { IsConfigReady common.now }
     requires ready { IsOk (all_of (proxy_of (config_drafted common.now)) (map view values.now)) }
     ensures { IfOk result (λ proxies. all_of (proxy_of (config_drafted common.now)) (map view values.now) ≡ Ok proxies.items) }
 {

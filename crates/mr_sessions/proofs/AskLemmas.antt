@@ -8,23 +8,23 @@ use Rattle.mr_node.specs.Session.{station}
 use Rattle.mr_proxy.specs.Answer.{AnswerView, reply_of}
 use Rattle.mr_proxy.specs.declared.sheet.LegSheet.{LegSheet}
 use Rattle.mr_desks.specs.Desk.{DeskIssues, DeskRefuses}
-use Rattle.mr_desks.specs.DeskError.{cause_of}
-use Rattle.mr_desks.specs.Issuing.{Reads}
+use Rattle.mr_desks.specs.DeskError.{cause_of_refusal}
+use Rattle.mr_desks.specs.Issuing.{ClockRelation}
 use Rattle.mr_desks.specs.Recorded.{Gave, AnswerStands}
 use Rattle.mr_desks.specs.declared.desk_error.DeskError.{DeskError}
 use Rattle.mr_desks.specs.declared.error.WorkerError.{WorkerError}
 use Rattle.mr_desks.specs.declared.error.WorkerError.TheVariants.{BookDiffers}
 use Rattle.mr_sessions.specs.Account.{account, kept_with, AreCarried}
-use Rattle.mr_sessions.specs.Asking.{Asks, AsksInVain}
+use Rattle.mr_sessions.specs.Asking.{AsksDesk, AsksInVain}
 use Rattle.mr_sessions.specs.steps.ClientStep.{AnsweredSo, AskedSo}
 
-module _ {K : Type 0} (reads : Reads K) (failures : K → ℕ) (gave : Gave) (recorded : Bool) (clock clock' : K) (share share' : ℕ) (answers answers' : List AnswerView)
+module _ {K : Type 0} (reads : ClockRelation K) (failures : K → ℕ) (gave : Gave) (recorded : Bool) (clock clock' : K) (share share' : ℕ) (answers answers' : List AnswerView)
     (losses brought losses' brought' : ℕ) (written written' : SinkView) (request : Request) (result : Result (Unit {0}) WorkerError) where
   -- the request was issued and answered
   pub answered_so : (op : OpId) (legs : List LegSheet) (answer : AnswerView) → DeskIssues reads failures clock clock' request op legs → share' ≡ share + 1
       → answer.request ≡ request → AnswerStands gave answer → AreCarried losses brought answer.given_up losses' brought'
       → answers' ≡ kept_with recorded answers answer → AnsweredSo request (reply_of answer) written written' result
-      → AskedSo (Asks reads failures gave recorded) (AsksInVain reads failures) (station clock (account share answers losses brought) written)
+      → AskedSo (AsksDesk reads failures gave recorded) (AsksInVain reads failures) (station clock (account share answers losses brought) written)
       (station clock' (account share' answers' losses' brought') written') request result
   answered_so op legs answer issues counted of_request stands carried kept told = inl (
     reply_of answer,
@@ -33,24 +33,24 @@ module _ {K : Type 0} (reads : Reads K) (failures : K → ℕ) (gave : Gave) (re
   )
 
 -- the request was refused
-module _ {K : Type 0} (reads : Reads K) (failures : K → ℕ) (gave : Gave) (recorded : Bool) (clock clock' : K) (share share' : ℕ) (answers : List AnswerView)
+module _ {K : Type 0} (reads : ClockRelation K) (failures : K → ℕ) (gave : Gave) (recorded : Bool) (clock clock' : K) (share share' : ℕ) (answers : List AnswerView)
     (losses brought : ℕ) (written written' : SinkView) (request : Request) (result : Result (Unit {0}) WorkerError) where
   pub refused_so : (e : DeskError) → DeskRefuses reads failures clock clock' e → share' ≡ share
-      → AnsweredSo request (ServerError (cause_of e)) written written' result
-      → AskedSo (Asks reads failures gave recorded) (AsksInVain reads failures) (station clock (account share answers losses brought) written)
+      → AnsweredSo request (ServerError (cause_of_refusal e)) written written' result
+      → AskedSo (AsksDesk reads failures gave recorded) (AsksInVain reads failures) (station clock (account share answers losses brought) written)
       (station clock' (account share' answers losses brought) written') request result
   refused_so e refuses same told = inl (
-    ServerError (cause_of e),
+    ServerError (cause_of_refusal e),
     inr (e, refuses, refl, ap (λ n. account n answers losses brought) same),
     told,
   )
 
 -- the request was issued, and has no answer
-module _ {K : Type 0} (reads : Reads K) (failures : K → ℕ) (gave : Gave) (recorded : Bool) (clock clock' : K) (share share' : ℕ) (answers : List AnswerView)
+module _ {K : Type 0} (reads : ClockRelation K) (failures : K → ℕ) (gave : Gave) (recorded : Bool) (clock clock' : K) (share share' : ℕ) (answers : List AnswerView)
     (losses brought losses' brought' : ℕ) (written : SinkView) (request : Request) where
   pub vain_so : (op : OpId) (legs : List LegSheet) → DeskIssues reads failures clock clock' request op legs → share' ≡ share + 1
       → losses ≤ losses' → brought ≤ brought' → losses + brought + 1 ≤ losses' + brought'
-      → AskedSo (Asks reads failures gave recorded) (AsksInVain reads failures) (station clock (account share answers losses brought) written)
+      → AskedSo (AsksDesk reads failures gave recorded) (AsksInVain reads failures) (station clock (account share answers losses brought) written)
       (station clock' (account share' answers losses' brought') written) request (Err BookDiffers)
   vain_so op legs issues counted lost came tried = inr (
     refl,

@@ -12,7 +12,7 @@ use Rattle.mr_text.specs.declared.reply.Reply.{Reply}
 use Rattle.mr_desks.specs.declared.error.WorkerError.{WorkerError}
 use Rattle.mr_desks.specs.declared.error.WorkerError.TheVariants.{LinkBroken, Mismatch, BookFull, BookDiffers, ReadFault, WriteFault, TurnsSpent, OutOfMemory, NoThread}
 use Rattle.mr_sessions.specs.Reading.{NeedsMore, HoldsReply, BringsPiece, Brings, HasBrought, HasNoReply, read_length}
-use Rattle.mr_sessions.specs.steps.Reading.{IsOpen, ReplyIs, NextIs, PieceIs, fault_of}
+use Rattle.mr_sessions.specs.steps.Reading.{IsOpen, ReplyIs, NextIs, ReplyPieceIs, fault_of}
 
 -- one more read is offered as much
 still_offered : (least room : ℕ) (old new : Option ℕ) → least ≤ room → AreOffered least old → new ≡ least_with old room → AreOffered least new
@@ -85,7 +85,7 @@ module _ (turns : ℕ) (kept : List ℕ) (old : SourceView) where
     allowed_more : so.brought.count + 1 ≤ turns
     allowed_more = (let counted = so.counted in let before = so.brought.counted in omega arith)
 
-    reading_goes_on : (replies' : ReaderView) (new : SourceView) → PieceIs (kept ++ so.came) now (Ok tt) replies' new → Reading turns kept old left' replies' new
+    reading_goes_on : (replies' : ReaderView) (new : SourceView) → ReplyPieceIs (kept ++ so.came) now (Ok tt) replies' new → Reading turns kept old left' replies' new
     reading_goes_on replies' new piece = record {
       came = so.came ++ piece.0;
       brought = brought_more so.came piece.0 now new so.brought needs allowed_more piece.1;
@@ -96,7 +96,7 @@ module _ (turns : ℕ) (kept : List ℕ) (old : SourceView) where
     allowed_last : (new : SourceView) → new.reads ≡ now.reads + 1 → new.reads ≤ old.reads + turns
     allowed_last new once = (let counted = so.counted in omega arith)
 
-    reading_stops : (fault : WorkerError) (replies' : ReaderView) (new : SourceView) → PieceIs (kept ++ so.came) now (Err fault) replies' new
+    reading_stops : (fault : WorkerError) (replies' : ReaderView) (new : SourceView) → ReplyPieceIs (kept ++ so.came) now (Err fault) replies' new
         → HasNoReply turns kept old fault new
     reading_stops ReadFault replies' new last = record {
       came = so.came;
@@ -155,11 +155,11 @@ module _ (turns : ℕ) (kept : List ℕ) (old : SourceView) where
     -- the piece that a read brings stands behind what was kept and came before
     module _ (left' : ℕ) (is : left ≡ left' + 1) (replies' : ReaderView) (next : NextIs replies.kept (Ok None) replies') (replies'' : ReaderView)
         (new : SourceView) where
-      behind : (result : Result (Unit {0}) WorkerError) → PieceIs replies'.kept now result replies'' new → PieceIs (kept ++ so.came) now result replies'' new
-      behind result piece = subst (λ (r : List ℕ). PieceIs r now result replies'' new) (next.1.stands ∙ so.becomes.stands) piece
+      behind : (result : Result (Unit {0}) WorkerError) → ReplyPieceIs replies'.kept now result replies'' new → ReplyPieceIs (kept ++ so.came) now result replies'' new
+      behind result piece = subst (λ (r : List ℕ). ReplyPieceIs r now result replies'' new) (next.1.stands ∙ so.becomes.stands) piece
 
-      pub fed : PieceIs replies'.kept now (Ok tt) replies'' new → Reading turns kept old left' replies'' new
+      pub fed : ReplyPieceIs replies'.kept now (Ok tt) replies'' new → Reading turns kept old left' replies'' new
       fed piece = reading_goes_on left left' replies now so (needs_more replies' next) is replies'' new (behind (Ok tt) piece)
 
-      pub unfed : (fault : WorkerError) → PieceIs replies'.kept now (Err fault) replies'' new → HasNoReply turns kept old fault new
+      pub unfed : (fault : WorkerError) → ReplyPieceIs replies'.kept now (Err fault) replies'' new → HasNoReply turns kept old fault new
       unfed fault piece = reading_stops left left' replies now so (needs_more replies' next) is fault replies'' new (behind (Err fault) piece)

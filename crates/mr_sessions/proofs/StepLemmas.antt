@@ -18,12 +18,12 @@ use Rattle.mr_node.proofs.ServiceLemmas.{step_of_request, step_of_refusal}
 use Rattle.mr_node.proofs.SessionLemmas.{UnderWay, stepped, step_fails, reader_fails, reader_well}
 use Rattle.mr_desks.specs.declared.error.WorkerError.{WorkerError}
 use Rattle.mr_desks.specs.declared.error.WorkerError.TheVariants.{LinkBroken, Mismatch, BookFull, BookDiffers, ReadFault, WriteFault, TurnsSpent, OutOfMemory, NoThread}
-use Rattle.mr_sessions.specs.ClientSession.{Fails, ClientSessionIs, error_of}
+use Rattle.mr_sessions.specs.ClientSession.{Fails, ClientSessionIs, worker_error_of}
 use Rattle.mr_sessions.specs.steps.ClientStep.{AnsweredSo, AskedSo, ClientRefusalIs, ClientRequestIs, ClientStepIs}
 
 -- a fault in the answer to a refusal
 pub refused_told : (refusal : TextError) (f : SessionFault) (old new : SinkView) → AnswersRefusal refusal old (Err f) new
-    → ClientRefusalIs refusal old (Err (error_of f)) new
+    → ClientRefusalIs refusal old (Err (worker_error_of f)) new
 refused_told refusal fault.WriteFault old new is = is
 refused_told refusal fault.OutOfMemory old new is = is
 refused_told refusal fault.ReadFault old new (inl is) = (let a = is.1 in cc)
@@ -136,21 +136,21 @@ module _ {C P : Type 0} (Does : Outcomes C P) (InVain : Fails C P) where
     not_spent NoThread is same = cc
 
   pub client_told : (reader reader' : SourceView) (old new : Station C P) (f : SessionFault) → SessionIs Does reader reader' old new (Err f)
-      → ClientSessionIs Does InVain reader reader' old new (Err (error_of f))
+      → ClientSessionIs Does InVain reader reader' old new (Err (worker_error_of f))
   client_told reader reader' old new fault.ReadFault is = is
   client_told reader reader' old new fault.WriteFault is = is
   client_told reader reader' old new fault.TurnsSpent is = is
   client_told reader reader' old new fault.OutOfMemory is = is
 
-is_read_fault : (f : SessionFault) → error_of f ≡ ReadFault → f ≡ fault.ReadFault
+is_read_fault : (f : SessionFault) → worker_error_of f ≡ ReadFault → f ≡ fault.ReadFault
 is_read_fault fault.ReadFault is = refl
 is_read_fault fault.WriteFault is = cc
 is_read_fault fault.TurnsSpent is = cc
 is_read_fault fault.OutOfMemory is = cc
 
 module _ (room : ℕ) (rest : List ℕ) (requests : ReaderView) (old new : SourceView) (f : SessionFault) (piece : PieceIs room rest requests old (Err f) new) where
-  pub client_reader_fails : error_of f ≡ ReadFault → new.failures ≡ old.failures + 1
+  pub client_reader_fails : worker_error_of f ≡ ReadFault → new.failures ≡ old.failures + 1
   client_reader_fails is = reader_fails room rest requests old new f piece (is_read_fault f is)
 
-  pub client_reader_well : error_of f ≢ ReadFault → new.failures ≡ old.failures
-  client_reader_well other = reader_well room rest requests old new f piece (λ e. other (ap error_of e))
+  pub client_reader_well : worker_error_of f ≢ ReadFault → new.failures ≡ old.failures
+  client_reader_well other = reader_well room rest requests old new f piece (λ e. other (ap worker_error_of e))

@@ -4,15 +4,15 @@ use Rattle.std.proofs.lemmas.List.Sums.{sum_by_push}
 use Rattle.mr_text.specs.Source.{SourceView}
 use Rattle.mr_node.specs.Output.{Exchange}
 use Rattle.mr_node.specs.Output.Exchange.{Asked, Unknown}
-use Rattle.mr_node.specs.Session.{Station, Performs, DoesExchange, Serves}
+use Rattle.mr_node.specs.Session.{Station, Performs, DoesExchange, SessionServes}
 use Rattle.mr_node.specs.declared.ended.Ended.{Ended}
 use Rattle.mr_proxy.specs.Answer.{AnswerView}
-use Rattle.mr_desks.specs.Issuing.{Reads}
+use Rattle.mr_desks.specs.Issuing.{ClockRelation}
 use Rattle.mr_desks.specs.Recorded.{Gave}
 use Rattle.mr_desks.specs.declared.error.WorkerError.{WorkerError}
 use Rattle.mr_desks.specs.declared.error.WorkerError.TheVariants.{LinkBroken, Mismatch, BookFull, BookDiffers, ReadFault, WriteFault, TurnsSpent, OutOfMemory, NoThread}
-use Rattle.mr_sessions.specs.Account.{Account, IsUnanswered, AreCarried, kept_with}
-use Rattle.mr_sessions.specs.Asking.{Asks, AsksInVain}
+use Rattle.mr_sessions.specs.Account.{Account, IsLeftUnanswered, AreCarried, kept_with}
+use Rattle.mr_sessions.specs.Asking.{AsksDesk, AsksInVain}
 use Rattle.mr_sessions.specs.ClientSession.{ClientSessionIs, unanswered_count, given_up_count, is_given_up}
 
 -- Each request has its answer, where answers are kept, but for so many; and no more were given up than legs were lost or came
@@ -84,7 +84,7 @@ adds_one false losses brought old new answer sum counted kept carried =
     }
 
 -- one more request without an answer
-pub adds_none : (recorded : Bool) (losses brought : ℕ) (old new : Account) → AddsUp recorded losses brought 0 old → IsUnanswered old new
+pub adds_none : (recorded : Bool) (losses brought : ℕ) (old new : Account) → AddsUp recorded losses brought 0 old → IsLeftUnanswered old new
     → AddsUp recorded losses brought 1 new
 adds_none recorded losses brought old new sum is =
     let same = ap given_up_count is.kept in
@@ -99,8 +99,8 @@ adds_none recorded losses brought old new sum is =
       given_up = omega (arith, same, before, lost, came);
     }
 
-module _ {K : Type 0} (reads : Reads K) (failures : K → ℕ) (gave : Gave) (recorded : Bool) (losses brought : ℕ) where
-  adds_exchange : (old new : Station K Account) (exchange : Exchange) → DoesExchange (Asks reads failures gave recorded) old exchange new
+module _ {K : Type 0} (reads : ClockRelation K) (failures : K → ℕ) (gave : Gave) (recorded : Bool) (losses brought : ℕ) where
+  adds_exchange : (old new : Station K Account) (exchange : Exchange) → DoesExchange (AsksDesk reads failures gave recorded) old exchange new
       → AddsUp recorded losses brought 0 old.node → AddsUp recorded losses brought 0 new.node
   adds_exchange old new (Asked request outcome) (inl is) sum =
       let one = is.1.1 in
@@ -108,20 +108,20 @@ module _ {K : Type 0} (reads : Reads K) (failures : K → ℕ) (gave : Gave) (re
   adds_exchange old new (Asked request outcome) (inr is) sum = subst (AddsUp recorded losses brought 0) (sym is.3) sum
   adds_exchange old new Unknown is sum = subst (AddsUp recorded losses brought 0) (sym is.1) sum
 
-  adds_all : (old new : Station K Account) (exchanges : List Exchange) → Performs (Asks reads failures gave recorded) old exchanges new
+  adds_all : (old new : Station K Account) (exchanges : List Exchange) → Performs (AsksDesk reads failures gave recorded) old exchanges new
       → AddsUp recorded losses brought 0 old.node → AddsUp recorded losses brought 0 new.node
   adds_all old new exchanges Performs.begins sum = sum
   adds_all old new exchanges (Performs.performs {between} exchange so does answers) sum =
       adds_exchange between new exchange does (adds_all old between _ so sum)
 
   serves_sum : (reader reader' : SourceView) (old new : Station K Account) (rest : List ℕ)
-      → Serves (Asks reads failures gave recorded) reader reader' old new rest
+      → SessionServes (AsksDesk reads failures gave recorded) reader reader' old new rest
       → AddsUp recorded losses brought 0 old.node → AddsUp recorded losses brought 0 new.node
   serves_sum reader reader' old new rest so sum = adds_all old new so.exchanges so.performs sum
 
   -- what the whole session adds up to
   pub session_sum : (reader reader' : SourceView) (old new : Station K Account) (result : Result Ended WorkerError)
-      → ClientSessionIs (Asks reads failures gave recorded) (AsksInVain reads failures) reader reader' old new result
+      → ClientSessionIs (AsksDesk reads failures gave recorded) (AsksInVain reads failures) reader reader' old new result
       → AddsUp recorded losses brought 0 old.node → AddsUp recorded losses brought (unanswered_count result) new.node
   session_sum reader reader' old new (Ok how) is sum =
       subst (AddsUp recorded losses brought 0) (sym is.6) (serves_sum reader reader' old is.2 is.0 is.3 sum)

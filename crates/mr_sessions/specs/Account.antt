@@ -36,7 +36,7 @@ pub record IsAnswered (gave : Gave) (recorded : Bool) (request : Request) (answe
   pub carried : AreCarried old.losses old.brought answer.given_up new.losses new.brought
 
 -- one request was issued, and what came of it isn't its answer: nothing is kept of it
-pub record IsUnanswered (old new : Account) : Type 0 where
+pub record IsLeftUnanswered (old new : Account) : Type 0 where
   pub counted : new.share ≡ old.share + 1
   pub kept : new.answers ≡ old.answers
   pub lost : old.losses ≤ new.losses

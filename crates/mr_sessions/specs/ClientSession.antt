@@ -5,7 +5,7 @@ use Rattle.mr_text.specs.Source.{SourceView}
 use Rattle.mr_text.specs.declared.request.Request.{Request}
 use Rattle.mr_node.specs.Outcome.{Outcomes}
 use Rattle.mr_node.specs.Output.{IsServed}
-use Rattle.mr_node.specs.Session.{Station, SessionIs, Serves}
+use Rattle.mr_node.specs.Session.{Station, SessionIs, SessionServes}
 use Rattle.mr_node.specs.declared.ended.Ended.{Ended}
 use Rattle.mr_node.specs.declared.session.SessionFault.{SessionFault}
 use Rattle.mr_node.specs.declared.session.SessionFault.TheVariants as fault
@@ -18,11 +18,11 @@ abbrev pub Fails : Type 0 → Type 0 → Type 1
 Fails C P = C → P → C → P → Type 0
 
 -- a fault of a session, as a client's session tells it
-abbrev pub error_of : SessionFault → WorkerError
-error_of fault.ReadFault = ReadFault
-error_of fault.WriteFault = WriteFault
-error_of fault.TurnsSpent = TurnsSpent
-error_of fault.OutOfMemory = OutOfMemory
+abbrev pub worker_error_of : SessionFault → WorkerError
+worker_error_of fault.ReadFault = ReadFault
+worker_error_of fault.WriteFault = WriteFault
+worker_error_of fault.TurnsSpent = TurnsSpent
+worker_error_of fault.OutOfMemory = OutOfMemory
 
 -- how many requests that were issued have no answer
 abbrev pub unanswered_count : Result Ended WorkerError → ℕ
@@ -58,7 +58,7 @@ module _ {C P : Type 0} (Does : Outcomes C P) (InVain : Fails C P) (reader reade
   ClientSessionIs (Err WriteFault) = SessionIs Does reader reader' old new (Err fault.WriteFault)
   ClientSessionIs (Err TurnsSpent) = SessionIs Does reader reader' old new (Err fault.TurnsSpent)
   ClientSessionIs (Err OutOfMemory) = SessionIs Does reader reader' old new (Err fault.OutOfMemory)
-  ClientSessionIs (Err BookDiffers) = (rest : List ℕ) × (between : Station C P) × Serves Does reader reader' old between rest × IsInVain InVain rest between new
+  ClientSessionIs (Err BookDiffers) = (rest : List ℕ) × (between : Station C P) × SessionServes Does reader reader' old between rest × IsInVain InVain rest between new
   ClientSessionIs (Err LinkBroken) = ⊥
   ClientSessionIs (Err Mismatch) = ⊥
   ClientSessionIs (Err BookFull) = ⊥

@@ -44,6 +44,6 @@ CarryIs command old (Ok leg) new = HasCarried command old leg new
 CarryIs command old (Err fault) new = Breaks command old fault new ⊎ IsBroken old fault new
 
 -- the same, where it isn't told which fault there was
-abbrev pub Carries : LinkView → LegSheet → Option LegReply → LinkView → Type 0
-Carries old sheet (Some leg) new = CarryIs sheet.command old (Ok leg) new
-Carries old sheet None new = (fault : WorkerError) × CarryIs sheet.command old (Err fault) new
+abbrev pub LinkCarries : LinkView → LegSheet → Option LegReply → LinkView → Type 0
+LinkCarries old sheet (Some leg) new = CarryIs sheet.command old (Ok leg) new
+LinkCarries old sheet None new = (fault : WorkerError) × CarryIs sheet.command old (Err fault) new

@@ -1,6 +1,6 @@
 //! What a node is asked for a leg, and what its reply says of the leg.
 ghost use Rattle.std.specs.Prelude.{◌≡◌, MatchResult};
-ghost use Rattle.mr_sessions.specs.Answering.{IsAnswer, IsFound};
+ghost use Rattle.mr_sessions.specs.Answering.{IsAnswer, FindsItemOf};
 ghost use Rattle.mr_sessions.specs.Requesting.{text_for};
 ghost use Rattle.mr_text.specs.Gathering.{TakesFewCalls};
 ghost use Rattle.mr_text.specs.Sink.{Writes};
@@ -53,8 +53,8 @@ pub(crate) fn answer_to(command: &NodeCommand, reply: Reply) -> Result<LegReply,
 /// What the items of a reply say of a get of one key: a miss where there are none, a hit where there is one of that key.
 fn found(key: &Key, items: ItemList) -> Result<LegReply, WorkerError>
     ensures { MatchResult result
-        (λ leg. IsFound key.now items leg)
-        (λ fault. (fault ≡ Mismatch) × ((leg : LegReply) → ¬ IsFound key.now items leg)) }
+        (λ leg. FindsItemOf key.now items leg)
+        (λ fault. (fault ≡ Mismatch) × ((leg : LegReply) → ¬ FindsItemOf key.now items leg)) }
 {
     let mut items = items.into_vec();
     let Some(item) = items.pop() else {

@@ -1,8 +1,8 @@
 //! A carrier that reaches its node by a stream.
 ghost use Rattle.std.specs.Prelude.{◌≡◌, ◌+◌, [], false, Some, None, IfOk, MatchResult};
 ghost use Rattle.mr_sessions.specs.Exchange.{wire};
-ghost use Rattle.mr_sessions.specs.Link.{CarryIs, Carries};
-ghost use Rattle.mr_desks.specs.Local.{IsOfItsKind};
+ghost use Rattle.mr_sessions.specs.Link.{CarryIs, LinkCarries};
+ghost use Rattle.mr_desks.specs.Local.{IsReplyOfKind};
 
 use crate::exchange::exchange;
 use mr_desks::{Carrier, WorkerError};
@@ -95,11 +95,11 @@ impl<S: Source, W: Sink> NodeLink<S, W> {
 }
 
 impl<S: Source, W: Sink> Carrier for NodeLink<S, W> {
-    ghost gave = { IsOfItsKind };
+    ghost gave = { IsReplyOfKind };
 
     ghost faults = { λ l. l.faults };
 
-    ghost carries = { Carries };
+    ghost carries = { LinkCarries };
 
     ghost loses = { λ _. tt };
 
@@ -110,10 +110,10 @@ impl<S: Source, W: Sink> Carrier for NodeLink<S, W> {
     /// command. TurnsSpent where one more read than `turns` would be needed. OutOfMemory where memory for the reply was
     /// refused.
     fn carry(&mut self, sheet: &LegSheet) -> Result<LegReply, WorkerError>
-        ensures gave { IfOk result (λ reply. IsOfItsKind sheet.now reply) }
+        ensures gave { IfOk result (λ reply. IsReplyOfKind sheet.now reply) }
         ensures carries { MatchResult result
-            (λ reply. Carries self.old sheet.now (Some reply) self.new)
-            (λ _. Carries self.old sheet.now None self.new) }
+            (λ reply. LinkCarries self.old sheet.now (Some reply) self.new)
+            (λ _. LinkCarries self.old sheet.now None self.new) }
         ensures faults { MatchResult result
             (λ _. self.new.faults ≡ self.old.faults)
             (λ _. self.new.faults ≡ self.old.faults + 1) }

@@ -1,7 +1,7 @@
 //! How the next reply of a node is read.
 ghost use Rattle.std.specs.Prelude.{◌≡◌, length};
 ghost use Rattle.mr_sessions.specs.Reading.{read_length};
-ghost use Rattle.mr_sessions.specs.steps.Reading.{IsOpen, NextIs, PieceIs, ReplyIs, fault_of};
+ghost use Rattle.mr_sessions.specs.steps.Reading.{IsOpen, NextIs, ReplyPieceIs, ReplyIs, fault_of};
 
 use mr_desks::WorkerError;
 use mr_node::READ_LENGTH;
@@ -64,7 +64,7 @@ fn read_piece<S: Source>(
 ) -> Result<(), WorkerError>
     requires room { length buffer.old ≡ read_length }
     requires open { IsOpen replies.old }
-    ensures { PieceIs replies.old.kept (S.told reader.old) result replies.new (S.told reader.new) }
+    ensures { ReplyPieceIs replies.old.kept (S.told reader.old) result replies.new (S.told reader.new) }
 {
     let Ok(count) = reader.read(buffer) else {
         return Err(WorkerError::ReadFault);

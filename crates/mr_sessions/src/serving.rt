@@ -6,10 +6,10 @@ ghost use Rattle.mr_text.specs.declared.request.Request.{Request};
 ghost use Rattle.mr_node.specs.Output.{is_silent, IsServed};
 ghost use Rattle.mr_node.specs.Session.{station, read_length};
 ghost use Rattle.mr_proxy.specs.Answer.{reply_of};
-ghost use Rattle.mr_desks.specs.DeskError.{cause_of};
+ghost use Rattle.mr_desks.specs.DeskError.{cause_of_refusal};
 ghost use Rattle.mr_desks.specs.Recorded.{AnswerStands};
 ghost use Rattle.mr_sessions.specs.Account.{account, AreCarried};
-ghost use Rattle.mr_sessions.specs.Asking.{Asks, AsksInVain};
+ghost use Rattle.mr_sessions.specs.Asking.{AsksDesk, AsksInVain};
 ghost use Rattle.mr_sessions.specs.ClientSession.{ClientSessionIs, unanswered_count, given_up_count};
 ghost use Rattle.mr_sessions.specs.steps.ClientStep.{AskedSo, AnsweredSo, ClientRefusalIs, ClientRequestIs, ClientStepIs};
 
@@ -88,7 +88,7 @@ fn write_refusal<W: Sink>(
     refusal: DeskError,
     writer: &mut W,
 ) -> Result<(), WorkerError>
-    ensures { AnsweredSo request.now (Reply.ServerError (cause_of refusal)) (W.told writer.old) (W.told writer.new) result }
+    ensures { AnsweredSo request.now (Reply.ServerError (cause_of_refusal refusal)) (W.told writer.old) (W.told writer.new) result }
 {
     let answer = if is_silent(request) {
         None
@@ -115,7 +115,7 @@ fn ask<C: Carrier, D: Desk<C>, K: Clock, W: Sink, L: Carriers<C>, R: Wait>(
 ) -> Result<(), WorkerError>
     requires asks { request.now ≢ Request.Quit }
     requires room { D.recorded ≡ true → length till.old.answers.items + 1 ≤ vec_capacity till.old.answers }
-    ensures { AskedSo (Asks K.reads K.failures C.gave D.recorded) (AsksInVain K.reads K.failures)
+    ensures { AskedSo (AsksDesk K.reads K.failures C.gave D.recorded) (AsksInVain K.reads K.failures)
         (station clock.old (account till.old.share till.old.answers.items (L.losses carriers.old) (L.brought carriers.old)) (W.told writer.old))
         (station clock.new (account till.new.share till.new.answers.items (L.losses carriers.new) (L.brought carriers.new)) (W.told writer.new))
         request.now result }
@@ -146,7 +146,7 @@ fn serve_request<C: Carrier, D: Desk<C>, K: Clock, W: Sink, L: Carriers<C>, R: W
     till: &mut Till,
     request: &Request,
 ) -> Result<Step, WorkerError>
-    ensures { ClientRequestIs (Asks K.reads K.failures C.gave D.recorded) (AsksInVain K.reads K.failures)
+    ensures { ClientRequestIs (AsksDesk K.reads K.failures C.gave D.recorded) (AsksInVain K.reads K.failures)
         (station clock.old (account till.old.share till.old.answers.items (L.losses carriers.old) (L.brought carriers.old)) (W.told writer.old))
         (station clock.new (account till.new.share till.new.answers.items (L.losses carriers.new) (L.brought carriers.new)) (W.told writer.new))
         request.now result }
@@ -184,7 +184,7 @@ fn serve_next<C: Carrier, D: Desk<C>, K: Clock, W: Sink, L: Carriers<C>, R: Wait
 ) -> Result<Step, WorkerError>
     requires { requests.old.closed ≡ false }
     ensures { (rest : List ℕ) → StandsFor requests.old rest
-        → ClientStepIs (Asks K.reads K.failures C.gave D.recorded) (AsksInVain K.reads K.failures)
+        → ClientStepIs (AsksDesk K.reads K.failures C.gave D.recorded) (AsksInVain K.reads K.failures)
         (station clock.old (account till.old.share till.old.answers.items (L.losses carriers.old) (L.brought carriers.old)) (W.told writer.old))
         (station clock.new (account till.new.share till.new.answers.items (L.losses carriers.new) (L.brought carriers.new)) (W.told writer.new))
         requests.old.ended rest requests.new result }
@@ -208,7 +208,7 @@ fn serve_all<C: Carrier, D: Desk<C>, K: Clock, S: Source, W: Sink, L: Carriers<C
     till: &mut Till,
     turns: u64,
 ) -> Result<Ended, WorkerError>
-    ensures session { ClientSessionIs (Asks K.reads K.failures C.gave D.recorded) (AsksInVain K.reads K.failures) (S.told reader.old) (S.told reader.new)
+    ensures session { ClientSessionIs (AsksDesk K.reads K.failures C.gave D.recorded) (AsksInVain K.reads K.failures) (S.told reader.old) (S.told reader.new)
         (station clock.old (account till.old.share till.old.answers.items (L.losses carriers.old) (L.brought carriers.old)) (W.told writer.old))
         (station clock.new (account till.new.share till.new.answers.items (L.losses carriers.new) (L.brought carriers.new)) (W.told writer.new)) result }
     ensures reads { (S.told reader.new).reads ≤ (S.told reader.old).reads + turns }
@@ -265,7 +265,7 @@ pub fn serve_client<C: Carrier, D: Desk<C>, K: Clock, S: Source, W: Sink, L: Car
     carriers: &mut L,
     turns: u64,
 ) -> Served
-    ensures session { ClientSessionIs (Asks K.reads K.failures C.gave D.recorded) (AsksInVain K.reads K.failures) (S.told reader.old) (S.told reader.new)
+    ensures session { ClientSessionIs (AsksDesk K.reads K.failures C.gave D.recorded) (AsksInVain K.reads K.failures) (S.told reader.old) (S.told reader.new)
         (station clock.old (account 0 [] (L.losses carriers.old) (L.brought carriers.old)) (W.told writer.old))
         (station clock.new (account result.share result.answers.items (L.losses carriers.new) (L.brought carriers.new)) (W.told writer.new)) result.ended }
 

@@ -4,7 +4,7 @@ use Rattle.std.specs.Str.{encode_utf8_all}
 use Rattle.serde_json.specs.Data.{Data, boolean, number, string, array, object, unsigned, Items, no_items, item, no_members, member}
 use Rattle.serde_json.specs.Find.{of_integer}
 use Rattle.serde_json.specs.View.{items_of}
-use Rattle.mr_text.specs.CauseText.{text_of}
+use Rattle.mr_text.specs.CauseText.{text_of_cause}
 use Rattle.mr_text.specs.declared.item.Item.{Item}
 use Rattle.mr_text.specs.declared.reply.Reply.{Reply}
 use Rattle.mr_text.specs.declared.reply.Reply.TheVariants as reply
@@ -62,8 +62,8 @@ reply_json (reply.Items items) = object (member (codes "items") (array (items_js
 reply_json reply.Stored = string (codes "stored")
 reply_json reply.Deleted = string (codes "deleted")
 reply_json reply.NotFound = string (codes "not_found")
-reply_json (reply.ServerError cause) = object (member (codes "server_error") (bytes_json (text_of cause)) no_members)
-reply_json (reply.ClientError cause) = object (member (codes "client_error") (bytes_json (text_of cause)) no_members)
+reply_json (reply.ServerError cause) = object (member (codes "server_error") (bytes_json (text_of_cause cause)) no_members)
+reply_json (reply.ClientError cause) = object (member (codes "client_error") (bytes_json (text_of_cause cause)) no_members)
 reply_json reply.Error = string (codes "error")
 
 abbrev pub author_json : Author → Data

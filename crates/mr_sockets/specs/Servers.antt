@@ -29,17 +29,17 @@ clients_of (NodeAt listen node clients turns) = clients
 clients_of (ProxyAt listen proxy routing clients turns) = clients
 
 -- what comes of a service at an address: it is none, or no socket listens there, or so many of the clients ended without a fault
-abbrev pub Serves : List ℕ → ℕ → Result ℕ OpenFault → Type 0
-Serves listen clients (Ok served) = HasAddress listen × (served ≤ clients)
-Serves listen clients (Err fault) = ⊤
+abbrev pub ServiceGives : List ℕ → ℕ → Result ℕ OpenFault → Type 0
+ServiceGives listen clients (Ok served) = HasAddress listen × (served ≤ clients)
+ServiceGives listen clients (Err fault) = ⊤
 
 -- a count of failures after a service
-abbrev pub failures_after : ℕ → Result ℕ OpenFault → ℕ
-failures_after failures (Ok served) = failures
-failures_after failures (Err fault) = failures + 1
+abbrev pub failures_of_service : ℕ → Result ℕ OpenFault → ℕ
+failures_of_service failures (Ok served) = failures
+failures_of_service failures (Err fault) = failures + 1
 
 -- one service was asked for, once, and this came of it
 pub record IsOneService (asked : Asked) (old : ServersView) (result : Result ℕ OpenFault) (new : ServersView) : Type 0 where
-  pub serves : Serves (listen_of asked) (clients_of asked) result
+  pub serves : ServiceGives (listen_of asked) (clients_of asked) result
   pub asked_once : new.asked ≡ old.asked ++ asked ∷ []
-  pub counted : new.failures ≡ failures_after old.failures result
+  pub counted : new.failures ≡ failures_of_service old.failures result

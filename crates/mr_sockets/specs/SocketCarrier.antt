@@ -27,8 +27,8 @@ abbrev pub fresh_carrier : ℕ → List ℕ → SocketView
 fresh_carrier turns name = record { name = name; turns = turns; link = None; faults = 0 }
 
 -- a reader of which nothing was read, and a writer to which nothing was written
-abbrev pub unread : Option (List ℕ) → SourceView
-unread left = record { taken = []; left = left; reads = 0; failures = 0; least_room = None }
+abbrev pub unread_source : Option (List ℕ) → SourceView
+unread_source left = record { taken = []; left = left; reads = 0; failures = 0; least_room = None }
 
 abbrev pub unwritten : Option (List ℕ) → SinkView
 unwritten contents = record { written = []; handed = []; calls = 0; failures = 0; last_failed = false; contents = contents }
@@ -37,7 +37,7 @@ unwritten contents = record { written = []; handed = []; calls = 0; failures = 0
 pub record IsNewLink (turns : ℕ) (link : LinkView) : Type 0 where
   pub left : Option (List ℕ)
   pub contents : Option (List ℕ)
-  pub new : link ≡ record { wire = wire (unread left) (unwritten contents) []; turns = turns; broken = false; faults = 0 }
+  pub new : link ≡ record { wire = wire (unread_source left) (unwritten contents) []; turns = turns; broken = false; faults = 0 }
 
 -- A link carried the leg, and is kept; or it didn't, and is given away.
 abbrev pub CarriesOver : NodeCommand → LinkView → Result LegReply WorkerError → Option LinkView → Type 0
@@ -64,6 +64,6 @@ pub record CarriesSo (command : NodeCommand) (old : SocketView) (result : Result
   pub counted : new.faults ≡ faults_after old.faults result
 
 -- the same, where it isn't told which fault there was
-abbrev pub Carries : SocketView → LegSheet → Option LegReply → SocketView → Type 0
-Carries old sheet (Some leg) new = CarriesSo sheet.command old (Ok leg) new
-Carries old sheet None new = (fault : WorkerError) × CarriesSo sheet.command old (Err fault) new
+abbrev pub SocketCarries : SocketView → LegSheet → Option LegReply → SocketView → Type 0
+SocketCarries old sheet (Some leg) new = CarriesSo sheet.command old (Ok leg) new
+SocketCarries old sheet None new = (fault : WorkerError) × CarriesSo sheet.command old (Err fault) new

@@ -1,7 +1,7 @@
 //! The services of this machine.
 ghost use Rattle.std.specs.Prelude.{◌≡◌};
 ghost use Rattle.mr_proxy.specs.ProxyView.{IsFresh};
-ghost use Rattle.mr_sockets.specs.Servers.{IsOneService, NodeAt, ProxyAt, Serves};
+ghost use Rattle.mr_sockets.specs.Servers.{IsOneService, NodeAt, ProxyAt, ServiceGives};
 
 use crate::asks::GhostAsks;
 use crate::fault::OpenFault;
@@ -68,7 +68,7 @@ fn node_at<
     clients: u64,
     turns: u64,
 ) -> Result<u64, OpenFault>
-    ensures { Serves listen.now clients result }
+    ensures { ServiceGives listen.now clients result }
 {
     let Some(listener) = listener_at(rt, listen) else {
         return Err(OpenFault::Net);
@@ -100,7 +100,7 @@ fn proxy_at<
     turns: u64,
 ) -> Result<u64, OpenFault>
     requires { IsFresh core }
-    ensures { Serves listen.now clients result }
+    ensures { ServiceGives listen.now clients result }
 {
     let Some(listener) = listener_at(rt, listen) else {
         return Err(OpenFault::Net);

@@ -1,8 +1,8 @@
 //! A carrier that reaches its node by a socket.
 ghost use Rattle.std.specs.Prelude.{◌≡◌, ◌+◌, false, Some, None, IfSome, IfOk, MatchResult, option_map};
-ghost use Rattle.mr_desks.specs.Local.{IsOfItsKind};
+ghost use Rattle.mr_desks.specs.Local.{IsReplyOfKind};
 ghost use Rattle.mr_sockets.specs.Address.{HasAddress};
-ghost use Rattle.mr_sockets.specs.SocketCarrier.{fresh_carrier, IsNewLink, CarriesOver, CarriesFrom, CarriesSo, Carries};
+ghost use Rattle.mr_sockets.specs.SocketCarrier.{fresh_carrier, IsNewLink, CarriesOver, CarriesFrom, CarriesSo, SocketCarries};
 
 use crate::address::{address_of, host_to_reach};
 use mr_desks::{Carrier, WorkerError};
@@ -102,7 +102,7 @@ fn carry_over<S: Source + Drop, W: Sink + Drop>(
 ) -> (Result<LegReply, WorkerError>, Option<NodeLink<S, W>>)
     requires { link.broken ≡ false }
     ensures carried { CarriesOver sheet.now.command link result.0 (option_map (λ link. link) result.1) }
-    ensures gave { IfOk result.0 (λ reply. IsOfItsKind sheet.now reply) }
+    ensures gave { IfOk result.0 (λ reply. IsReplyOfKind sheet.now reply) }
     ensures whole { IfSome result.1 (λ link. link.broken ≡ false) }
 {
     match link.carry(sheet) {
@@ -123,7 +123,7 @@ fn carry_from<N: Net>(
 ) -> (Result<LegReply, WorkerError>, Option<Link<N::Stream>>)
     requires { IfSome link (λ link. link.broken ≡ false) }
     ensures carried { CarriesFrom sheet.now.command name.now turns (option_map (λ link. link) link) result.0 (option_map (λ link. link) result.1) }
-    ensures gave { IfOk result.0 (λ reply. IsOfItsKind sheet.now reply) }
+    ensures gave { IfOk result.0 (λ reply. IsReplyOfKind sheet.now reply) }
     ensures whole { IfSome result.1 (λ link. link.broken ≡ false) }
 {
     match link {
@@ -157,7 +157,7 @@ impl<N: Net + Copy> SocketCarrier<N> {
 
     /// Carries a leg, as `carry` does.
     fn carry_so(&mut self, sheet: &LegSheet) -> Result<LegReply, WorkerError>
-        ensures gave { IfOk result (λ reply. IsOfItsKind sheet.now reply) }
+        ensures gave { IfOk result (λ reply. IsReplyOfKind sheet.now reply) }
         ensures carried { CarriesSo sheet.now.command self.old result self.new }
     {
         let link = self.link.take();
@@ -171,11 +171,11 @@ impl<N: Net + Copy> SocketCarrier<N> {
 }
 
 impl<N: Net + Copy> Carrier for SocketCarrier<N> {
-    ghost gave = { IsOfItsKind };
+    ghost gave = { IsReplyOfKind };
 
     ghost faults = { λ c. c.faults };
 
-    ghost carries = { Carries };
+    ghost carries = { SocketCarries };
 
     ghost loses = { λ _. tt };
 
@@ -186,10 +186,10 @@ impl<N: Net + Copy> Carrier for SocketCarrier<N> {
     /// those of `NodeLink`.
     #[tactic(auto, using(crate::proofs::CarrierLemmas::carries_by, crate::proofs::CarrierLemmas::counted_by))]
     fn carry(&mut self, sheet: &LegSheet) -> Result<LegReply, WorkerError>
-        ensures gave { IfOk result (λ reply. IsOfItsKind sheet.now reply) }
+        ensures gave { IfOk result (λ reply. IsReplyOfKind sheet.now reply) }
         ensures carries { MatchResult result
-            (λ reply. Carries self.old sheet.now (Some reply) self.new)
-            (λ _. Carries self.old sheet.now None self.new) }
+            (λ reply. SocketCarries self.old sheet.now (Some reply) self.new)
+            (λ _. SocketCarries self.old sheet.now None self.new) }
         ensures faults { MatchResult result
             (λ _. self.new.faults ≡ self.old.faults)
             (λ _. self.new.faults ≡ self.old.faults + 1) }

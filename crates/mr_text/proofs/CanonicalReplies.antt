@@ -5,7 +5,7 @@ use Rattle.std.specs.Str.{bytes_eq}
 use Rattle.std.proofs.lemmas.List.Sums.{AllPass-from_list_all}
 use Rattle.std.proofs.lemmas.List.Elements.{Contains-append_cases}
 use Rattle.mr_text.specs.Canonical.{canonical_reply, value_line_text, item_text, line_end}
-use Rattle.mr_text.specs.CauseText.{text_of, cause_named}
+use Rattle.mr_text.specs.CauseText.{text_of_cause, cause_named}
 use Rattle.mr_text.specs.Line.{HasLineFeed}
 use Rattle.mr_text.specs.NamedText.{IsNamedText}
 use Rattle.mr_text.specs.Replies.{IsItemLine, SpellsItem, BeginsWithItems, IsErrorLine, cause_of, TellsCause, SpellsReply}
@@ -100,7 +100,7 @@ no_cause text h =
     rw (a.0, b.0, c.0, d.0, e.0, f.0, g.0, i.0, j.0, k.0, l.0, m.0, n.0) refl
 
 -- a cause's text tells that cause
-cause_told : (cause : Cause) → IsValidCause cause → cause ≡ cause_of (text_of cause)
+cause_told : (cause : Cause) → IsValidCause cause → cause ≡ cause_of (text_of_cause cause)
 cause_told (Other text) h = rw (no_cause text h.not_named) refl
 cause_told LineTooLong h = refl
 cause_told BadKey h = refl
@@ -141,7 +141,7 @@ tested_text text e =
     none : list_all (nat_lt 31) text ≡ true → ¬ HasLineFeed text
     none all (k, within, at) = let high : 31 < get_or text k 10 = ltb-true _ _ (AllPass-from_list_all (nat_lt 31) text all k 10 within) in omega arith
 
-cause_text : (cause : Cause) → IsValidCause cause → IsText (text_of cause)
+cause_text : (cause : Cause) → IsValidCause cause → IsText (text_of_cause cause)
 cause_text (Other text) h = record { not_long = h.not_long; one_line = h.one_line }
 cause_text LineTooLong h = tested_text (codes "line too long") refl
 cause_text BadKey h = tested_text (codes "bad key") refl
@@ -182,11 +182,11 @@ error_line word text plain short h = record {
 
 client_error_spells : (cause : Cause) → IsValidCause cause → TellsCause (canonical_reply (ClientError cause)) (codes "CLIENT_ERROR") cause
 client_error_spells cause h =
-    (text_of cause, error_line (codes "CLIENT_ERROR") (text_of cause) (tested_text (codes "CLIENT_ERROR") refl) (omega arith) (cause_text cause h), cause_told cause h)
+    (text_of_cause cause, error_line (codes "CLIENT_ERROR") (text_of_cause cause) (tested_text (codes "CLIENT_ERROR") refl) (omega arith) (cause_text cause h), cause_told cause h)
 
 server_error_spells : (cause : Cause) → IsValidCause cause → TellsCause (canonical_reply (ServerError cause)) (codes "SERVER_ERROR") cause
 server_error_spells cause h =
-    (text_of cause, error_line (codes "SERVER_ERROR") (text_of cause) (tested_text (codes "SERVER_ERROR") refl) (omega arith) (cause_text cause h), cause_told cause h)
+    (text_of_cause cause, error_line (codes "SERVER_ERROR") (text_of_cause cause) (tested_text (codes "SERVER_ERROR") refl) (omega arith) (cause_text cause h), cause_told cause h)
 
 -- the canonical text of a reply is read as that reply
 pub canonical_spells_reply : (r : Reply) → IsValidReply r → SpellsReply (canonical_reply r) r

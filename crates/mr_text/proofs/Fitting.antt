@@ -3,7 +3,7 @@ use Rattle.std.proofs.Common.{◌≡◌, ℕ, suc, ◌+◌, ◌*◌, All, ◌<�
 use Rattle.std.proofs.lemmas.List.Sums.{sum_by-cons}
 use Rattle.mr_lines.specs.Words.{words_of, pieces_of, begun_with, is_empty}
 use Rattle.mr_text.specs.Key.{IsKey, FitLine, AreFew}
-use Rattle.mr_text.specs.steps.CommandView.{said_by, IsCounted, IsCommand, IsGoodLine}
+use Rattle.mr_text.specs.steps.CommandView.{command_line_of, IsCommandCounted, IsCommand, IsGoodLine}
 use Rattle.mr_text.specs.steps.Reading.{command_line}
 use Rattle.mr_text.specs.Limits.{MAX_LINE}
 use Rattle.mr_text.specs.declared.error.TextError.{TextError}
@@ -49,7 +49,7 @@ keys_fit line keys e short =
     omega arith
 
 -- what a line that was read says may be used
-pub good_command : (line : List ℕ) (command : Command) → command_line (words_of line) ≡ Ok (said_by command) → IsCounted command → length line ≤ MAX_LINE
+pub good_command : (line : List ℕ) (command : Command) → command_line (words_of line) ≡ Ok (command_line_of command) → IsCommandCounted command → length line ≤ MAX_LINE
     → IsGoodLine command
 good_command line (Get keys count) e counted short =
     let is = subst (LineSays (words_of line)) e (line_says (words_of line)) in

@@ -5,8 +5,8 @@ use Rattle.std.proofs.lemmas.List.{take-append-drop, take_more}
 use Rattle.mr_lines.specs.Lines.{without_carriage_return, byte_place}
 use Rattle.mr_text.specs.Text.{IsLine}
 use Rattle.mr_text.specs.Requests.{BeginsWithLongLine}
-use Rattle.mr_text.specs.steps.Reading.{Reading, line_reading, line_reading_at}
-use Rattle.mr_text.specs.steps.Reading.Reading.{Waits, Gives, Refused}
+use Rattle.mr_text.specs.steps.Reading.{StretchReading, line_reading, line_reading_at}
+use Rattle.mr_text.specs.steps.Reading.StretchReading.{Waits, Gives, Refused}
 use Rattle.mr_text.specs.Limits.{MAX_LINE}
 use Rattle.mr_text.specs.declared.error.TextError.TheVariants.{LineTooLong}
 use Rattle.mr_lines.proofs.ByteLemmas.{SplitsAt, place_splits, place_behind, place_none, none_place}
@@ -58,7 +58,7 @@ pub record IsRead (bytes line : List ℕ) (size : ℕ) : Type 0 where
   pub is_line : IsLine (take size bytes) line
   pub not_long : length line ≤ MAX_LINE
 
-abbrev pub LineIs : List ℕ → Reading (List ℕ) → Type 0
+abbrev pub LineIs : List ℕ → StretchReading (List ℕ) → Type 0
 LineIs bytes Waits = Unit {0}
 LineIs bytes (Gives line size) = IsRead bytes line size
 LineIs bytes (Refused refusal size) = (refusal ≡ LineTooLong) × BeginsWithLongLine bytes

@@ -3,8 +3,8 @@ use Rattle.std.proofs.Common.{◌≡◌, ℕ, Bool, true, false, List, ◌++◌,
 use Rattle.std.proofs.lemmas.List.{take-append-drop}
 use Rattle.mr_text.specs.Stream.{ReaderView, StandsFor, Becomes, BeginsWith, IsUnfinished, NextIs, skips_line}
 use Rattle.mr_text.specs.steps.Waiting.{WaitIs}
-use Rattle.mr_text.specs.steps.Reading.{Reading}
-use Rattle.mr_text.specs.steps.Reading.Reading.{Waits, Gives, Refused}
+use Rattle.mr_text.specs.steps.Reading.{StretchReading}
+use Rattle.mr_text.specs.steps.Reading.StretchReading.{Waits, Gives, Refused}
 use Rattle.mr_text.specs.declared.error.TextError.{TextError}
 use Rattle.mr_text.specs.declared.error.TextError.TheVariants.{LineTooLong, BadKey, BadNumber, WrongWords, DataTooLong, BadDataEnd, UnknownCommand, Truncated, Closed, OutOfMemory}
 
@@ -24,7 +24,7 @@ closes_on : (old new : ReaderView) (rest : List ℕ) → StandsFor old rest → 
 closes_on old new rest stands is = record { stands = ap (λ v. v.kept) is ∙ stands; is_ended = ap (λ v. v.ended) is; is_closed = ap (λ v. v.closed) is }
 
 module _ {Item : Type 0} (Spells : List ℕ → Item → Type 0) (Refuses : TextError → List ℕ → Type 0) (Skips : List ℕ → List ℕ → Type 0) (is_last : Item → Bool)
-    (reading : List ℕ → Reading Item)
+    (reading : List ℕ → StretchReading Item)
     (found : (bytes : List ℕ) (item : Item) (after : List ℕ) → Spells bytes item → reading (bytes ++ after) ≡ Gives item (length bytes))
     (refused : (refusal : TextError) (bytes : List ℕ) → Refuses refusal bytes → (size : ℕ) × (reading bytes ≡ Refused refusal size))
     (given : (bytes : List ℕ) (item : Item) (size : ℕ) → reading bytes ≡ Gives item size → Spells (take size bytes) item)

@@ -1,11 +1,11 @@
 -- Where the reading finds each spelling and each refusal, spellings and refusals exclude each other.
 use Rattle.std.proofs.Common.{◌≡◌, ℕ, List, [], ◌++◌, length, sym, ◌∙◌, ap, arith}
 use Rattle.std.proofs.lemmas.List.{append-nil, nil_from_length, length-append}
-use Rattle.mr_text.specs.steps.Reading.{Reading}
-use Rattle.mr_text.specs.steps.Reading.Reading.{Gives, Refused}
+use Rattle.mr_text.specs.steps.Reading.{StretchReading}
+use Rattle.mr_text.specs.steps.Reading.StretchReading.{Gives, Refused}
 use Rattle.mr_text.specs.declared.error.TextError.{TextError}
 
-module _ {Item : Type 0} (Spells : List ℕ → Item → Type 0) (Refuses : TextError → List ℕ → Type 0) (reading : List ℕ → Reading Item)
+module _ {Item : Type 0} (Spells : List ℕ → Item → Type 0) (Refuses : TextError → List ℕ → Type 0) (reading : List ℕ → StretchReading Item)
     (found : (bytes : List ℕ) (item : Item) (after : List ℕ) → Spells bytes item → reading (bytes ++ after) ≡ Gives item (length bytes))
     (refused : (refusal : TextError) (bytes : List ℕ) → Refuses refusal bytes → (size : ℕ) × (reading bytes ≡ Refused refusal size)) where
   pub prefix_free : (bytes after : List ℕ) (item other : Item) → Spells bytes item → Spells (bytes ++ after) other → (after ≡ []) × (item ≡ other)

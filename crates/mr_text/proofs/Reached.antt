@@ -1,8 +1,8 @@
 -- How far the items of a reply were read.
 use Rattle.std.proofs.Common.{◌≡◌, ℕ, zero, suc, ◌+◌, ◌-◌, ◌<◌, ◌≤◌, List, [], ◌∷◌, ◌++◌, length, drop, refl, sym, ◌∙◌, ap, arith, append_assoc, append-nil, length-append, length-drop}
 use Rattle.std.proofs.lemmas.List.{drop-drop}
-use Rattle.mr_text.specs.steps.Reading.{Reading}
-use Rattle.mr_text.specs.steps.Reading.Reading.{Waits, Gives, Refused}
+use Rattle.mr_text.specs.steps.Reading.{StretchReading}
+use Rattle.mr_text.specs.steps.Reading.StretchReading.{Waits, Gives, Refused}
 use Rattle.mr_text.specs.steps.ReplyReading.{step_reading, with_items, items_by, items_reading}
 use Rattle.mr_text.specs.steps.ReplyReading.Step.{ItemStep, EndStep}
 use Rattle.mr_text.specs.declared.item.Item.{Item}
@@ -16,12 +16,12 @@ pub record Reached (bytes : List ℕ) (front : List Item) (read room : ℕ) : Ty
   pub sum : length front + room ≡ MAX_ITEMS
   pub within : read ≤ length bytes
 
-with_none : (r : Reading (List Item)) → with_items [] 0 r ≡ r
+with_none : (r : StretchReading (List Item)) → with_items [] 0 r ≡ r
 with_none Waits = refl
 with_none (Gives items size) = ap (Gives items) (let e : 0 + size ≡ size = omega arith in e)
 with_none (Refused refusal size) = refl
 
-with_more : (front : List Item) (item : Item) (read size : ℕ) (r : Reading (List Item)) → with_items front read (with_items (item ∷ []) size r) ≡ with_items (front ++ item ∷ []) (read + size) r
+with_more : (front : List Item) (item : Item) (read size : ℕ) (r : StretchReading (List Item)) → with_items front read (with_items (item ∷ []) size r) ≡ with_items (front ++ item ∷ []) (read + size) r
 with_more front item read size Waits = refl
 with_more front item read size (Gives items more) =
     ap (λ n. Gives (front ++ (item ∷ items)) n) (let e : read + (size + more) ≡ read + size + more = omega arith in e)

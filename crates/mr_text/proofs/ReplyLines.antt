@@ -9,7 +9,7 @@ use Rattle.mr_text.specs.steps.ReplyReading.ReplyLine.{ItemLine, EndLine, LoneLi
 use Rattle.mr_text.specs.Limits.{MAX_BLOCK}
 use Rattle.mr_text.specs.declared.error.TextError.{TextError}
 use Rattle.mr_text.specs.declared.error.TextError.TheVariants.{LineTooLong, BadKey, BadNumber, WrongWords, DataTooLong, BadDataEnd, UnknownCommand, Truncated, Closed, OutOfMemory}
-use Rattle.mr_text.specs.steps.ReplyView.{IsLine, IsGoodItem}
+use Rattle.mr_text.specs.steps.ReplyView.{IsReplyLine, IsGoodItem}
 use Rattle.mr_text.specs.declared.reading.reply_lines.SaidLine.{SaidLine}
 use Rattle.mr_text.specs.declared.reading.reply_lines.SaidLine.TheVariants as said
 use Rattle.mr_text.proofs.Keys.{key_test-true, key_test-false, IsKey-test}
@@ -229,7 +229,7 @@ wrong_next_found room words no_end no_item = go (next_line room words) (next_lin
     go (Err OutOfMemory) is = absurd is
 
 -- a line that was read of an item gives a good one
-pub good_next : (room : ℕ) (words : List (List ℕ)) (r : Result SaidLine TextError) → IsLine (next_line room words) r → IfOk r (IsGoodItem room)
+pub good_next : (room : ℕ) (words : List (List ℕ)) (r : Result SaidLine TextError) → IsReplyLine (next_line room words) r → IfOk r (IsGoodItem room)
 good_next room words (Err refusal) e = tt
 good_next room words (Ok (said.Item key flags block_length)) e =
     let is = subst (NextLineIs room words) e (next_line_is room words) in (is.3.is_key, is.4, is.0)

@@ -6,7 +6,7 @@ use Rattle.mr_text.specs.Stream.{ReaderView, StandsFor, NextIs}
 use Rattle.mr_text.specs.declared.reading.replies.FoundReply.{FoundReply}
 use Rattle.mr_text.specs.declared.reading.replies.FoundReply.TheVariants as found
 use Rattle.mr_text.specs.declared.reply.Reply.TheVariants as reply
-use Rattle.mr_text.specs.steps.Reading.Reading.{Gives, Refused}
+use Rattle.mr_text.specs.steps.Reading.StretchReading.{Gives, Refused}
 use Rattle.mr_text.specs.steps.ReplyReading.{reply_reading}
 use Rattle.mr_text.specs.declared.error.TextError.{TextError}
 use Rattle.mr_text.specs.declared.error.TextError.TheVariants.{LineTooLong, BadKey, BadNumber, WrongWords, DataTooLong, BadDataEnd, UnknownCommand, Truncated, Closed, OutOfMemory}

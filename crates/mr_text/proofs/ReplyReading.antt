@@ -7,8 +7,8 @@ use Rattle.mr_lines.specs.Words.{words_of, drop_spaces}
 use Rattle.mr_text.specs.Requests.{IsLineOfWords, BeginsWithWords, BeginsWithLongLine, EndsBadly}
 use Rattle.mr_text.specs.Replies.{item_words, IsItemLine, BeginsWithItems, BeginsWithItemLine, TellsCause, cause_of, SpellsReply, RefusesBehind, RefusesReply}
 use Rattle.mr_text.specs.Text.{IsLine}
-use Rattle.mr_text.specs.steps.Reading.{Reading, line_reading}
-use Rattle.mr_text.specs.steps.Reading.Reading.{Waits, Gives, Refused}
+use Rattle.mr_text.specs.steps.Reading.{StretchReading, line_reading}
+use Rattle.mr_text.specs.steps.Reading.StretchReading.{Waits, Gives, Refused}
 use Rattle.mr_text.specs.steps.ReplyReading.{ReplyLine, Step, first_line, next_line, item_step, step_of_line, step_reading, with_items, items_by, items_reading, as_reply, reply_of_line, reply_of_reading, reply_reading}
 use Rattle.mr_text.specs.steps.ReplyReading.ReplyLine.{ItemLine, EndLine, LoneLine}
 use Rattle.mr_text.specs.steps.ReplyReading.Step.{ItemStep, EndStep}
@@ -75,7 +75,7 @@ items_refused (item ∷ items) (suc room) left bytes rest refusal (front, behind
     )
 
 -- what the reading of items finds is right
-abbrev pub ItemsAre : ℕ → List ℕ → Reading (List Item) → Type 0
+abbrev pub ItemsAre : ℕ → List ℕ → StretchReading (List Item) → Type 0
 ItemsAre count bytes Waits = Unit {0}
 ItemsAre count bytes (Gives items size) =
     (size ≤ length bytes) × (rest : List ℕ) × BeginsWithItems (take size bytes) items rest × IsLineOfWords rest (codes "END" ∷ []) × (count + length items ≤ MAX_ITEMS)
@@ -92,14 +92,14 @@ take-add (suc n) m [] = take-nil (suc n + m) ∙ sym (take-nil m)
 take-add (suc n) m (b ∷ bs) = ap (λ k. take k (b ∷ bs)) (let e : suc n + m ≡ suc (n + m) = omega arith in e) ∙ ap (λ s. b ∷ s) (take-add n m bs)
 
 items_by_step : (count room : ℕ) (bytes : List ℕ) → count + suc room ≡ MAX_ITEMS → ((rest : List ℕ) → ItemsAre (suc count) rest (items_reading room rest))
-    → (r : Reading Step) → StepIs count bytes r → ItemsAre count bytes (items_by (items_reading room) bytes r)
+    → (r : StretchReading Step) → StepIs count bytes r → ItemsAre count bytes (items_by (items_reading room) bytes r)
 items_by_step count room bytes sum behind Waits is = tt
 items_by_step count room bytes sum behind (Gives EndStep size) is = (is.0, take size bytes, refl, is.1, omega arith)
 items_by_step count room bytes sum behind (Refused refusal size) is =
     ([], bytes, refl, omega arith, subst (λ n. RefusesBehind n refusal bytes) (let same : count ≡ count + 0 = omega arith in same) is)
 items_by_step count room bytes sum behind (Gives (ItemStep item) size) is = go (items_reading room (drop size bytes)) (behind (drop size bytes))
   where
-    go : (r : Reading (List Item)) → ItemsAre (suc count) (drop size bytes) r → ItemsAre count bytes (with_items (item ∷ []) size r)
+    go : (r : StretchReading (List Item)) → ItemsAre (suc count) (drop size bytes) r → ItemsAre count bytes (with_items (item ∷ []) size r)
     go Waits more = tt
     go (Gives items more_size) more = (
       let within = more.0 in let low = is.0 in let left = length-drop size bytes in omega arith,
@@ -119,7 +119,7 @@ items_by_step count room bytes sum behind (Gives (ItemStep item) size) is = go (
 items_are : (room count : ℕ) → suc count + room ≡ MAX_ITEMS → (bytes : List ℕ) → ItemsAre (suc count) bytes (items_reading room bytes)
 items_are zero count sum bytes = subst (ItemsAre (suc count) bytes) (sym (items-zero bytes)) (go (step_reading zero bytes) (step_is count zero sum bytes))
   where
-    go : (r : Reading Step) → StepIs (suc count) bytes r → ItemsAre (suc count) bytes (items_by (λ _. Waits) bytes r)
+    go : (r : StretchReading Step) → StepIs (suc count) bytes r → ItemsAre (suc count) bytes (items_by (λ _. Waits) bytes r)
     go Waits is = tt
     go (Gives EndStep size) is = (is.0, take size bytes, refl, is.1, omega arith)
     go (Gives (ItemStep item) size) is = absurd (let room = is.2 in omega arith)
@@ -311,12 +311,12 @@ reply_refusal_found refusal bytes (item ∷ items, rest, begins, short, h) =
     (all.0, item_first item items bytes rest begins ∙ ap as_reply all.1)
 
 -- what the reading of the bytes finds is right
-abbrev pub ReplyIs : List ℕ → Reading Reply → Type 0
+abbrev pub ReplyIs : List ℕ → StretchReading Reply → Type 0
 ReplyIs bytes Waits = Unit {0}
 ReplyIs bytes (Gives reply size) = (size ≤ length bytes) × SpellsReply (take size bytes) reply
 ReplyIs bytes (Refused refusal size) = RefusesReply refusal bytes
 
-items_reply_is : (bytes : List ℕ) (r : Reading (List Item)) → ItemsAre 0 bytes r → ReplyIs bytes (as_reply r)
+items_reply_is : (bytes : List ℕ) (r : StretchReading (List Item)) → ItemsAre 0 bytes r → ReplyIs bytes (as_reply r)
 items_reply_is bytes Waits h = tt
 items_reply_is bytes (Gives items size) h = (h.0, (h.1, h.2, h.3, let few = h.4 in omega arith))
 items_reply_is bytes (Refused refusal size) h =
@@ -391,7 +391,7 @@ pub reply_is : (bytes : List ℕ) → ReplyIs bytes (reply_reading bytes)
 unfolding reply_reading
 reply_is bytes = go (line_reading bytes) refl (line_is bytes)
   where
-    go : (r : Reading (List ℕ)) → line_reading bytes ≡ r → LineIs bytes r → ReplyIs bytes (reply_of_reading bytes r)
+    go : (r : StretchReading (List ℕ)) → line_reading bytes ≡ r → LineIs bytes r → ReplyIs bytes (reply_of_reading bytes r)
     go Waits e is = tt
     go (Gives line size) e is = first_reply_is bytes line size is e (first_line line (words_of line)) (first_is line (words_of line))
     go (Refused refusal size) e is = ([], bytes, refl, omega arith, subst (λ x. RefusesBehind 0 x bytes) (sym is.0) is.1)

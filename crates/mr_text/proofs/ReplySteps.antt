@@ -5,8 +5,8 @@ use Rattle.std.proofs.lemmas.List.{length-take-le, take-append-drop}
 use Rattle.mr_lines.specs.Words.{words_of}
 use Rattle.mr_text.specs.Requests.{IsLineOfWords, BeginsWithWords, block_end}
 use Rattle.mr_text.specs.Replies.{item_words, IsItemLine, SpellsItem, HasRoom, AreWrongReply, BeginsWithItemWords, BeginsWithItemLine, RefusesBehind}
-use Rattle.mr_text.specs.steps.Reading.{Reading, line_reading, block_reading}
-use Rattle.mr_text.specs.steps.Reading.Reading.{Waits, Gives, Refused}
+use Rattle.mr_text.specs.steps.Reading.{StretchReading, line_reading, block_reading}
+use Rattle.mr_text.specs.steps.Reading.StretchReading.{Waits, Gives, Refused}
 use Rattle.mr_text.specs.steps.ReplyReading.{ReplyLine, Step, next_line, item_line, item_step, step_of_line, step_of_reading, step_reading}
 use Rattle.mr_text.specs.steps.ReplyReading.ReplyLine.{ItemLine, EndLine, LoneLine}
 use Rattle.mr_text.specs.steps.ReplyReading.Step.{ItemStep, EndStep}
@@ -113,7 +113,7 @@ step_refusal_found count room sum some Closed bytes h = absurd h
 step_refusal_found count room sum some OutOfMemory bytes h = absurd h
 
 -- what the reading of a step finds is right
-abbrev pub StepIs : ℕ → List ℕ → Reading Step → Type 0
+abbrev pub StepIs : ℕ → List ℕ → StretchReading Step → Type 0
 StepIs count bytes Waits = Unit {0}
 StepIs count bytes (Gives (ItemStep item) size) = (size ≤ length bytes) × SpellsItem (take size bytes) item × HasRoom count
 StepIs count bytes (Gives EndStep size) = (size ≤ length bytes) × IsLineOfWords (take size bytes) (codes "END" ∷ [])
@@ -264,7 +264,7 @@ pub step_is : (count room : ℕ) → suc count + room ≡ MAX_ITEMS → (bytes :
 unfolding step_reading
 step_is count room sum bytes = go (line_reading bytes) (line_is bytes)
   where
-    go : (r : Reading (List ℕ)) → LineIs bytes r → StepIs (suc count) bytes (step_of_reading room bytes r)
+    go : (r : StretchReading (List ℕ)) → LineIs bytes r → StepIs (suc count) bytes (step_of_reading room bytes r)
     go Waits is = tt
     go (Gives line size) is = line_steps (suc count) bytes line size is (next_line room (words_of line)) (next_says count room sum (words_of line))
     go (Refused refusal size) is = subst (λ x. RefusesBehind (suc count) x bytes) (sym is.0) is.1

@@ -2,7 +2,7 @@
 use Rattle.std.proofs.Common.{◌≡◌, ℕ, List, take, true, false, subst}
 use Rattle.mr_text.specs.Requests.{SpellsRequest, RefusesRequest, SkipsLine}
 use Rattle.mr_text.specs.steps.Reading.{request_reading}
-use Rattle.mr_text.specs.steps.Reading.Reading.{Gives, Refused}
+use Rattle.mr_text.specs.steps.Reading.StretchReading.{Gives, Refused}
 use Rattle.mr_text.specs.declared.error.TextError.{TextError}
 use Rattle.mr_text.specs.declared.error.TextError.TheVariants.{LineTooLong, BadKey, BadNumber, WrongWords, DataTooLong, BadDataEnd, UnknownCommand, Truncated, Closed, OutOfMemory}
 use Rattle.mr_text.specs.declared.request.Request.{Request}

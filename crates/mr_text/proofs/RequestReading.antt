@@ -6,8 +6,8 @@ use Rattle.mr_lines.specs.Words.{words_of}
 use Rattle.mr_text.specs.Commands.{Shape, HasShape, IsUnknown, AreWrong, HasKeys, Numbers}
 use Rattle.mr_text.specs.Commands.Shape.{GetShape, SetShape, DeleteShape, QuitShape}
 use Rattle.mr_text.specs.Requests.{IsLineOfWords, IsLineOfShape, IsSetLine, SpellsSet, SpellsRequest, BeginsWithWords, HasBadKey, HasBadNumber, BeginsWithSet, HasBadDataEnd, RefusesRequest, SkipsLine, block_end}
-use Rattle.mr_text.specs.steps.Reading.{Reading, CommandLine, line_reading, command_line, line_of_shape, line_of, shape_of, block_reading, set_reading, request_of_line, request_of_reading, request_reading}
-use Rattle.mr_text.specs.steps.Reading.Reading.{Waits, Gives, Refused}
+use Rattle.mr_text.specs.steps.Reading.{StretchReading, CommandLine, line_reading, command_line, line_of_shape, line_of, shape_of, block_reading, set_reading, request_of_line, request_of_reading, request_reading}
+use Rattle.mr_text.specs.steps.Reading.StretchReading.{Waits, Gives, Refused}
 use Rattle.mr_text.specs.steps.Reading.CommandLine.{GetLine, SetLine, DeleteLine, QuitLine}
 use Rattle.mr_text.specs.Limits.{MAX_BLOCK}
 use Rattle.mr_text.specs.declared.error.TextError.{TextError}
@@ -225,7 +225,7 @@ line_says words = go (shape_of words) (shape_is words)
     go (Err OutOfMemory) is = absurd is
 
 -- what the reading of the bytes finds is right
-abbrev pub ReadingIs : List ℕ → Reading Request → Type 0
+abbrev pub ReadingIs : List ℕ → StretchReading Request → Type 0
 ReadingIs bytes Waits = Unit {0}
 ReadingIs bytes (Gives request size) = (size ≤ length bytes) × SpellsRequest (take size bytes) request
 ReadingIs bytes (Refused (UnknownCommand false) size) = (size ≤ length bytes) × SkipsLine bytes (drop size bytes)
@@ -331,7 +331,7 @@ pub request_is : (bytes : List ℕ) → ReadingIs bytes (request_reading bytes)
 unfolding request_reading
 request_is bytes = go (line_reading bytes) (line_is bytes)
   where
-    go : (r : Reading (List ℕ)) → LineIs bytes r → ReadingIs bytes (request_of_reading bytes r)
+    go : (r : StretchReading (List ℕ)) → LineIs bytes r → ReadingIs bytes (request_of_reading bytes r)
     go Waits is = tt
     go (Gives line size) is = line_reads bytes line size is (command_line (words_of line)) (line_says (words_of line))
     go (Refused refusal size) is = subst (λ e. ReadingIs bytes (Refused e size)) (sym is.0) is.1

@@ -10,8 +10,8 @@ use Rattle.mr_text.proofs.Nexts.{RefusedSo, waits}
 use Rattle.mr_text.proofs.RequestNexts.{request_given, request_refuses}
 use Rattle.mr_text.proofs.RequestReading.{LineSays, line_says, request_found, refusal_found}
 use Rattle.mr_text.specs.Limits.{MAX_LINE, MAX_BLOCK}
-use Rattle.mr_text.specs.steps.Reading.{Reading, CommandLine, has_end, block_reading, command_line, line_reading, request_of_line, request_of_reading, request_reading, set_reading}
-use Rattle.mr_text.specs.steps.Reading.Reading.{Waits, Gives, Refused}
+use Rattle.mr_text.specs.steps.Reading.{StretchReading, CommandLine, has_end, block_reading, command_line, line_reading, request_of_line, request_of_reading, request_reading, set_reading}
+use Rattle.mr_text.specs.steps.Reading.StretchReading.{Waits, Gives, Refused}
 use Rattle.mr_text.specs.steps.Reading.CommandLine.{GetLine, SetLine, DeleteLine, QuitLine}
 use Rattle.mr_text.specs.Requests.{SpellsRequest, RefusesRequest, SkipsLine, is_quit}
 use Rattle.mr_text.specs.declared.error.TextError.{TextError}
@@ -37,7 +37,7 @@ never_refused bytes OutOfMemory size h r = absurd r
 unfinished_waits : (bytes : List ℕ) → IsUnfinished SpellsRequest RefusesRequest bytes → request_reading bytes ≡ Waits
 unfinished_waits bytes h = go (request_reading bytes) refl
   where
-    go : (r : Reading Request) → request_reading bytes ≡ r → r ≡ Waits
+    go : (r : StretchReading Request) → request_reading bytes ≡ r → r ≡ Waits
     go Waits e = refl
     go (Gives request size) e =
         absurd (h.not_spelled request (drop size bytes)
@@ -100,7 +100,7 @@ command_waits bytes words size (Ok (SetLine key flags exptime n noreply)) says l
     omega arith
 
 -- no line is there yet
-abbrev no_line : Reading (List ℕ)
+abbrev no_line : StretchReading (List ℕ)
 no_line = Waits
 
 line_waits : (bytes : List ℕ) → line_reading bytes ≡ Waits → length bytes < 16388
@@ -124,7 +124,7 @@ waits_short : (bytes : List ℕ) → request_reading bytes ≡ Waits → length 
 unfolding request_reading
 waits_short bytes e = go (line_reading bytes) refl (line_is bytes)
   where
-    go : (r : Reading (List ℕ)) → line_reading bytes ≡ r → LineIs bytes r → length bytes < 16388
+    go : (r : StretchReading (List ℕ)) → line_reading bytes ≡ r → LineIs bytes r → length bytes < 16388
     go Waits is read = line_waits bytes is
     go (Gives line size) is read =
         command_waits bytes (words_of line) size (command_line (words_of line)) (line_says (words_of line)) (line_short bytes line size read) read.within (rw is at e)

@@ -1,7 +1,7 @@
 -- The one spelling of a request or a reply that writers give.
 use Rattle.std.specs.Prelude.{ℕ, List, [], ◌∷◌, ◌++◌, Bool, true, false, ℤ, codes, length, flat_map, decimal}
 use Rattle.std.specs.Fmt.{signed_decimal}
-use Rattle.mr_text.specs.CauseText.{text_of}
+use Rattle.mr_text.specs.CauseText.{text_of_cause}
 use Rattle.mr_text.specs.declared.cause.Cause.{Cause}
 use Rattle.mr_text.specs.declared.item.Item.{Item}
 use Rattle.mr_text.specs.declared.reply.Reply.{Reply}
@@ -43,7 +43,7 @@ items_text items = flat_map item_text items
 
 -- the line of an error: its word with a space, and the text of its cause
 abbrev pub error_text : List ℕ → Cause → List ℕ
-error_text word cause = word ++ text_of cause ++ line_end
+error_text word cause = word ++ text_of_cause cause ++ line_end
 
 -- the spelling of a reply: an error's word is followed by its space also where the text is empty
 abbrev pub canonical_reply : Reply → List ℕ

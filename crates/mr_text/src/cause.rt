@@ -1,3 +1,4 @@
+//! Why requests fail, in the words that clients see.
 use crate::line::Line;
 
 /// Why a request failed, as the text of a CLIENT_ERROR or a SERVER_ERROR tells it.

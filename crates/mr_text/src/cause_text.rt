@@ -1,7 +1,7 @@
 //! The texts of the named causes.
 
 ghost use Rattle.std.specs.Prelude.{◌≡◌, ◌↔◌, IsTrue, IfOk, IfNone};
-ghost use Rattle.mr_text.specs.CauseText.{cause_named, text_of};
+ghost use Rattle.mr_text.specs.CauseText.{cause_named, text_of_cause};
 ghost use Rattle.mr_text.specs.NamedText.{IsNamedText};
 
 use crate::cause::Cause;
@@ -10,7 +10,7 @@ use std::alloc::AllocError;
 impl Cause {
     /// The text, as it stands behind the word of an error.
     pub fn text(&self) -> &[u8]
-        ensures { result.now ≡ text_of self.now }
+        ensures { result.now ≡ text_of_cause self.now }
     {
         match self {
             Cause::LineTooLong => b"line too long",

@@ -1,3 +1,4 @@
+//! Why texts and values are refused, and the faults of devices.
 ghost use Rattle.std.specs.Prelude.{◌≡◌};
 
 use std::alloc::{AllocError, AllocFailed};

@@ -1,3 +1,4 @@
+//! A key with its data, as an answer to a get tells it.
 ghost use Rattle.std.specs.Prelude.{◌≡◌, IfOk, ◌↔◌, IsTrue};
 
 use crate::block::Block;

@@ -1,3 +1,4 @@
+//! The items of one answer.
 ghost use Rattle.std.specs.Prelude.{◌≡◌, ◌≤◌, length, IfOk, vec_len, ◌↔◌, IsTrue};
 
 use crate::item::Item;

@@ -1,3 +1,4 @@
+//! The names of items.
 ghost use Rattle.std.specs.Prelude.{◌≡◌, ◌≤◌, length, IfOk, ◌↔◌, IsTrue};
 ghost use Rattle.std.specs.List.{list_all};
 ghost use Rattle.mr_text.specs.Key.{IsKey, key_byte_test, key_test};

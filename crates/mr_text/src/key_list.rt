@@ -1,3 +1,4 @@
+//! The keys of one get.
 ghost use Rattle.std.specs.Prelude.{◌≡◌, ◌↔◌, ℕ, List, IsTrue, IfOk};
 ghost use Rattle.mr_text.specs.Key.{HasKey, FitLine, AreFew};
 

@@ -1,3 +1,4 @@
+//! Texts of errors that have no name of their own.
 ghost use Rattle.std.specs.Prelude.{◌≡◌, ◌≤◌, ◌↔◌, length, IsTrue, IfOk};
 ghost use Rattle.mr_text.specs.Line.{HasLineFeed};
 

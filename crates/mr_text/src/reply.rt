@@ -1,3 +1,4 @@
+//! What servers answer.
 ghost use Rattle.std.specs.Prelude.{◌≡◌, IfOk, ◌↔◌, IsTrue};
 
 use crate::cause::Cause;

@@ -1,3 +1,4 @@
+//! What clients ask for.
 ghost use Rattle.std.specs.Prelude.{◌≡◌, ◌↔◌, IsTrue, IfOk};
 
 use crate::block::Block;

@@ -8,7 +8,7 @@ use Rattle.mr_words.specs.Explain.{Told, told_by}
 use Rattle.mr_tool.specs.ExplainCommand.{ExplainGives}
 use Rattle.mr_tool.specs.FirstRequest.{most_reads}
 use Rattle.mr_tool.specs.Given.{IsGiven, IsNotGiven}
-use Rattle.mr_tool.specs.GivenText.{Makes, PrintsOf, Refuses}
+use Rattle.mr_tool.specs.GivenText.{Makes, PrintsOf, RefusalOfBytes}
 use Rattle.mr_tool.specs.PlanCommand.{PlanGives}
 use Rattle.mr_tool.specs.TimelineCommand.{TimelineGives}
 use Rattle.mr_tool.specs.Run.{EndsWith, Gives, ReadsFew, Runs, RunsCommand, most_reads_of, reads_without}
@@ -84,7 +84,7 @@ not_given_reads : (file : Option (List ℕ)) (fault : Fault) (before after : Dev
 not_given_reads (Some path) fault before after h = unread _ _ _ h.1
 not_given_reads None fault before after h = failed_reads fault _ _ h.0
 
-text_reads : (makes : Makes) (refuses : Refuses) (file : Option (List ℕ)) (before after : Devices) (result : Result Ended Fault)
+text_reads : (makes : Makes) (refuses : RefusalOfBytes) (file : Option (List ℕ)) (before after : Devices) (result : Result Ended Fault)
     → PrintsOf makes refuses file before after result → after.input.reads ≤ before.input.reads + reads_without file
 text_reads makes refuses file before after (Ok ended) h = given_reads file _ before after h.given
 text_reads makes refuses file before after (Err Output) h = given_reads file _ before after h.2.given

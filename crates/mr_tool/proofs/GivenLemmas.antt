@@ -2,14 +2,14 @@
 use Rattle.std.proofs.Common.{◌≡◌, ℕ, List, Option, Some, None, Result, Ok, Err, IsErrAnd, refl, subst, sym, inl, inr}
 use Rattle.mr_tool.specs.Devices.{Devices}
 use Rattle.mr_tool.specs.Given.{IsGiven, IsNotGiven}
-use Rattle.mr_tool.specs.GivenText.{Makes, PrintsOf, Refuses}
+use Rattle.mr_tool.specs.GivenText.{Makes, PrintsOf, RefusalOfBytes}
 use Rattle.mr_tool.specs.RunCommand.{IsPlayFault, RunGives}
 use Rattle.mr_tool.specs.declared.ended.Ended.{Ended}
 use Rattle.mr_tool.specs.declared.ended.Ended.TheVariants.{Done}
 use Rattle.mr_tool.specs.declared.fault.Fault.{Fault}
 use Rattle.mr_tool.specs.declared.fault.Fault.TheVariants.{Memory, Input, Output, File, Net, Plan, Node, Text}
 
-not_given : (makes : Makes) (refuses : Refuses) (file : Option (List ℕ)) (fault : Fault) (before after : Devices) → IsNotGiven file fault before after
+not_given : (makes : Makes) (refuses : RefusalOfBytes) (file : Option (List ℕ)) (fault : Fault) (before after : Devices) → IsNotGiven file fault before after
     → after.output ≡ before.output → PrintsOf makes refuses file before after (Err fault)
 not_given makes refuses file Memory before after lacks unwritten = inl (record { lacks = lacks; unwritten = unwritten })
 not_given makes refuses file Input before after lacks unwritten = record { lacks = lacks; unwritten = unwritten }
@@ -26,7 +26,7 @@ not_given makes refuses (Some path) (Text refusal) before after lacks unwritten 
 not_given makes refuses None (Text refusal) before after lacks unwritten = absurd lacks.0
 
 -- a command that is given no bytes
-pub ends_not_given : (makes : Makes) (refuses : Refuses) (file : Option (List ℕ)) (result : Result Ended Fault) (fault : Fault) (before after : Devices)
+pub ends_not_given : (makes : Makes) (refuses : RefusalOfBytes) (file : Option (List ℕ)) (result : Result Ended Fault) (fault : Fault) (before after : Devices)
     → IsErrAnd result (λ other. other ≡ fault) → IsNotGiven file fault before after → after.output ≡ before.output
     → PrintsOf makes refuses file before after result
 ends_not_given makes refuses file (Ok ended) fault before after is lacks unwritten = absurd is

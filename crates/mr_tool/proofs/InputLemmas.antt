@@ -3,7 +3,7 @@ use Rattle.std.proofs.Common.{arith, ◌≡◌, ℕ, ◌<◌, ◌≤◌, Bool, t
 use Rattle.std.proofs.lemmas.List.{append_assoc, append-nil}
 use Rattle.std.specs.Io.KnownBytes.{Consumes}
 use Rattle.mr_text.specs.Source.{SourceView, AreOffered, least_with}
-use Rattle.mr_tool.specs.InputSteps.{AddsPiece, Brings}
+use Rattle.mr_tool.specs.InputSteps.{AddsPiece, BringsInput}
 use Rattle.mr_tool.specs.WholeInput.{FailsWhole, Takes, TakesWhole, most_taken}
 use Rattle.mr_tool.specs.declared.fault.Fault.{Fault}
 use Rattle.mr_tool.specs.declared.fault.Fault.TheVariants.{Memory, Input, Output, File, Net, Plan, Node, Text}
@@ -36,7 +36,7 @@ takes_nothing view = record {
 
 module _ (before now after : SourceView) (early : List ℕ) (h : Takes early 0 before now) where
   -- one more piece
-  pub takes_more : (piece : List ℕ) → Brings early piece now after → 0 < length piece → Takes (early ++ piece) 0 before after
+  pub takes_more : (piece : List ℕ) → BringsInput early piece now after → 0 < length piece → Takes (early ++ piece) 0 before after
   takes_more piece brings some =
       let reads = h.reads in
       let counted = brings.counted in
@@ -53,7 +53,7 @@ module _ (before now after : SourceView) (early : List ℕ) (h : Takes early 0 b
       }
 
   -- one more read, which brought nothing
-  pub takes_idle : Brings early [] now after → length early < most_taken → Takes early 1 before after
+  pub takes_idle : BringsInput early [] now after → length early < most_taken → Takes early 1 before after
   takes_idle brings room_left =
       let reads = h.reads in
       let counted = brings.counted in

@@ -17,7 +17,7 @@ use Rattle.mr_words.specs.declared.words.TimelineValues.{TimelineValues}
 use Rattle.mr_words.specs.declared.words.Wanted.{Wanted}
 use Rattle.mr_words.specs.declared.words.Wanted.TheVariants as wanted
 use Rattle.mr_tool.specs.ConfigFile.{LoadsConfig}
-use Rattle.mr_tool.specs.Devices.{Devices, devices, IsTold, Tells, NoneFailed}
+use Rattle.mr_tool.specs.Devices.{Devices, devices, IsToldAtOnce, Tells, NoneFailed}
 use Rattle.mr_words.specs.Explain.{Told, told_by}
 use Rattle.mr_tool.specs.ExplainCommand.{WritesExplanation}
 use Rattle.mr_tool.specs.PlanCommand.{WritesPlan}
@@ -164,11 +164,11 @@ done_steady words before after idle busy status (inr (inr (inr memory), same)) d
 
 -- one call tells the text that it hands over
 pub told_by_call : (text bytes : List ℕ) (old new : SinkView) (answer : Result (Unit {0}) WriteFault) → bytes ≡ text → IsOneWrite bytes old answer new
-    → IsTold text old new
+    → IsToldAtOnce text old new
 told_by_call text bytes old new answer same call = (answer, subst (λ (b : List ℕ). IsOneWrite b old answer new) same call)
 
 -- the other devices stay
-pub tells_alone : (text : List ℕ) (sources : SourcesView) (input : SourceView) (output old new : SinkView) → IsTold text old new
+pub tells_alone : (text : List ℕ) (sources : SourcesView) (input : SourceView) (output old new : SinkView) → IsToldAtOnce text old new
     → Tells text (devices sources input output old) (devices sources input output new)
 tells_alone text sources input output old new told = record { told = told; unasked = refl; unread = refl; unwritten = refl }
 
@@ -188,7 +188,7 @@ command_run words wanted said before between after idle busy result status says 
 
 -- the run of words that say no command
 pub refused_words_run : (words : List (List ℕ)) (sources : SourcesView) (input : SourceView) (output old new : SinkView) (servers : ServersView) (status : ℕ)
-    → SayNothing words → ((status ≡ 2) × ((text : List ℕ) × IsTold text old new)) ⊎ ((status ≡ 1) × IsTold (fault_line Memory) old new)
+    → SayNothing words → ((status ≡ 2) × ((text : List ℕ) × IsToldAtOnce text old new)) ⊎ ((status ≡ 1) × IsToldAtOnce (fault_line Memory) old new)
     → Runs words (devices sources input output old) (devices sources input output new) servers servers status
 refused_words_run words sources input output old new servers status says (inl wrong) =
     inr (inl (record { says_nothing = says; is_status = wrong.0; text = wrong.1.0; tells = tells_alone wrong.1.0 sources input output old new wrong.1.1 }), refl)
@@ -197,14 +197,14 @@ refused_words_run words sources input output old new servers status says (inr me
 
 -- the run of words whose readings are no list of numbers
 pub refused_readings_run : (words : List (List ℕ)) (sources : SourcesView) (input : SourceView) (output old new : SinkView) (servers : ServersView) (status : ℕ)
-    → SayBadReadings words → status ≡ 2 → IsTold readings_line old new
+    → SayBadReadings words → status ≡ 2 → IsToldAtOnce readings_line old new
     → Runs words (devices sources input output old) (devices sources input output new) servers servers status
 refused_readings_run words sources input output old new servers status says is told =
     inr (inr (inl (record { says = says; is_status = is; tells = tells_alone readings_line sources input output old new told })), refl)
 
 -- the run of words that memory was refused for
 pub memory_run : (words : List (List ℕ)) (sources : SourcesView) (input : SourceView) (output old new : SinkView) (servers : ServersView) (status : ℕ) → status ≡ 1
-    → IsTold (fault_line Memory) old new → Runs words (devices sources input output old) (devices sources input output new) servers servers status
+    → IsToldAtOnce (fault_line Memory) old new → Runs words (devices sources input output old) (devices sources input output new) servers servers status
 memory_run words sources input output old new servers status is told =
     inr (inr (inr (is, tells_alone (fault_line Memory) sources input output old new told)), refl)
 

@@ -16,12 +16,12 @@ abbrev pub devices : SourcesView → SourceView → SinkView → SinkView → De
 devices sources input output faults = record { sources = sources; input = input; output = output; faults = faults }
 
 -- the text was handed over in one call, whatever that answered
-abbrev pub IsTold : List ℕ → SinkView → SinkView → Type 0
-IsTold text old new = (answer : Result (Unit {0}) WriteFault) × IsOneWrite text old answer new
+abbrev pub IsToldAtOnce : List ℕ → SinkView → SinkView → Type 0
+IsToldAtOnce text old new = (answer : Result (Unit {0}) WriteFault) × IsOneWrite text old answer new
 
 -- the text was told where faults are told, in one call, and nothing else was done
 pub record Tells (text : List ℕ) (before after : Devices) : Type 0 where
-  pub told : IsTold text before.faults after.faults
+  pub told : IsToldAtOnce text before.faults after.faults
   pub unasked : after.sources ≡ before.sources
   pub unread : after.input ≡ before.input
   pub unwritten : after.output ≡ before.output

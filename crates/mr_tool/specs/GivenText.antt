@@ -14,8 +14,8 @@ abbrev pub Makes : Type 1
 Makes = List ℕ → List ℕ → Ended → Type 0
 
 -- why bytes may be refused
-abbrev pub Refuses : Type 1
-Refuses = List ℕ → PlanError → Type 0
+abbrev pub RefusalOfBytes : Type 1
+RefusalOfBytes = List ℕ → PlanError → Type 0
 
 -- the text of the bytes that were given was handed to the output in one call, which answered so
 pub record WritesText (makes : Makes) (file : Option (List ℕ)) (ended : Ended) (before after : Devices) (answer : Result (Unit {0}) WriteFault) : Type 0 where
@@ -26,7 +26,7 @@ pub record WritesText (makes : Makes) (file : Option (List ℕ)) (ended : Ended)
   pub writes : IsOneWrite text before.output answer after.output
 
 -- the bytes that were given were refused, and nothing was written
-pub record RefusesGiven (refuses : Refuses) (file : Option (List ℕ)) (refusal : PlanError) (before after : Devices) : Type 0 where
+pub record RefusesGiven (refuses : RefusalOfBytes) (file : Option (List ℕ)) (refusal : PlanError) (before after : Devices) : Type 0 where
   pub bytes : List ℕ
   pub given : IsGiven file bytes before after
   pub refused : refuses bytes refusal
@@ -48,7 +48,7 @@ pub record LacksText (makes : Makes) (file : Option (List ℕ)) (before after : 
 
 -- What such a command does. It writes the text, or finds the first of the faults in this order: the file or the input, the
 -- bytes, the output. The file is loaded once, the input is read where no file is named, and nothing is written but the text.
-abbrev pub PrintsOf : Makes → Refuses → Option (List ℕ) → Devices → Devices → Result Ended Fault → Type 0
+abbrev pub PrintsOf : Makes → RefusalOfBytes → Option (List ℕ) → Devices → Devices → Result Ended Fault → Type 0
 PrintsOf makes refuses file before after (Ok ended) = WritesText makes file ended before after (Ok tt)
 PrintsOf makes refuses file before after (Err Output) = (ended : Ended) × (fault : WriteFault) × WritesText makes file ended before after (Err fault)
 PrintsOf makes refuses file before after (Err (Plan refusal)) = RefusesGiven refuses file refusal before after

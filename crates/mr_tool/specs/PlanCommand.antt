@@ -27,7 +27,7 @@ pub record ReadsFor (plan : PlanValues) (config : ConfigView) (before after : De
   pub read : ReadsRequest before.input after.input result
 
 -- the first request was refused, or couldn't be read
-pub record RefusesRequest (plan : PlanValues) (fault : Fault) (before after : Devices) : Type 0 where
+pub record RefusesPlan (plan : PlanValues) (fault : Fault) (before after : Devices) : Type 0 where
   pub config : ConfigView
   pub read : ReadsFor plan config before after (Err fault)
   pub unwritten : after.output ≡ before.output
@@ -56,8 +56,8 @@ PlanGives plan before after (Ok Faulted) = ⊥
 PlanGives plan before after (Err Output) = (fault : WriteFault) × WritesPlan plan before after (Err fault)
 PlanGives plan before after (Err (File line)) = LacksConfig plan.config.now (File line) before after
 PlanGives plan before after (Err (Plan refusal)) = LacksConfig plan.config.now (Plan refusal) before after
-PlanGives plan before after (Err Input) = RefusesRequest plan Input before after
-PlanGives plan before after (Err (Text refusal)) = RefusesRequest plan (Text refusal) before after
+PlanGives plan before after (Err Input) = RefusesPlan plan Input before after
+PlanGives plan before after (Err (Text refusal)) = RefusesPlan plan (Text refusal) before after
 PlanGives plan before after (Err (Net line)) = ⊥
 PlanGives plan before after (Err (Node refusal)) = ⊥
 PlanGives plan before after (Err Memory) = LacksConfig plan.config.now Memory before after ⊎ LacksPlan plan before after

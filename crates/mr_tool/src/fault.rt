@@ -37,7 +37,7 @@ pub enum Fault {
 }
 
 impl Fault {
-    ghost use Rattle.mr_tool.specs.Devices.{IsTold};
+    ghost use Rattle.mr_tool.specs.Devices.{IsToldAtOnce};
     ghost use Rattle.mr_tool.specs.Fault.{fault_line};
 
     /// The line that is printed: the layer that found the fault, and the number and the name of the refusal.
@@ -58,7 +58,7 @@ impl Fault {
 
     /// Tells the line in one call. That its place fails too can't be told anywhere.
     pub fn tell<F: Sink>(&self, faults: &mut F)
-        ensures { IsTold (fault_line self.now) (F.told faults.old) (F.told faults.new) }
+        ensures { IsToldAtOnce (fault_line self.now) (F.told faults.old) (F.told faults.new) }
     {
         let _ = faults.write_all(self.line().as_bytes());
     }

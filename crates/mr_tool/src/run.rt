@@ -2,7 +2,7 @@
 ghost use Rattle.std.specs.Prelude.{◌≡◌, ◌⊎◌, ℕ, List, map};
 ghost use Rattle.mr_text.specs.Sink.{SinkView};
 ghost use Rattle.mr_text.specs.Source.{SourceView};
-ghost use Rattle.mr_tool.specs.Devices.{devices, IsTold, NoneFailed};
+ghost use Rattle.mr_tool.specs.Devices.{devices, IsToldAtOnce, NoneFailed};
 ghost use Rattle.mr_tool.specs.Fault.{fault_line, not_text_line, readings_line};
 ghost use Rattle.mr_tool.specs.Run.{EndsWith, ReadsFew, Runs};
 ghost use Rattle.mr_tool.specs.Sources.{SourcesView};
@@ -36,7 +36,7 @@ pub const NOT_ACCEPTED: u8 = 3;
 /// Tells a fault, which is all that is done of it.
 pub fn tell_fault<F: Sink>(fault: &Fault, faults: &mut F) -> u8
     ensures status { result ≡ FAULT }
-    ensures told { IsTold (fault_line fault.now) (F.told faults.old) (F.told faults.new) }
+    ensures told { IsToldAtOnce (fault_line fault.now) (F.told faults.old) (F.told faults.new) }
 {
     fault.tell(faults);
     FAULT
@@ -45,7 +45,7 @@ pub fn tell_fault<F: Sink>(fault: &Fault, faults: &mut F) -> u8
 /// Tells that a word isn't text, which no command can have.
 pub fn tell_not_text<F: Sink>(faults: &mut F) -> u8
     ensures status { result ≡ WRONG_WORDS }
-    ensures told { IsTold not_text_line (F.told faults.old) (F.told faults.new) }
+    ensures told { IsToldAtOnce not_text_line (F.told faults.old) (F.told faults.new) }
 {
     let _ = faults.write_all("migctl: words are not UTF-8\n".as_bytes());
     WRONG_WORDS
@@ -54,7 +54,7 @@ pub fn tell_not_text<F: Sink>(faults: &mut F) -> u8
 /// Tells that the readings are no list of numbers.
 fn tell_bad_readings<F: Sink>(faults: &mut F) -> u8
     ensures status { result ≡ WRONG_WORDS }
-    ensures told { IsTold readings_line (F.told faults.old) (F.told faults.new) }
+    ensures told { IsToldAtOnce readings_line (F.told faults.old) (F.told faults.new) }
 {
     let _ = faults.write_all("migctl: words --readings\n".as_bytes());
     WRONG_WORDS
@@ -62,8 +62,8 @@ fn tell_bad_readings<F: Sink>(faults: &mut F) -> u8
 
 /// Tells why the words are wrong, or the help that they call for.
 fn tell_wrong_words<F: Sink>(alloc: Global, error: &clap::Error, faults: &mut F) -> u8
-    ensures { ((result ≡ WRONG_WORDS) × ((text : List ℕ) × IsTold text (F.told faults.old) (F.told faults.new)))
-        ⊎ ((result ≡ FAULT) × IsTold (fault_line Fault.Memory) (F.told faults.old) (F.told faults.new)) }
+    ensures { ((result ≡ WRONG_WORDS) × ((text : List ℕ) × IsToldAtOnce text (F.told faults.old) (F.told faults.new)))
+        ⊎ ((result ≡ FAULT) × IsToldAtOnce (fault_line Fault.Memory) (F.told faults.old) (F.told faults.new)) }
 {
     let Ok(text) = format!(in alloc; "{error}") else {
         return tell_fault(&Fault::Memory, faults);

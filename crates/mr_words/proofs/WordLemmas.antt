@@ -13,7 +13,7 @@ use Rattle.clap.specs.declared.parser.matches.SubCommand.{SubCommand}
 use Rattle.mr_words.proofs.TableLemmas.{table_complete}
 use Rattle.mr_words.specs.Explain.{Told, explanation_of, told_by}
 use Rattle.mr_words.specs.declared.explain.Explanation.{Explanation}
-use Rattle.mr_words.specs.Words.{AgreesWith, AreNumberWords, AreReadings, FindsBadReadings, FindsCommand, Found, HasBadReadings, HasExplanation, HasNode, HasPlan, HasProxy, HasTimeline, IsNumberList, IsNumberOr, IsNumberWord, Say, SayBadReadings, readings_in}
+use Rattle.mr_words.specs.Words.{AgreesWith, AreNumberWords, AreReadings, FindsBadReadings, FindsCommand, Found, HasBadReadings, HasExplanation, HasNodeValues, HasPlan, HasProxyValues, HasTimeline, IsNumberList, IsNumberOr, IsNumberWord, Say, SayBadReadings, readings_in}
 use Rattle.mr_words.specs.declared.service_words.NodeValues.{NodeValues}
 use Rattle.mr_words.specs.declared.service_words.ProxyValues.{ProxyValues}
 use Rattle.mr_words.specs.declared.words.PlanValues.{PlanValues}
@@ -164,14 +164,14 @@ one_found found (Timeline read) (Timeline values) r p =
 one_found found (Run read) (Run file) r p = sym r.2 ∙ (ap (first_of (codes "file")) (same_rows found _ r.0 p.0 r.1 p.1) ∙ p.2)
 one_found found (Check read) (Check file) r p = sym r.2 ∙ (ap (first_of (codes "file")) (same_rows found _ r.0 p.0 r.1 p.1) ∙ p.2)
 one_found found (Node read) (Node values) r p =
-    let also : HasNode r.0 values = subst (λ (rows : List Row). HasNode rows values) (same_rows found _ p.0 r.0 p.1 r.1) p.2 in (
+    let also : HasNodeValues r.0 values = subst (λ (rows : List Row). HasNodeValues rows values) (same_rows found _ p.0 r.0 p.1 r.1) p.2 in (
       same_inside _ _ _ r.2.listen_is also.listen_is,
       same_number_or _ _ _ _ r.2.capacity_is also.capacity_is,
       same_number_or _ _ _ _ r.2.clients_is also.clients_is,
       same_number_or _ _ _ _ r.2.turns_is also.turns_is,
     )
 one_found found (Proxy read) (Proxy values) r p =
-    let also : HasProxy r.0 values = subst (λ (rows : List Row). HasProxy rows values) (same_rows found _ p.0 r.0 p.1 r.1) p.2 in (
+    let also : HasProxyValues r.0 values = subst (λ (rows : List Row). HasProxyValues rows values) (same_rows found _ p.0 r.0 p.1 r.1) p.2 in (
       same_inside _ _ _ r.2.config_is also.config_is,
       same_inside _ _ _ r.2.listen_is also.listen_is,
       same_number_or _ _ _ _ r.2.room_is also.room_is,
@@ -251,30 +251,30 @@ plan_not_found m rows is none = record {
   no_readings = no_readings_of (subcommand_rows_of m) (codes "plan") rows is plan_is_no_timeline;
 }
 
-node_not_said : (found : Found) (rows : List Row) → found ≡ Some (codes "node", rows) → ((values : NodeValues) → ¬ HasNode rows values)
+node_not_said : (found : Found) (rows : List Row) → found ≡ Some (codes "node", rows) → ((values : NodeValues) → ¬ HasNodeValues rows values)
     → (wanted : Wanted) → ¬ FindsCommand found wanted
 node_not_said found rows is none (Node values) finds =
-    none values (subst (λ (r : List Row). HasNode r values) (same_rows found _ finds.0 rows finds.1 is) finds.2)
+    none values (subst (λ (r : List Row). HasNodeValues r values) (same_rows found _ finds.0 rows finds.1 is) finds.2)
 node_not_said found rows is none wanted finds =
     texts_differ (name_of wanted) (codes "node") refl refl (one_name found wanted (codes "node") rows finds is)
 
 -- a node without its values
-pub node_not_found : (m : ArgMatches) (rows : List Row) → subcommand_rows_of m ≡ Some (codes "node", rows) → ((values : NodeValues) → ¬ HasNode rows values)
+pub node_not_found : (m : ArgMatches) (rows : List Row) → subcommand_rows_of m ≡ Some (codes "node", rows) → ((values : NodeValues) → ¬ HasNodeValues rows values)
     → FindsNothing (subcommand_rows_of m)
 node_not_found m rows is none = record {
   no_command = node_not_said (subcommand_rows_of m) rows is none;
   no_readings = no_readings_of (subcommand_rows_of m) (codes "node") rows is node_is_no_timeline;
 }
 
-proxy_not_said : (found : Found) (rows : List Row) → found ≡ Some (codes "proxy", rows) → ((values : ProxyValues) → ¬ HasProxy rows values)
+proxy_not_said : (found : Found) (rows : List Row) → found ≡ Some (codes "proxy", rows) → ((values : ProxyValues) → ¬ HasProxyValues rows values)
     → (wanted : Wanted) → ¬ FindsCommand found wanted
 proxy_not_said found rows is none (Proxy values) finds =
-    none values (subst (λ (r : List Row). HasProxy r values) (same_rows found _ finds.0 rows finds.1 is) finds.2)
+    none values (subst (λ (r : List Row). HasProxyValues r values) (same_rows found _ finds.0 rows finds.1 is) finds.2)
 proxy_not_said found rows is none wanted finds =
     texts_differ (name_of wanted) (codes "proxy") refl refl (one_name found wanted (codes "proxy") rows finds is)
 
 -- a proxy without its values
-pub proxy_not_found : (m : ArgMatches) (rows : List Row) → subcommand_rows_of m ≡ Some (codes "proxy", rows) → ((values : ProxyValues) → ¬ HasProxy rows values)
+pub proxy_not_found : (m : ArgMatches) (rows : List Row) → subcommand_rows_of m ≡ Some (codes "proxy", rows) → ((values : ProxyValues) → ¬ HasProxyValues rows values)
     → FindsNothing (subcommand_rows_of m)
 proxy_not_found m rows is none = record {
   no_command = proxy_not_said (subcommand_rows_of m) rows is none;

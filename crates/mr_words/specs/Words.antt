@@ -93,14 +93,14 @@ IsNumberOr usual None number = number ≡ usual
 IsNumberOr usual (Some word) number = IsNumberWord word number
 
 -- the rows that a parse found hold the values of a node
-pub record HasNode (rows : List Row) (values : NodeValues) : Type 0 where
+pub record HasNodeValues (rows : List Row) (values : NodeValues) : Type 0 where
   pub listen_is : first_of (codes "listen") rows ≡ Some values.listen.now
   pub capacity_is : IsNumberOr usual_capacity (one_of (codes "capacity") rows) values.capacity
   pub clients_is : IsNumberOr usual_clients (one_of (codes "clients") rows) values.clients
   pub turns_is : IsNumberOr usual_turns (one_of (codes "turns") rows) values.turns
 
 -- the rows that a parse found hold the values of a proxy
-pub record HasProxy (rows : List Row) (values : ProxyValues) : Type 0 where
+pub record HasProxyValues (rows : List Row) (values : ProxyValues) : Type 0 where
   pub config_is : first_of (codes "config") rows ≡ Some values.config.now
   pub listen_is : first_of (codes "listen") rows ≡ Some values.listen.now
   pub room_is : IsNumberOr usual_room (one_of (codes "room") rows) values.room
@@ -120,22 +120,22 @@ abbrev pub Found : Type 0
 Found = Option (Text × List Row)
 
 -- the command of this name was found, with rows of which this holds
-abbrev pub Finds : Text → (List Row → Type 0) → Found → Type 0
-Finds name holds found = (rows : List Row) × (found ≡ Some (name, rows)) × holds rows
+abbrev pub FindsRows : Text → (List Row → Type 0) → Found → Type 0
+FindsRows name holds found = (rows : List Row) × (found ≡ Some (name, rows)) × holds rows
 
 -- this command was found
 abbrev pub FindsCommand : Found → Wanted → Type 0
-FindsCommand found (Plan values) = Finds (codes "plan") (λ rows. HasPlan rows values) found
-FindsCommand found (Timeline values) = Finds (codes "timeline") (λ rows. HasTimeline rows values) found
-FindsCommand found (Run file) = Finds (codes "run") (λ rows. HasFile rows (path_in file)) found
-FindsCommand found (Check file) = Finds (codes "check") (λ rows. HasFile rows (path_in file)) found
-FindsCommand found (Node values) = Finds (codes "node") (λ rows. HasNode rows values) found
-FindsCommand found (Proxy values) = Finds (codes "proxy") (λ rows. HasProxy rows values) found
-FindsCommand found (Explain explanation) = Finds (codes "explain") (λ rows. HasExplanation rows (told_by explanation)) found
+FindsCommand found (Plan values) = FindsRows (codes "plan") (λ rows. HasPlan rows values) found
+FindsCommand found (Timeline values) = FindsRows (codes "timeline") (λ rows. HasTimeline rows values) found
+FindsCommand found (Run file) = FindsRows (codes "run") (λ rows. HasFile rows (path_in file)) found
+FindsCommand found (Check file) = FindsRows (codes "check") (λ rows. HasFile rows (path_in file)) found
+FindsCommand found (Node values) = FindsRows (codes "node") (λ rows. HasNodeValues rows values) found
+FindsCommand found (Proxy values) = FindsRows (codes "proxy") (λ rows. HasProxyValues rows values) found
+FindsCommand found (Explain explanation) = FindsRows (codes "explain") (λ rows. HasExplanation rows (told_by explanation)) found
 
 -- a timeline was found whose readings are no list of numbers
 abbrev pub FindsBadReadings : Found → Type 0
-FindsBadReadings found = Finds (codes "timeline") HasBadReadings found
+FindsBadReadings found = FindsRows (codes "timeline") HasBadReadings found
 
 -- the program's command line finds no fault in the words, and of what it finds in them this holds
 pub record SayWhat (words : List Text) (holds : Found → Type 0) : Type 0 where

@@ -2,7 +2,7 @@
 ghost use Rattle.std.specs.Prelude.{◌≡◌, false, IfOk, IfSome, IfNone, codes};
 ghost use Rattle.clap.specs.Words.{app_of, found_of, rows_of, rule_of};
 ghost use Rattle.mr_words.specs.Command.{node_app, proxy_app, number_rule};
-ghost use Rattle.mr_words.specs.Words.{HasNode, HasProxy};
+ghost use Rattle.mr_words.specs.Words.{HasNodeValues, HasProxyValues};
 
 use crate::help::{NODE_NOTES, PROXY_NOTES};
 use crate::options::{config_option, listen_option, number_option, number_or, with_option};
@@ -112,8 +112,8 @@ pub fn proxy_command<'a>(alloc: Global) -> Result<Command<'a>, AllocError>
 
 /// The values of the command `node`, where each of them was found or is the usual one.
 pub fn node_values<'a>(matches: &ArgMatches<'a>) -> Option<NodeValues<'a>>
-    ensures found { IfSome result (HasNode (rows_of (found_of matches.now))) }
-    ensures missing { IfNone result ((values : NodeValues) → ¬ HasNode (rows_of (found_of matches.now)) values) }
+    ensures found { IfSome result (HasNodeValues (rows_of (found_of matches.now))) }
+    ensures missing { IfNone result ((values : NodeValues) → ¬ HasNodeValues (rows_of (found_of matches.now)) values) }
 {
     Some(NodeValues {
         listen: matches.get_str("listen")?,
@@ -125,8 +125,8 @@ pub fn node_values<'a>(matches: &ArgMatches<'a>) -> Option<NodeValues<'a>>
 
 /// The values of the command `proxy`, where each of them was found or is the usual one.
 pub fn proxy_values<'a>(matches: &ArgMatches<'a>) -> Option<ProxyValues<'a>>
-    ensures found { IfSome result (HasProxy (rows_of (found_of matches.now))) }
-    ensures missing { IfNone result ((values : ProxyValues) → ¬ HasProxy (rows_of (found_of matches.now)) values) }
+    ensures found { IfSome result (HasProxyValues (rows_of (found_of matches.now))) }
+    ensures missing { IfNone result ((values : ProxyValues) → ¬ HasProxyValues (rows_of (found_of matches.now)) values) }
 {
     Some(ProxyValues {
         config: matches.get_str("config")?,

@@ -9,12 +9,12 @@ use Rattle.mr_history.specs.declared.entry.Author.{Author}
 use Rattle.mr_history.specs.declared.entry.Author.TheVariants.{Beginning, By}
 use Rattle.mr_history.specs.declared.entry.Entry.{Entry}
 use Rattle.mr_history.specs.declared.entry.Entry.TheVariants as entry
-use Rattle.mr_history.specs.History.{IsIssued, WasIssued, IsFresh, IsSafe, IsWellFormed}
+use Rattle.mr_history.specs.History.{IsIssued, WasIssued, IsFreshHit, IsSafe, IsWellFormed}
 use Rattle.mr_history.specs.Places.{At}
 use Rattle.mr_join.specs.declared.leg_reply.LegReply.{LegReply}
 use Rattle.mr_join.specs.declared.leg_reply.LegReply.TheVariants as leg
 use Rattle.mr_node.specs.CacheStep.{Datum, Contents, Holds, CacheStep, contents_of}
-use Rattle.mr_node.specs.Command.{key_of}
+use Rattle.mr_node.specs.Command.{key_of_command}
 use Rattle.mr_node.specs.declared.command.NodeCommand.{NodeCommand}
 use Rattle.mr_node.specs.declared.command.NodeCommand.TheVariants.{Get, Set, Delete}
 use Rattle.mr_phases.specs.declared.side.Side.{Side}
@@ -35,7 +35,7 @@ use Rattle.mr_world.specs.Ground.{LegUpTo, LegFrom, IsSource, IsHeld, home_of}
 use Rattle.mr_world.specs.Ground.IsSource.{from_beginning, from_set}
 use Rattle.mr_world.specs.Grounded.{IsGrounded}
 use Rattle.mr_world.specs.Lists.{Has}
-use Rattle.mr_world.specs.Positions.{number_of}
+use Rattle.mr_world.specs.Positions.{node_number}
 use Rattle.mr_world.specs.Steps.{performed, Delivers}
 use Rattle.mr_world.specs.WorldView.{WorldView}
 use Rattle.mr_world.proofs.Lists.{at_within, at_one, at_last, at_new, at_set, has_one, has_none}
@@ -69,7 +69,7 @@ after_delete old key _ new other datum s h = absurd s
 
 -- a hit was there, under the key that was asked for
 hit_was_there : (old : Contents) (c : NodeCommand) (flags : ℕ) (block : List ℕ) (new : Contents) → CacheStep old c (leg.Hit flags block) new
-    → (c ≡ Get (key_of c)) × Holds old (key_of c) (record { flags = flags; block = block })
+    → (c ≡ Get (key_of_command c)) × Holds old (key_of_command c) (record { flags = flags; block = block })
 hit_was_there old (Get key) flags block new s = (refl, s.0)
 hit_was_there old (Set key f e b) flags block new s = absurd s
 hit_was_there old (Delete key) flags block new s = absurd s
@@ -107,7 +107,7 @@ has_home routing pool key r below = record {
 module _ (L : GroundLaws) where
   -- no node keeps keys of two pools
   homes_apart : (nodes : List Node) (routing : RoutingView) (pool other : ℕ) (key name : List ℕ) → IsRouting routing
-      → ((number index : ℕ) → HasNode routing number index → number_of nodes (name_at routing number index) < length nodes)
+      → ((number index : ℕ) → HasNode routing number index → node_number nodes (name_at routing number index) < length nodes)
       → pool < length routing.pools → other < length routing.pools → home_of nodes routing pool key ≡ home_of nodes routing other name → pool ≡ other
   homes_apart nodes routing pool other key name r named below below' same =
       let first = has_home routing pool key r below in
@@ -126,7 +126,7 @@ module _ (L : GroundLaws) where
   -- what a get finds is fresh for it
   found : (routing : RoutingView) (hops : List Hop) (w : WorldView) (m : Message) (item : Item) → IsGrounded routing hops w → IsWellFormed w.history → IsFaithfulWorld w
       → Has w.sent m → m.sheet.command ≡ Get item.key → IsHeld w.sent w.history (pool_at m.sheet) item
-      → (was : WasIssued w.history m.sheet.id.op) × IsFresh w.history item was.place (length w.history)
+      → (was : WasIssued w.history m.sheet.id.op) × IsFreshHit w.history item was.place (length w.history)
   found routing hops w m item g formed f has is held =
       let get = g.gets_later m item.key has is in (
         get.was,
@@ -203,7 +203,7 @@ left_held S H m old new reply (Delete gone) has is step pool key datum here hold
 module _ (L : GroundLaws) where
   pub delivers_grounded : (routing : RoutingView) (hops : List Hop) (w : WorldView) (n now : ℕ) (note : Note) (new : WorldView) → Delivers w n now note new
       → IsWellFormed w.history → IsWellFormed new.history → IsFaithfulWorld w
-      → ((number index : ℕ) → HasNode routing number index → number_of w.nodes (name_at routing number index) < length w.nodes)
+      → ((number index : ℕ) → HasNode routing number index → node_number w.nodes (name_at routing number index) < length w.nodes)
       → IsGrounded routing hops w → IsGrounded routing hops new
   delivers_grounded routing hops w n now note new step formed formed' f named g =
       let m = step.message in
@@ -222,7 +222,7 @@ module _ (L : GroundLaws) where
       subst (IsGrounded routing hops) (sym step.becomes) (record {
         plan = g.plan;
         least = g.least;
-        goes = λ k there. g.goes k there ∙ sym (home (pool_at k.sheet) (key_of k.sheet.command));
+        goes = λ k there. g.goes k there ∙ sym (home (pool_at k.sheet) (key_of_command k.sheet.command));
         reached = g.reached;
         reach_down = down_quiet hops g.reach_down quiet;
         sets_later = sets_quiet g.sets_later quiet;
@@ -231,14 +231,14 @@ module _ (L : GroundLaws) where
             let at' = subst (λ k. At nodes k node) (home pool key) at in
             elim (at_set w.nodes m.node written at') [
               | inl here ↦
-                  let same : pool ≡ pool_at m.sheet = homes_apart L w.nodes routing pool (pool_at m.sheet) key (key_of m.sheet.command) g.plan.sound named below mine (here.0 ∙ g.goes m has) in
+                  let same : pool ≡ pool_at m.sheet = homes_apart L w.nodes routing pool (pool_at m.sheet) key (key_of_command m.sheet.command) g.plan.sound named below mine (here.0 ∙ g.goes m has) in
                   left_held S H m (contents_of step.node.cache.items) (contents_of step.left.items) step.reply m.sheet.command has refl cached pool key datum same
                   (subst (λ (x : Node). Holds (contents_of x.cache.items) key datum) (here.1) holds)
                   (λ before. g.held pool step.node key datum below (subst (λ k. At w.nodes k step.node) (sym (here.0)) step.there) before)
               | inr there ↦
                   other_held S H m m.sheet.command pool _ (g.held pool node key datum below (there.1) holds)
                   (λ k is same equal. there.0 (
-                  ap (λ x. home_of w.nodes routing x key) same ∙ ap (home_of w.nodes routing (pool_at m.sheet)) (equal ∙ sym (ap key_of is)) ∙ sym (g.goes m has)
+                  ap (λ x. home_of w.nodes routing x key) same ∙ ap (home_of w.nodes routing (pool_at m.sheet)) (equal ∙ sym (ap key_of_command is)) ∙ sym (g.goes m has)
                   ))
             ];
         fresh = λ k flags block c.
@@ -250,12 +250,12 @@ module _ (L : GroundLaws) where
                   let same : k ≡ m = at_one (subst (λ i. At S i k) from c.was_sent) step.sent in
                   let hit = hit_was_there (contents_of step.node.cache.items) m.sheet.command flags block (contents_of step.left.items)
                   (subst (λ r. CacheStep (contents_of step.node.cache.items) m.sheet.command r (contents_of step.left.items)) reply cached) in
-                  let held = g.held (pool_at m.sheet) step.node (key_of m.sheet.command) (record { flags = flags; block = block }) mine
+                  let held = g.held (pool_at m.sheet) step.node (key_of_command m.sheet.command) (record { flags = flags; block = block }) mine
                   (subst (λ i. At w.nodes i step.node) (g.goes m has) step.there) (hit.1) in
-                  let got = found L routing hops w m (record { key = key_of m.sheet.command; flags = flags; block = block }) g formed f has (hit.0) held in
+                  let got = found L routing hops w m (record { key = key_of_command m.sheet.command; flags = flags; block = block }) g formed f has (hit.0) held in
                   let below = at_within (got.0).issued.there in
                   subst (λ (x : Message). (was : WasIssued (H ++ K) x.sheet.id.op)
-                  × IsFresh (H ++ K) (record { key = key_of x.sheet.command; flags = flags; block = block }) was.place (length (H ++ K))) (sym same)
+                  × IsFreshHit (H ++ K) (record { key = key_of_command x.sheet.command; flags = flags; block = block }) was.place (length (H ++ K))) (sym same)
                   (still_issued K (got.0), fresh_more L H K _ _ grown (omega arith) (got.1))
             ];
       })

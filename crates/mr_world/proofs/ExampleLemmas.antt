@@ -13,7 +13,7 @@ use Rattle.mr_history.specs.Places.{At}
 use Rattle.mr_join.specs.declared.leg_reply.LegReply.{LegReply}
 use Rattle.mr_join.specs.declared.leg_reply.LegReply.TheVariants.{Hit, Stored, Deleted, NotFound}
 use Rattle.mr_node.specs.declared.command.NodeCommand.TheVariants as command
-use Rattle.mr_node.specs.Recency.{items_after, reply_of}
+use Rattle.mr_node.specs.Recency.{items_after, reply_to}
 use Rattle.mr_phases.specs.declared.side.Side.TheVariants.{Old, New}
 use Rattle.mr_phases.specs.Schedule.{Hop, IsSchedule}
 use Rattle.mr_pools.specs.declared.hash.NamedHash.TheVariants.{Sum}
@@ -33,7 +33,7 @@ use Rattle.mr_world.specs.declared.setup.ProxySetup.{ProxySetup}
 use Rattle.mr_world.specs.declared.setup.HeldItem.{HeldItem}
 use Rattle.mr_world.specs.Example.{Happens}
 use Rattle.mr_world.specs.Headline.{IsPlan}
-use Rattle.mr_world.specs.Setup.{SetupView, proxies_from, nodes_at_first, held_entry, empty_node, with_item, least_of, AllAlike, MovesTo, IsNewPoolEmpty}
+use Rattle.mr_world.specs.Setup.{SetupView, proxies_from, nodes_at_first, held_entry, empty_node, with_item, least_interval_of, AllAlike, MovesTo, IsNewPoolEmpty}
 use Rattle.mr_world.specs.Steps.{WorldStep, WorldRun, Issues, Delivers, Returns, message_of, performed, answered_by, note_of}
 use Rattle.mr_world.specs.WorldView.{WorldView}
 
@@ -75,7 +75,7 @@ w0 = record {
   sent = [];
   replies = [];
   history = map held_entry setup.held;
-  terms = record { same = true; new_empty = true; least = least_of setup.proxies };
+  terms = record { same = true; new_empty = true; least = least_interval_of setup.proxies };
 }
 
 -- what each kind of event makes of a fleet
@@ -105,7 +105,7 @@ abbrev delivered : WorldView → ℕ → Message → Node → WorldView
 delivered w number message node =
     record w {
       nodes = slice_set w.nodes message.node (record { name = node.name; cache = record node.cache { items = items_after node.cache.capacity 1 message.sheet.command node.cache.items } });
-      replies = w.replies ++ record { message = number; reply = reply_of 1 message.sheet.command node.cache.items } ∷ [];
+      replies = w.replies ++ record { message = number; reply = reply_to 1 message.sheet.command node.cache.items } ∷ [];
       history = w.history ++ performed message.sheet message.sheet.command;
     }
 
@@ -114,7 +114,7 @@ does_deliver : (w : WorldView) (number : ℕ) (message : Message) (node : Node) 
 does_deliver w number message node sent there = record {
   message = message;
   node = node;
-  reply = reply_of 1 message.sheet.command node.cache.items;
+  reply = reply_to 1 message.sheet.command node.cache.items;
   left = record node.cache { items = items_after node.cache.capacity 1 message.sheet.command node.cache.items };
   sent = sent;
   there = there;

@@ -34,7 +34,7 @@ use Rattle.mr_proxy.specs.Sheets.{commands_of}
 use Rattle.mr_proxy.specs.Sheets.{sheets_by}
 use Rattle.mr_proxy.specs.ProxyView.{ProxyView}
 use Rattle.mr_proxy.specs.Sheets.{IsSheetOf}
-use Rattle.mr_proxy.specs.Whole.{IsWhole}
+use Rattle.mr_proxy.specs.Whole.{IsWholeAnswer}
 use Rattle.mr_proxy.specs.Sound.{IsSound, IsSoundPending, IsSoundAnswer, HasFound, WasDeleted, sheet_of}
 use Rattle.mr_proxy.specs.Transitions.{place_of_op, pending_with, noted_by, settled, after_take, taken_by, taken_of, left_by, after_give_up, given_up_in, given_up_of, after_restart}
 use Rattle.mr_world.specs.declared.event.Event.{Event}
@@ -46,7 +46,7 @@ use Rattle.mr_world.specs.Facts.{IsRemovedBetween, WasSet, WasDelete, CameBack, 
 use Rattle.mr_world.specs.declared.setup.HeldItem.{HeldItem}
 use Rattle.mr_world.specs.Lists.{Has}
 use Rattle.mr_world.specs.Setup.{SetupView, held_entry, Begins}
-use Rattle.mr_world.specs.Steps.{message_of, performed, answered, answered_by, Issues, Asks, Delivers, Returns, GivesUp, Restarts, WorldStep}
+use Rattle.mr_world.specs.Steps.{message_of, performed, answered, answered_by, Issues, ClientAsks, Delivers, Returns, GivesUp, Restarts, WorldStep}
 use Rattle.mr_world.specs.Tracked.{IsTracked, IsWaiting}
 use Rattle.mr_world.specs.WorldView.{WorldView}
 use Rattle.mr_world.proofs.Lists.{test_holds, at_within, at_one, at_left, at_before, at_cases, at_last, at_new, at_take, at_taken, at_none, at_set, has_left, has_right, has_cases, has_head, has_one, has_none, has_map, has_mapped, has_set, has_kept, has_written, has_removed, get_mapped}
@@ -493,8 +493,8 @@ module _ (says : (routing : RoutingView) (hops : List Hop) (op : OpId) (u : ℕ)
 -- a request that is answered
 
 record AnswerLaws : Type 0 where
-  pub acknowledged : (answer : AnswerView) (key : List ℕ) (noreply : Bool) → IsWhole answer → answer.request ≡ request.Delete key noreply → Acknowledges (reply_of answer) → All WasDeleted answer.slots
-  pub found : (answer : AnswerView) (items : List Item) → IsWhole answer → reply_of answer ≡ Items items → All (HasFound answer.slots) items
+  pub acknowledged : (answer : AnswerView) (key : List ℕ) (noreply : Bool) → IsWholeAnswer answer → answer.request ≡ request.Delete key noreply → Acknowledges (reply_of answer) → All WasDeleted answer.slots
+  pub found : (answer : AnswerView) (items : List Item) → IsWholeAnswer answer → reply_of answer ≡ Items items → All (HasFound answer.slots) items
 
 all_has : {X : Type 0} (P : X → Type 0) (xs : List X) (x : X) → All P xs → Has xs x → P x
 all_has P xs x all h = subst P (get_or_from_slice_get xs h.place x x h.there.gets) (all h.place x (at_within h.there))
@@ -503,7 +503,7 @@ same_reply : {a b : OpId} {r s : _} → Answered a r ≡ Answered b s → (a ≡
 same_reply e = (cc, cc)
 
 answer_faithful : AnswerLaws → (P : List ProxyView) (S : List Message) (R : List Delivery) (H : List Entry) (x : PendingView) (answer : AnswerView) (b : Bool) → answer ≡ answer_of x b
-    → IsWhole answer → IsWellFormed (H ++ answered answer) → IsUnderWay S R H x → IsFaithful P S R H
+    → IsWholeAnswer answer → IsWellFormed (H ++ answered answer) → IsUnderWay S R H x → IsFaithful P S R H
     → ((pending : PendingView) → IsWaiting P pending → IsUnderWay S R H pending) → IsFaithful P S R (H ++ answered answer)
 answer_faithful L P S R H x answer b is whole formed way f waiting =
     let K = answered answer in
@@ -571,9 +571,9 @@ pub record FactLaws : Type 0 where
       → slice_get (sheets_by routing hops op u q) place ≡ Some sheet → IsSheetOf routing hops op u q place sheet
   pub last_reply : (p : ProxyView) (id : LegId) (reply : LegReply) (answer : AnswerView) → IsSound p → taken_of p id reply ≡ taken.Answered answer → IsSoundAnswer p answer
   pub given_up : (p : ProxyView) (op : OpId) (answer : AnswerView) → IsSound p → given_up_of p op ≡ Some answer → IsSoundAnswer p answer
-  pub acknowledged : (answer : AnswerView) (key : List ℕ) (noreply : Bool) → IsWhole answer → answer.request ≡ request.Delete key noreply → Acknowledges (reply_of answer)
+  pub acknowledged : (answer : AnswerView) (key : List ℕ) (noreply : Bool) → IsWholeAnswer answer → answer.request ≡ request.Delete key noreply → Acknowledges (reply_of answer)
       → All WasDeleted answer.slots
-  pub found : (answer : AnswerView) (items : List Item) → IsWhole answer → reply_of answer ≡ Items items → All (HasFound answer.slots) items
+  pub found : (answer : AnswerView) (items : List Item) → IsWholeAnswer answer → reply_of answer ≡ Items items → All (HasFound answer.slots) items
 
 sound_pending : (p : ProxyView) (e : PendingView) → IsSound p → Has p.outstanding e → IsSoundPending p e
 sound_pending p e s h = all_has (IsSoundPending p) p.outstanding e s.pendings h
@@ -655,7 +655,7 @@ module _ (L : FactLaws) where
       (same_but_proxies w.proxies (slice_set w.proxies n after) w.sent w.replies w.history f
       (under_way_set w.proxies n step.proxy after (IsUnderWay w.sent w.replies w.history) step.home f.waiting (λ e h. has_none h)))
 
-  asks_faithful : (w : WorldView) (n : ℕ) (q : Request) (note : Note) (new : WorldView) → Asks w n q note new → IsWellFormed new.history → IsTracked w
+  asks_faithful : (w : WorldView) (n : ℕ) (q : Request) (note : Note) (new : WorldView) → ClientAsks w n q note new → IsWellFormed new.history → IsTracked w
       → IsFaithful w.proxies w.sent w.replies w.history → IsFaithful new.proxies new.sent new.replies new.history
   asks_faithful w n (request.Get keys) note new step formed t f = issues_faithful L.says w n (request.Get keys) note new step formed t f
   asks_faithful w n (request.Set key flags exptime block noreply) note new step formed t f =

@@ -7,7 +7,7 @@ use Rattle.mr_history.specs.declared.op_id.OpId.{OpId}
 use Rattle.mr_history.specs.declared.entry.Author.{Author}
 use Rattle.mr_history.specs.declared.entry.Entry.{Entry}
 use Rattle.mr_history.specs.declared.entry.Entry.TheVariants as entry
-use Rattle.mr_history.specs.History.{IsIssued, WasIssued, IsHit, IsFresh, IsSafe, IsWellFormed}
+use Rattle.mr_history.specs.History.{IsIssued, WasIssued, IsHit, IsFreshHit, IsSafe, IsWellFormed}
 use Rattle.mr_join.specs.declared.leg_reply.LegReply.{LegReply}
 use Rattle.mr_node.specs.CacheStep.{CacheStep, contents_of}
 use Rattle.mr_node.specs.Recency.{CacheView, RecencyStep}
@@ -40,11 +40,11 @@ pub record GroundLaws : Type 0 where
       → RecencyStep old now command reply new → CacheStep (contents_of old.items) command reply (contents_of new.items)
   pub stand_once : (routing : RoutingView) (p q i j : ℕ) → IsRouting routing → HasNode routing p i → HasNode routing q j
       → name_at routing p i ≡ name_at routing q j → (p ≡ q) × (i ≡ j)
-  pub fresh_grows : (history later : List Entry) (item : Item) (issue answer : ℕ) → IsWellFormed (history ++ later) → IsFresh history item issue answer
-      → issue ≤ length history → IsFresh (history ++ later) item issue answer
+  pub fresh_grows : (history later : List Entry) (item : Item) (issue answer : ℕ) → IsWellFormed (history ++ later) → IsFreshHit history item issue answer
+      → issue ≤ length history → IsFreshHit (history ++ later) item issue answer
   pub safe_grows : (history : List Entry) (entry : Entry) → IsWellFormed (history ++ entry ∷ []) → IsSafe history
       → ((get : OpId) (item : Item) (issue index : ℕ) → IsHit (history ++ entry ∷ []) get item issue (length history) index
-      → IsFresh (history ++ entry ∷ []) item issue (length history))
+      → IsFreshHit (history ++ entry ∷ []) item issue (length history))
       → IsSafe (history ++ entry ∷ [])
 
 -- what was sent
@@ -123,8 +123,8 @@ held_grows {H = H} {K = K} h none = record {
 
 module _ (L : GroundLaws) where
   -- what is fresh by now stays so
-  pub fresh_more : (H K : List Entry) (item : Item) (issue : ℕ) → IsWellFormed (H ++ K) → issue ≤ length H → IsFresh H item issue (length H)
-      → IsFresh (H ++ K) item issue (length (H ++ K))
+  pub fresh_more : (H K : List Entry) (item : Item) (issue : ℕ) → IsWellFormed (H ++ K) → issue ≤ length H → IsFreshHit H item issue (length H)
+      → IsFreshHit (H ++ K) item issue (length (H ++ K))
   fresh_more H K item issue formed early f =
       let g = L.fresh_grows H K item issue (length H) formed f early in
       record { place = g.place; stored = g.stored; before = (let b = g.before in let l = length_left H K in omega arith); after = g.after }

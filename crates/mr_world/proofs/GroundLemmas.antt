@@ -10,10 +10,10 @@ use Rattle.mr_clock.specs.Clocks.{NeverGoesBack}
 use Rattle.mr_history.specs.declared.op_id.OpId.{OpId}
 use Rattle.mr_history.specs.declared.entry.Entry.{Entry}
 use Rattle.mr_history.specs.declared.entry.Entry.TheVariants as entry
-use Rattle.mr_history.specs.History.{IsIssued, IsFresh, IsSafe, IsWellFormed}
+use Rattle.mr_history.specs.History.{IsIssued, IsFreshHit, IsSafe, IsWellFormed}
 use Rattle.mr_history.specs.Places.{At}
 use Rattle.mr_node.specs.CacheStep.{Holds, contents_of}
-use Rattle.mr_node.specs.Command.{key_of}
+use Rattle.mr_node.specs.Command.{key_of_command}
 use Rattle.mr_phases.specs.Pools.{read_pool, delete_pools, SomeFrom}
 use Rattle.mr_phases.specs.Schedule.{Hop, IsChain, first_start, first_interval}
 use Rattle.mr_pools.specs.Names.{name_at}
@@ -37,9 +37,9 @@ use Rattle.mr_world.specs.Ground.{HitsAreFresh, IsGround}
 use Rattle.mr_world.specs.Grounded.{IsGrounded, IsSecured, StaysSecured}
 use Rattle.mr_world.specs.Headline.{AllHold, DeletesHold, StandsOnGround}
 use Rattle.mr_world.specs.Lists.{Has}
-use Rattle.mr_world.specs.Positions.{number_of}
+use Rattle.mr_world.specs.Positions.{node_number}
 use Rattle.mr_world.specs.Premises.{premises_of, ticks_in}
-use Rattle.mr_world.specs.Steps.{is_noreply, answered, answered_by, Ticks, Issues, Asks, Delivers, Returns, GivesUp, Empties, Restarts, WorldStep}
+use Rattle.mr_world.specs.Steps.{is_noreply, answered, answered_by, Ticks, Issues, ClientAsks, Delivers, Returns, GivesUp, Empties, Restarts, WorldStep}
 use Rattle.mr_world.specs.Tracked.{IsTracked}
 use Rattle.mr_world.specs.WorldView.{WorldView}
 use Rattle.mr_world.proofs.Lists.{at_one, at_set, at_there, at_left, at_within, has_one, has_none}
@@ -99,14 +99,14 @@ module _ (L : GroundLaws) where
       L.safe_grows H (entry.Answered op reply) formed safe (λ get item issue index hit.
       let found = hits get hit.items item (length H) hit.answered (record { place = index; there = hit.has }) in
       let kept = fresh found.message item.flags item.block found.came in
-      let key : key_of found.message.sheet.command ≡ item.key = ap key_of found.asked in
+      let key : key_of_command found.message.sheet.command ≡ item.key = ap key_of_command found.asked in
       let was = kept.0 in
       let below = at_within was.issued.there in
       let own = subst (λ o. IsIssued (H ++ entry.Answered op reply ∷ []) o was.request was.place) found.of_get
       (record { proxy = was.issued.proxy; there = at_left (entry.Answered op reply ∷ []) was.issued.there }) in
       let place : was.place ≡ issue = issued_place formed own hit.issued in
-      let early : IsFresh H item was.place (length H) = subst (λ k. IsFresh H (record { key = k; flags = item.flags; block = item.block }) was.place (length H)) key (kept.1) in
-      subst (λ i. IsFresh (H ++ entry.Answered op reply ∷ []) item i (length H)) place
+      let early : IsFreshHit H item was.place (length H) = subst (λ k. IsFreshHit H (record { key = k; flags = item.flags; block = item.block }) was.place (length H)) key (kept.1) in
+      subst (λ i. IsFreshHit (H ++ entry.Answered op reply ∷ []) item i (length H)) place
       (L.fresh_grows H (entry.Answered op reply ∷ []) item was.place (length H) formed early (omega arith)))
   answers_safe S R H (e ∷ (f ∷ K)) only formed hits fresh safe = elim only [ ]
 
@@ -149,13 +149,13 @@ module _ (L : GroundLaws) where
   empties_grounded : (routing : RoutingView) (hops : List Hop) (w : WorldView) (name : List ℕ) (note : Note) (new : WorldView) → Empties w name note new
       → IsGrounded routing hops w → IsGrounded routing hops new
   empties_grounded routing hops w name note new step g =
-      let k = number_of w.nodes name in
+      let k = node_number w.nodes name in
       let empty : Node = record { name = step.node.name; cache = record step.node.cache { items = [] } } in
       let home = λ (pool : ℕ) (key : List ℕ). number_written w.nodes k step.node empty (name_at routing pool (place_of routing.hash (pool_of routing pool) key)) step.there.gets refl in
       subst (IsGrounded routing hops) (sym step.becomes) (record {
         plan = g.plan;
         least = g.least;
-        goes = λ m has. g.goes m has ∙ sym (home (pool_at m.sheet) (key_of m.sheet.command));
+        goes = λ m has. g.goes m has ∙ sym (home (pool_at m.sheet) (key_of_command m.sheet.command));
         reached = g.reached;
         reach_down = g.reach_down;
         sets_later = g.sets_later;
@@ -319,7 +319,7 @@ module _ (L : GroundLaws) where
       (issued_grounded L old number u p q track step.clock past near ground grown (slice_set old.proxies number after))))
 
   asks_secured : (old : WorldView) (number : ℕ) (q : Request) (note : Note) (new : WorldView) → IsTracked old → IsWellFormed new.history → old.readings.spread ≤ old.terms.least
-      → Asks old number q note new → IsSecured old → IsSecured new
+      → ClientAsks old number q note new → IsSecured old → IsSecured new
   asks_secured old number (request.Get keys) note new track formed near step s = issues_secured old number (request.Get keys) note new track formed near step s
   asks_secured old number (request.Set key flags exptime block noreply) note new track formed near step s =
       issues_secured old number (request.Set key flags exptime block noreply) note new track formed near step s

@@ -27,7 +27,7 @@ use Rattle.mr_world.specs.Grounded.{IsGrounded, StaysSecured}
 use Rattle.mr_world.specs.Headline.{AllHold, IsPlan, PremisesHold}
 use Rattle.mr_world.specs.Lists.{Has}
 use Rattle.mr_world.specs.Premises.{premises_of, ticks_of, PremisesAtFirst, PremisesAfter}
-use Rattle.mr_world.specs.Setup.{SetupView, held_entry, AllAlike, IsNewPoolEmpty, MovesTo, least_of, Begins}
+use Rattle.mr_world.specs.Setup.{SetupView, held_entry, AllAlike, IsNewPoolEmpty, MovesTo, least_interval_of, Begins}
 use Rattle.mr_world.specs.WorldView.{WorldView}
 use Rattle.mr_world.proofs.Lists.{at_within, has_none, has_map, get_mapped}
 use Rattle.mr_world.proofs.StartLemmas.{proxy_from}
@@ -177,7 +177,7 @@ premises_told setup first last events b at_first after hold =
       new_empty = subst IsTrue (sym after.new_empty) (at_first.new_empty.1 hold.new_empty);
       forward = after.forward.1 (at_first.forward, subst (λ r. NeverGoesBack r (ticks_of events)) (sym standing) hold.forward);
       near = after.near.1 (
-        at_first.near.1 (within_now (least_of setup.proxies) (map (λ proxy. proxy.reading) setup.proxies) (ticks_of events) hold.near),
+        at_first.near.1 (within_now (least_interval_of setup.proxies) (map (λ proxy. proxy.reading) setup.proxies) (ticks_of events) hold.near),
         subst (λ r. StayWithin first.terms.least r (ticks_of events)) (sym standing)
             (subst (λ n. StayWithin n (map (λ proxy. proxy.reading) setup.proxies) (ticks_of events)) (sym b.least) hold.near),
       );

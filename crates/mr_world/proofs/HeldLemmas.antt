@@ -14,45 +14,45 @@ use Rattle.mr_world.specs.declared.node.Node.{Node}
 use Rattle.mr_world.specs.declared.setup.HeldItem.{HeldItem}
 use Rattle.mr_world.specs.declared.setup.ProxySetup.{ProxySetup}
 use Rattle.mr_world.specs.Lists.{Has}
-use Rattle.mr_world.specs.Positions.{number_of}
-use Rattle.mr_world.specs.Setup.{SetupView, empty_node, with_name, with_pool, with_routing, nodes_of, with_item, hold_at, hold, nodes_at_first, least_from, least_of}
+use Rattle.mr_world.specs.Positions.{node_number}
+use Rattle.mr_world.specs.Setup.{SetupView, empty_node, with_name, with_pool, with_routing, nodes_of, with_item, hold_at, hold, nodes_at_first, least_interval_from, least_interval_of}
 use Rattle.mr_world.proofs.Lists.{test_holds, at_there, has_head, has_tail, has_none, has_cases, has_one, has_set}
 
 -- the node of a name has that name
-number_named : (nodes : List Node) (name : List ℕ) (node : Node) → slice_get nodes (number_of nodes name) ≡ Some node → node.name ≡ name
+number_named : (nodes : List Node) (name : List ℕ) (node : Node) → slice_get nodes (node_number nodes name) ≡ Some node → node.name ≡ name
 number_named nodes name node e =
     (bytes_eq-Decides node.name name).0 (test_holds (λ (x : Node). bytes_eq x.name name) nodes node e)
 
 -- two numbers of nodes that are there tell their names
-pub same_name : (nodes : List Node) (one other : List ℕ) → number_of nodes one < length nodes → number_of nodes one ≡ number_of nodes other → one ≡ other
+pub same_name : (nodes : List Node) (one other : List ℕ) → node_number nodes one < length nodes → node_number nodes one ≡ node_number nodes other → one ≡ other
 same_name nodes one other below same =
-    let (node, there) = at_there nodes (number_of nodes one) below in
-    let is_other : slice_get nodes (number_of nodes other) ≡ Some node = subst (λ k. slice_get nodes k ≡ Some node) same there.gets in
+    let (node, there) = at_there nodes (node_number nodes one) below in
+    let is_other : slice_get nodes (node_number nodes other) ≡ Some node = subst (λ k. slice_get nodes k ≡ Some node) same there.gets in
     sym (number_named nodes one node there.gets) ∙ number_named nodes other node is_other
 
 -- the least interval
 
-least_first : (least : ℕ) (proxies : List ProxySetup) → least_from least proxies ≤ least
+least_first : (least : ℕ) (proxies : List ProxySetup) → least_interval_from least proxies ≤ least
 least_first least [] = omega arith
 least_first least (x ∷ proxies) =
     let later = least_first (min least (least_interval x.schedule)) proxies in
     omega (arith, later)
 
 least_rest : (least : ℕ) (proxies : List ProxySetup) (place : ℕ) (proxy : ProxySetup) → slice_get proxies place ≡ Some proxy
-    → least_from least proxies ≤ least_interval proxy.schedule
+    → least_interval_from least proxies ≤ least_interval proxy.schedule
 least_rest least [] place proxy e = cc
 least_rest least (x ∷ proxies) zero proxy e =
     let same : x ≡ proxy = cc in
     let later = least_first (min least (least_interval x.schedule)) proxies in
-    subst (λ (y : ProxySetup). least_from (min least (least_interval x.schedule)) proxies ≤ least_interval y.schedule) same (omega (arith, later))
+    subst (λ (y : ProxySetup). least_interval_from (min least (least_interval x.schedule)) proxies ≤ least_interval y.schedule) same (omega (arith, later))
 least_rest least (x ∷ proxies) (suc place) proxy e = least_rest (min least (least_interval x.schedule)) proxies place proxy e
 
 -- no proxy's interval is less
-pub least_below : (proxies : List ProxySetup) (place : ℕ) (proxy : ProxySetup) → slice_get proxies place ≡ Some proxy → least_of proxies ≤ least_interval proxy.schedule
+pub least_below : (proxies : List ProxySetup) (place : ℕ) (proxy : ProxySetup) → slice_get proxies place ≡ Some proxy → least_interval_of proxies ≤ least_interval proxy.schedule
 least_below [] place proxy e = cc
 least_below (x ∷ proxies) zero proxy e =
     let same : x ≡ proxy = cc in
-    subst (λ (y : ProxySetup). least_from (least_interval x.schedule) proxies ≤ least_interval y.schedule) same (least_first (least_interval x.schedule) proxies)
+    subst (λ (y : ProxySetup). least_interval_from (least_interval x.schedule) proxies ≤ least_interval y.schedule) same (least_first (least_interval x.schedule) proxies)
 least_below (x ∷ proxies) (suc place) proxy e = least_rest (least_interval x.schedule) proxies place proxy e
 
 -- what nodes hold at the beginning
@@ -96,7 +96,7 @@ name_keeps_if held capacity nodes name false h = λ node has.
     ]
 
 name_keeps : (held : List HeldItem) (capacity : ℕ) (nodes : List Node) (name : List ℕ) → HoldsHeld held nodes → HoldsHeld held (with_name capacity nodes name)
-name_keeps held capacity nodes name h = name_keeps_if held capacity nodes name (nat_lt (number_of nodes name) (length nodes)) h
+name_keeps held capacity nodes name h = name_keeps_if held capacity nodes name (nat_lt (node_number nodes name) (length nodes)) h
 
 pool_keeps : (held : List HeldItem) (capacity : ℕ) (nodes : List Node) (pool : List (List ℕ)) → HoldsHeld held nodes → HoldsHeld held (with_pool capacity nodes pool)
 pool_keeps held capacity nodes pool h = fold_keeps held (with_name capacity) (λ before name. name_keeps held capacity before name) pool nodes h
@@ -133,7 +133,7 @@ hold_keeps_at law held nodes number item (Some node) e named has h = λ x there.
 
 hold_keeps : CacheLaw → (held : List HeldItem) (nodes : List Node) (item : HeldItem) → Has held item → HoldsHeld held nodes → HoldsHeld held (hold nodes item)
 hold_keeps law held nodes item has h =
-    hold_keeps_at law held nodes (number_of nodes item.node) item (slice_get nodes (number_of nodes item.node)) refl
+    hold_keeps_at law held nodes (node_number nodes item.node) item (slice_get nodes (node_number nodes item.node)) refl
     (λ node e. number_named nodes item.node node e) has h
 
 holds_keep : CacheLaw → (held : List HeldItem) (items : List HeldItem) (nodes : List Node) → ((item : HeldItem) → Has items item → Has held item)
@@ -144,10 +144,10 @@ holds_keep law held (x ∷ items) nodes among h =
 
 -- what a node holds at the beginning was held in the setup, by the node of that name
 pub held_at_first : CacheLaw → (setup : SetupView) (name : List ℕ) (node : Node) (key : List ℕ) (datum : Datum)
-    → At (nodes_at_first setup) (number_of (nodes_at_first setup) name) node → Holds (contents_of node.cache.items) key datum → WasHeld setup.held name key datum
+    → At (nodes_at_first setup) (node_number (nodes_at_first setup) name) node → Holds (contents_of node.cache.items) key datum → WasHeld setup.held name key datum
 held_at_first law setup name node key datum there holds =
     let nodes = nodes_at_first setup in
     let all : HoldsHeld setup.held nodes =
     holds_keep law setup.held setup.held (nodes_of setup.capacity setup.proxies) (λ item has. has) (nodes_hold setup.held setup.capacity setup.proxies) in
     subst (λ (n : List ℕ). WasHeld setup.held n key datum) (number_named nodes name node there.gets)
-    (all node (record { place = number_of nodes name; there = there }) key datum holds)
+    (all node (record { place = node_number nodes name; there = there }) key datum holds)

@@ -10,7 +10,7 @@ use Rattle.mr_history.specs.declared.entry.Entry.TheVariants as entry
 use Rattle.mr_history.specs.History.{IsIssued, WasIssued, IsSafe, IsWellFormed}
 use Rattle.mr_history.specs.Places.{At}
 use Rattle.mr_join.specs.declared.leg_reply.LegReply.{LegReply}
-use Rattle.mr_node.specs.Command.{key_of}
+use Rattle.mr_node.specs.Command.{key_of_command}
 use Rattle.mr_node.specs.declared.command.NodeCommand.{NodeCommand}
 use Rattle.mr_node.specs.declared.command.NodeCommand.TheVariants.{Get, Set, Delete}
 use Rattle.mr_phases.specs.Pools.{read_pool, delete_pools}
@@ -26,7 +26,7 @@ use Rattle.mr_world.specs.Facts.{CameBack}
 use Rattle.mr_world.specs.Ground.{SetSent, DeleteSent, LegUpTo, LegFrom, IsHeld, GetComesLater, SetsAreReached, DeletesReachDown, SetsComeLater, GetsComeLater, home_of}
 use Rattle.mr_world.specs.Grounded.{IsGrounded}
 use Rattle.mr_world.specs.Lists.{Has}
-use Rattle.mr_world.specs.Positions.{number_of}
+use Rattle.mr_world.specs.Positions.{node_number}
 use Rattle.mr_world.specs.Steps.{message_of}
 use Rattle.mr_world.specs.Tracked.{IsTracked}
 use Rattle.mr_world.specs.WorldView.{WorldView}
@@ -110,7 +110,7 @@ module _ (L : GroundLaws) (w : WorldView) (number u : ℕ) (p : ProxyView) (q : 
     pub is : m ≡ message_of w.nodes p.routing sheet
     pub of_op : m.sheet.id.op ≡ op
     pub goes : GoesBy hops u (pool_at m.sheet) m.sheet.command
-    pub node : m.node ≡ home_of w.nodes p.routing (pool_at m.sheet) (key_of m.sheet.command)
+    pub node : m.node ≡ home_of w.nodes p.routing (pool_at m.sheet) (key_of_command m.sheet.command)
 
   new_message : (m : Message) → Has T m → IsNew m
   new_message m has =
@@ -123,7 +123,7 @@ module _ (L : GroundLaws) (w : WorldView) (number u : ℕ) (p : ProxyView) (q : 
         is = refl;
         of_op = ap (λ (id : LegId). id.op) says.named;
         goes = subst (λ t. GoesBy hops t (pool_at sheet) sheet.command) now by;
-        node = ap (λ index. number_of w.nodes (name_at p.routing (pool_at sheet) index)) says.node;
+        node = ap (λ index. node_number w.nodes (name_at p.routing (pool_at sheet) index)) says.node;
       })
 
   is_near : (n c : ℕ) → At w.readings.standing n c → (u ≤ c + least_interval hops) × (c ≤ u + least_interval hops)
@@ -226,7 +226,7 @@ module _ (L : GroundLaws) (w : WorldView) (number u : ℕ) (p : ProxyView) (q : 
   came_old m r c =
       record { number = c.number; from = c.from; came = c.came; was_sent = at_before S T c.was_sent (track.replies c.number (record { message = c.from; reply = r }) c.came) }
 
-  new_goes : (m : Message) → Has (S ++ T) m → m.node ≡ home_of w.nodes p.routing (pool_at m.sheet) (key_of m.sheet.command)
+  new_goes : (m : Message) → Has (S ++ T) m → m.node ≡ home_of w.nodes p.routing (pool_at m.sheet) (key_of_command m.sheet.command)
   new_goes m has = elim (has_cases S T has) [ inl old ↦ g.goes m old | inr new ↦ (new_message m new).node ]
 
   pub issued_grounded : (P : List ProxyView) → IsGrounded p.routing p.schedule (record w { proxies = P; sent = S ++ T; history = H ++ K })

@@ -42,10 +42,10 @@ use Rattle.mr_world.specs.declared.message.Delivery.{Delivery}
 use Rattle.mr_world.specs.declared.node.Node.{Node}
 use Rattle.mr_world.specs.Lists.{Has}
 use Rattle.mr_world.specs.Network.{NetworkView, numbers_at, HasNumber, message_by}
-use Rattle.mr_world.specs.Refusals.{refused_past, refused_restart, refused_request, TakesMemory, IsRefusal}
+use Rattle.mr_world.specs.Refusals.{refused_past, refused_restart, refused_request, TakesMemory, IsEventRefusal}
 use Rattle.mr_world.specs.Setup.{proxies_from, AllAlike, hold_at, hold}
-use Rattle.mr_world.specs.Steps.{message_of, performed, Issues, Asks}
-use Rattle.mr_world.specs.Positions.{number_of}
+use Rattle.mr_world.specs.Steps.{message_of, performed, Issues, ClientAsks}
+use Rattle.mr_world.specs.Positions.{node_number}
 use Rattle.mr_world.specs.Tracked.{numbers_in}
 use Rattle.mr_world.specs.WorldView.{WorldView}
 use Rattle.mr_world.proofs.Lists.{at_within, has_head, has_tail}
@@ -93,19 +93,19 @@ same_issued w place proxy proxy' sent sent' history history' e d f =
 -- what the tables of numbers say
 
 module _ (nodes : List Node) (p : ProxyView) (sheet : LegSheet) (has : HasNode p.routing (pool_at sheet) sheet.node) where
-  numbers_there : numbers_at (numbers_in nodes p) sheet ≡ map (number_of nodes) (pool_of p.routing (pool_at sheet))
-  numbers_there = get_or-map (λ pool. map (number_of nodes) pool) p.routing.pools (pool_at sheet) [] [] has.pool
+  numbers_there : numbers_at (numbers_in nodes p) sheet ≡ map (node_number nodes) (pool_of p.routing (pool_at sheet))
+  numbers_there = get_or-map (λ pool. map (node_number nodes) pool) p.routing.pools (pool_at sheet) [] [] has.pool
 
   pub has_number : HasNumber (numbers_in nodes p) sheet
   has_number =
-      let count = ap length numbers_there ∙ length-map (pool_of p.routing (pool_at sheet)) (number_of nodes) in
+      let count = ap length numbers_there ∙ length-map (pool_of p.routing (pool_at sheet)) (node_number nodes) in
       let within = has.within in
       omega arith
 
   pub same_message : message_by (numbers_in nodes p) sheet ≡ message_of nodes p.routing sheet
   same_message =
       let number = ap (λ numbers. slice_index_or numbers sheet.node 0) numbers_there
-      ∙ get_or-map (number_of nodes) (pool_of p.routing (pool_at sheet)) sheet.node [] 0 has.within in
+      ∙ get_or-map (node_number nodes) (pool_of p.routing (pool_at sheet)) sheet.node [] 0 has.within in
       ap (λ (n : ℕ). record { sheet = sheet; node = n }) number
 
 pub same_messages : (nodes : List Node) (p : ProxyView) (sheets : List LegSheet) → ((sheet : LegSheet) → Has sheets sheet → HasNode p.routing (pool_at sheet) sheet.node)
@@ -184,10 +184,10 @@ position_none test xs false t e = let past = ltb-false _ _ t in let most = withi
 pub not_found : {X : Type 0} (test : X → Bool) (xs : List X) → position test xs ≡ None → length xs ≡ position_or_len test xs
 not_found test xs e = position_none test xs (nat_lt (position_or_len test xs) (length xs)) refl e
 
-pub found_node : (nodes : List Node) (name : List ℕ) (k : ℕ) → position (λ node. bytes_eq node.name name) nodes ≡ Some k → k ≡ number_of nodes name
+pub found_node : (nodes : List Node) (name : List ℕ) (k : ℕ) → position (λ node. bytes_eq node.name name) nodes ≡ Some k → k ≡ node_number nodes name
 found_node nodes name k e = found_at (λ node. bytes_eq node.name name) nodes k e
 
-pub no_node : (nodes : List Node) (name : List ℕ) → position (λ node. bytes_eq node.name name) nodes ≡ None → length nodes ≡ number_of nodes name
+pub no_node : (nodes : List Node) (name : List ℕ) → position (λ node. bytes_eq node.name name) nodes ≡ None → length nodes ≡ node_number nodes name
 no_node nodes name e = not_found (λ node. bytes_eq node.name name) nodes e
 
 -- a proxy that isn't like the first
@@ -216,25 +216,25 @@ takes_memory number (kind.Delete key noreply) no_quit = tt
 takes_memory number kind.Quit no_quit = absurd (no_quit refl)
 
 is_refused : (number : ℕ) (request : Request) (refusal : Option ProxyError) (e : WorldError) → request ≢ kind.Quit
-    → MatchOption refusal (e ≡ OutOfMemory) (λ r. e ≡ IssueRefused r) → IsRefusal (option_map IssueRefused refusal) (Client number request) e
+    → MatchOption refusal (e ≡ OutOfMemory) (λ r. e ≡ IssueRefused r) → IsEventRefusal (option_map IssueRefused refusal) (Client number request) e
 is_refused number request None e no_quit memory = (takes_memory number request no_quit, memory)
 is_refused number request (Some r) e no_quit same = same
 
 pub asked_refused : (number : ℕ) (o : Option ProxyView) (p : ProxyView) (request : Request) (e : WorldError) → request ≢ kind.Quit → o ≡ Some p
-    → MatchOption (refusal_of p) (e ≡ OutOfMemory) (λ r. e ≡ IssueRefused r) → IsRefusal (refused_request o request) (Client number request) e
+    → MatchOption (refusal_of p) (e ≡ OutOfMemory) (λ r. e ≡ IssueRefused r) → IsEventRefusal (refused_request o request) (Client number request) e
 asked_refused number o p request e no_quit home refused =
     let is : refused_request o request ≡ option_map IssueRefused (refusal_of p) =
     ap (λ x. refused_request x request) home ∙ asked_refusal p request (refusal_of p) no_quit refl in
-    subst (λ r. IsRefusal r (Client number request) e) (sym is) (is_refused number request (refusal_of p) e no_quit refused)
+    subst (λ r. IsEventRefusal r (Client number request) e) (sym is) (is_refused number request (refusal_of p) e no_quit refused)
 
 pub asked_for_memory : (number : ℕ) (o : Option ProxyView) (p : ProxyView) (request : Request) → request ≢ kind.Quit → o ≡ Some p → refusal_of p ≡ None
-    → IsRefusal (refused_request o request) (Client number request) OutOfMemory
+    → IsEventRefusal (refused_request o request) (Client number request) OutOfMemory
 asked_for_memory number o p request no_quit home accepted =
     let refused : MatchOption (refusal_of p) (OutOfMemory ≡ OutOfMemory) (λ r. OutOfMemory ≡ IssueRefused r) = rw accepted refl in
     asked_refused number o p request OutOfMemory no_quit home refused
 
 pub asks_of : (old : WorldView) (number : ℕ) (request : Request) (note : Note) (new : WorldView) → request ≢ kind.Quit → Issues old number request note new
-    → Asks old number request note new
+    → ClientAsks old number request note new
 asks_of old number (kind.Get keys) note new no_quit step = step
 asks_of old number (kind.Set key flags exptime block noreply) note new no_quit step = step
 asks_of old number (kind.Delete key noreply) note new no_quit step = step
@@ -281,11 +281,11 @@ both (x ∷ y ∷ []) d e = refl
 both (x ∷ y ∷ z ∷ xs) d e = absurd (omega arith)
 
 -- the numbers of both pools are those of a routing
-pub both_pools : (nodes : List Node) (p : ProxyView) (old new : List ℕ) → IsRouting p.routing → old ≡ map (number_of nodes) (pool_of p.routing 0)
-    → new ≡ map (number_of nodes) (pool_of p.routing 1) → old ∷ new ∷ [] ≡ numbers_in nodes p
+pub both_pools : (nodes : List Node) (p : ProxyView) (old new : List ℕ) → IsRouting p.routing → old ≡ map (node_number nodes) (pool_of p.routing 0)
+    → new ≡ map (node_number nodes) (pool_of p.routing 1) → old ∷ new ∷ [] ≡ numbers_in nodes p
 both_pools nodes p old new routing old_is new_is =
-    ap (λ l. l ∷ new ∷ []) old_is ∙ ap (λ l. map (number_of nodes) (pool_of p.routing 0) ∷ l ∷ []) new_is
-    ∙ ap (map (λ pool. map (number_of nodes) pool)) (sym (both p.routing.pools [] routing.migrates))
+    ap (λ l. l ∷ new ∷ []) old_is ∙ ap (λ l. map (node_number nodes) (pool_of p.routing 0) ∷ l ∷ []) new_is
+    ∙ ap (map (λ pool. map (node_number nodes) pool)) (sym (both p.routing.pools [] routing.migrates))
 
 within_some : {X : Type 0} (test : X → Bool) (xs : List X) (k : ℕ) (b : Bool) → nat_lt (position_or_len test xs) (length xs) ≡ b
     → (if b then Some (position_or_len test xs) else None) ≡ Some k → k < length xs
@@ -302,7 +302,7 @@ pub held_by : (nodes : List Node) (item : HeldItem) (number : ℕ) (d : Node) (c
     → slice_set nodes number (record { name = (get_or nodes number d).name; cache = left }) ≡ hold nodes item
 held_by nodes item number d command reply left found made step =
     let node = get_or nodes number d in
-    let named = number_of nodes item.node in
+    let named = node_number nodes item.node in
     let within = within_some (λ x. bytes_eq x.name item.node) nodes number (nat_lt named (length nodes)) refl (sym found) in
     let same : number ≡ named = found_node nodes item.node number (sym found) in
     let there : slice_get nodes named ≡ Some node = subst (λ k. slice_get nodes k ≡ Some node) same (slice_get-get_or nodes number d within) in

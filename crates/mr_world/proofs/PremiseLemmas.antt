@@ -10,8 +10,8 @@ use Rattle.mr_world.specs.declared.event.Event.{Event}
 use Rattle.mr_world.specs.declared.event.Event.TheVariants.{Clock, Client, Deliver, Return, GiveUp, NodeRestart, ProxyRestart}
 use Rattle.mr_world.specs.declared.note.Note.{Note}
 use Rattle.mr_world.specs.Premises.{ticks_in, ticks_of, premises_of, PremisesAtFirst, PremisesAfter}
-use Rattle.mr_world.specs.Setup.{SetupView, least_of, Begins}
-use Rattle.mr_world.specs.Steps.{Asks, WorldStep, WorldRun}
+use Rattle.mr_world.specs.Setup.{SetupView, least_interval_of, Begins}
+use Rattle.mr_world.specs.Steps.{ClientAsks, WorldStep, WorldRun}
 use Rattle.mr_world.specs.WorldView.{WorldView}
 
 -- what a step does to the readings and to what the setup says
@@ -19,7 +19,7 @@ pub record Turns (old : WorldView) (ticks : List Tick) (new : WorldView) : Type 
   pub readings : new.readings ≡ fold readings_after old.readings ticks
   pub terms : new.terms ≡ old.terms
 
-asked_turns : (old : WorldView) (n : ℕ) (q : Request) (note : Note) (new : WorldView) → Asks old n q note new → Turns old [] new
+asked_turns : (old : WorldView) (n : ℕ) (q : Request) (note : Note) (new : WorldView) → ClientAsks old n q note new → Turns old [] new
 asked_turns old n (request.Get keys) note new s = record { readings = ap (λ (w : WorldView). w.readings) s.becomes; terms = ap (λ (w : WorldView). w.terms) s.becomes }
 asked_turns old n (request.Set key flags exptime block noreply) note new s = record { readings = ap (λ (w : WorldView). w.readings) s.becomes; terms = ap (λ (w : WorldView). w.terms) s.becomes }
 asked_turns old n (request.Delete key noreply) note new s = record { readings = ap (λ (w : WorldView). w.readings) s.becomes; terms = ap (λ (w : WorldView). w.terms) s.becomes }
@@ -94,7 +94,7 @@ run_premises L old events new within run = turned_premises L old events new with
 pub first_premises : ((most : ℕ) (readings : List ℕ) → (spread_of readings ≤ most) ↔ AreWithin most readings) → (setup : SetupView) (w : WorldView) → Begins setup w → PremisesAtFirst setup (premises_of w)
 first_premises within setup w b =
     let readings = map (λ proxy. proxy.reading) setup.proxies in
-    let law = within (least_of setup.proxies) readings in
+    let law = within (least_interval_of setup.proxies) readings in
     let far : w.readings.spread ≡ spread_of readings = ap (λ (r : ReadingsView). r.spread) b.readings in
     let back : w.readings.went_back ≡ false = ap (λ (r : ReadingsView). r.went_back) b.readings in
     let least = b.least in

@@ -18,9 +18,9 @@ use Rattle.mr_world.specs.Facts.{Facts, IsFaithfulWorld}
 use Rattle.mr_world.specs.Grounded.{StaysSecured}
 use Rattle.mr_world.specs.Network.{NetworkView, IsReady, DoesEvent}
 use Rattle.mr_world.specs.Premises.{premises_of, PremisesAfter}
-use Rattle.mr_world.specs.Refusals.{IsStopped, refusal_of_event, IsRefusal}
-use Rattle.mr_world.specs.Steps.{Issues, Asks, WorldStep, WorldRun}
-use Rattle.mr_world.specs.Positions.{number_of}
+use Rattle.mr_world.specs.Refusals.{IsStopped, refusal_of_event, IsEventRefusal}
+use Rattle.mr_world.specs.Steps.{Issues, ClientAsks, WorldStep, WorldRun}
+use Rattle.mr_world.specs.Positions.{node_number}
 use Rattle.mr_world.specs.Tracked.{IsTracked, numbers_in, numbers_of}
 use Rattle.mr_world.specs.WorldView.{WorldView}
 use Rattle.mr_world.proofs.Lists.{map_set}
@@ -35,15 +35,15 @@ same_map f g same (x ∷ xs) = ap (λ y. y ∷ map f xs) (same x) ∙ ap (λ ys.
 numbers_proxy : (nodes : List Node) (P : List ProxyView) (n : ℕ) (p q : ProxyView) → At P n p → q.routing ≡ p.routing
     → numbers_of nodes (slice_set P n q) ≡ numbers_of nodes P
 numbers_proxy nodes P n p q at same =
-    map_set (numbers_in nodes) P n p q at.gets (ap (λ (r : RoutingView). map (λ pool. map (number_of nodes) pool) r.pools) same)
+    map_set (numbers_in nodes) P n p q at.gets (ap (λ (r : RoutingView). map (λ pool. map (node_number nodes) pool) r.pools) same)
 
 numbers_nodes : (nodes : List Node) (k : ℕ) (old new : Node) (P : List ProxyView) → At nodes k old → new.name ≡ old.name
     → numbers_of (slice_set nodes k new) P ≡ numbers_of nodes P
 numbers_nodes nodes k old new P at same =
     let written = slice_set nodes k new in
     same_map (numbers_in written) (numbers_in nodes)
-    (λ p. same_map (λ pool. map (number_of written) pool) (λ pool. map (number_of nodes) pool)
-    (λ pool. same_map (number_of written) (number_of nodes) (λ name. number_written nodes k old new name at.gets same) pool) p.routing.pools) P
+    (λ p. same_map (λ pool. map (node_number written) pool) (λ pool. map (node_number nodes) pool)
+    (λ pool. same_map (node_number written) (node_number nodes) (λ name. number_written nodes k old new name at.gets same) pool) p.routing.pools) P
 
 abbrev pub SameNumbers : WorldView → WorldView → Type 0
 SameNumbers old new = numbers_of new.nodes new.proxies ≡ numbers_of old.nodes old.proxies
@@ -52,7 +52,7 @@ issue_numbers : (old : WorldView) (n : ℕ) (q : Request) (note : Note) (new : W
 issue_numbers old n q note new s =
     subst (SameNumbers old) (sym s.becomes) (numbers_proxy old.nodes old.proxies n s.proxy (after_issue s.proxy s.reading q) s.home refl)
 
-ask_numbers : (old : WorldView) (n : ℕ) (q : Request) (note : Note) (new : WorldView) → Asks old n q note new → SameNumbers old new
+ask_numbers : (old : WorldView) (n : ℕ) (q : Request) (note : Note) (new : WorldView) → ClientAsks old n q note new → SameNumbers old new
 ask_numbers old n (request.Get keys) note new s = issue_numbers old n (request.Get keys) note new s
 ask_numbers old n (request.Set key flags exptime block noreply) note new s = issue_numbers old n (request.Set key flags exptime block noreply) note new s
 ask_numbers old n (request.Delete key noreply) note new s = issue_numbers old n (request.Delete key noreply) note new s
@@ -74,7 +74,7 @@ step_numbers old (GiveUp op) note new s =
     (numbers_proxy old.nodes old.proxies op.proxy s.proxy after s.home (step_keeps s.proxy after (gives_up op)).routing)
 step_numbers old (NodeRestart name) note new s =
     subst (SameNumbers old) (sym s.becomes)
-    (numbers_nodes old.nodes (number_of old.nodes name) s.node (record { name = s.node.name; cache = record s.node.cache { items = [] } }) old.proxies s.there refl)
+    (numbers_nodes old.nodes (node_number old.nodes name) s.node (record { name = s.node.name; cache = record s.node.cache { items = [] } }) old.proxies s.there refl)
 step_numbers old (ProxyRestart proxy) note new s =
     subst (SameNumbers old) (sym s.becomes) (numbers_proxy old.nodes old.proxies proxy s.proxy (after_restart s.proxy) s.home refl)
 
@@ -169,7 +169,7 @@ has_run_until old events index event rest new h =
     subst (λ l. WorldRun old l new) (sym done) h.run
 
 pub has_stopped : (old : WorldView) (events : List Event) (index : ℕ) (event : Event) (rest : List Event) (new : WorldView) (e : WorldError)
-    → HasRun old events index (event ∷ rest) new → IsRefusal (refusal_of_event new event) event e → IsStopped old events index e new
+    → HasRun old events index (event ∷ rest) new → IsEventRefusal (refusal_of_event new event) event e → IsStopped old events index e new
 has_stopped old events index event rest new e h refused = record {
   event = event;
   there = record { gets = ap (λ l. slice_get l index) h.all ∙ ap (slice_get (h.done ++ event ∷ rest)) h.count ∙ get_done h.done event rest };

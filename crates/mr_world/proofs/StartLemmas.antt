@@ -16,7 +16,7 @@ use Rattle.mr_world.specs.declared.node.Node.{Node}
 use Rattle.mr_world.specs.declared.setup.HeldItem.{HeldItem}
 use Rattle.mr_world.specs.declared.setup.ProxySetup.{ProxySetup}
 use Rattle.mr_world.specs.Setup.{SetupView, with_name, with_pool, with_routing, nodes_of, with_item, hold, hold_at, held_entry, proxies_from, empty_node, Begins}
-use Rattle.mr_world.specs.Positions.{number_of}
+use Rattle.mr_world.specs.Positions.{node_number}
 use Rattle.mr_world.specs.Tracked.{IsTracked}
 use Rattle.mr_world.specs.WorldView.{WorldView}
 use Rattle.mr_world.proofs.Lists.{at_none, at_within, has_map, length_set}
@@ -24,14 +24,14 @@ use Rattle.mr_world.proofs.TrackedLemmas.{number_written}
 
 -- a node of the name is among the nodes
 abbrev pub IsThere : List ℕ → List Node → Type 0
-IsThere name nodes = number_of nodes name < length nodes
+IsThere name nodes = node_number nodes name < length nodes
 
 -- once there, a name stays while nodes are added
-there_kept : (name : List ℕ) (nodes : List Node) (node : Node) → IsThere name nodes → number_of (nodes ++ node ∷ []) name ≡ number_of nodes name
+there_kept : (name : List ℕ) (nodes : List Node) (node : Node) → IsThere name nodes → node_number (nodes ++ node ∷ []) name ≡ node_number nodes name
 there_kept name [] node h = absurd (omega arith)
 there_kept name (x ∷ nodes) node h =
-    elim (bytes_eq x.name name) as (λ b. cond (not b) (1 + number_of nodes name) 0 < suc (length nodes)
-    → cond (not b) (1 + number_of (nodes ++ node ∷ []) name) 0 ≡ cond (not b) (1 + number_of nodes name) 0) [
+    elim (bytes_eq x.name name) as (λ b. cond (not b) (1 + node_number nodes name) 0 < suc (length nodes)
+    → cond (not b) (1 + node_number (nodes ++ node ∷ []) name) 0 ≡ cond (not b) (1 + node_number nodes name) 0) [
       | true ↦ λ _. refl
       | false ↦ λ below. ap (λ n. 1 + n) (there_kept name nodes node (omega arith))
     ] h
@@ -49,7 +49,7 @@ there_added_if capacity nodes added name false h =
     omega arith
 
 there_added : (capacity : ℕ) (name : List ℕ) (nodes : List Node) (added : List ℕ) → IsThere name nodes → IsThere name (with_name capacity nodes added)
-there_added capacity name nodes added h = there_added_if capacity nodes added name (nat_lt (number_of nodes added) (length nodes)) h
+there_added capacity name nodes added h = there_added_if capacity nodes added name (nat_lt (node_number nodes added) (length nodes)) h
 
 -- a name that is added is there
 last_there : (capacity : ℕ) (name : List ℕ) (nodes : List Node) → IsThere name (nodes ++ empty_node capacity name ∷ [])
@@ -58,18 +58,18 @@ last_there capacity name [] =
     rw same (omega arith)
 last_there capacity name (x ∷ nodes) =
     let later = last_there capacity name nodes in
-    elim (bytes_eq x.name name) as (λ b. cond (not b) (1 + number_of (nodes ++ empty_node capacity name ∷ []) name) 0 < suc (length (nodes ++ empty_node capacity name ∷ []))) [
+    elim (bytes_eq x.name name) as (λ b. cond (not b) (1 + node_number (nodes ++ empty_node capacity name ∷ []) name) 0 < suc (length (nodes ++ empty_node capacity name ∷ []))) [
       | true ↦ omega arith
       | false ↦ omega arith
     ]
 
-there_new_if : (capacity : ℕ) (name : List ℕ) (nodes : List Node) (b : Bool) → nat_lt (number_of nodes name) (length nodes) ≡ b
+there_new_if : (capacity : ℕ) (name : List ℕ) (nodes : List Node) (b : Bool) → nat_lt (node_number nodes name) (length nodes) ≡ b
     → IsThere name (if b then nodes else nodes ++ empty_node capacity name ∷ [])
 there_new_if capacity name nodes true e = ltb-true _ _ e
 there_new_if capacity name nodes false e = last_there capacity name nodes
 
 there_new : (capacity : ℕ) (name : List ℕ) (nodes : List Node) → IsThere name (with_name capacity nodes name)
-there_new capacity name nodes = there_new_if capacity name nodes (nat_lt (number_of nodes name) (length nodes)) refl
+there_new capacity name nodes = there_new_if capacity name nodes (nat_lt (node_number nodes name) (length nodes)) refl
 
 -- folds that keep it, and that reach it
 fold_keeps : {X : Type 0} (name : List ℕ) (f : List Node → X → List Node) → ((nodes : List Node) (x : X) → IsThere name nodes → IsThere name (f nodes x))
@@ -119,7 +119,7 @@ hold_keeps_at name nodes number item (Some node) e h =
     omega arith
 
 hold_keeps : (name : List ℕ) (nodes : List Node) (item : HeldItem) → IsThere name nodes → IsThere name (hold nodes item)
-hold_keeps name nodes item h = hold_keeps_at name nodes (number_of nodes item.node) item (slice_get nodes (number_of nodes item.node)) refl h
+hold_keeps name nodes item h = hold_keeps_at name nodes (node_number nodes item.node) item (slice_get nodes (node_number nodes item.node)) refl h
 
 -- the proxies by number
 pub proxy_from : (number : ℕ) (proxies : List ProxySetup) (place : ℕ) (p : ProxyView) → slice_get (proxies_from number proxies) place ≡ Some p

@@ -28,7 +28,7 @@ use Rattle.mr_proxy.specs.Answer.{AnswerView, reply_of}
 use Rattle.mr_proxy.specs.Issue.{next_op, used_reading, sheets_of, pending_of, after_issue}
 use Rattle.mr_proxy.specs.Sheets.{sheets_by}
 use Rattle.mr_phases.specs.Pools.{pool_number}
-use Rattle.mr_node.specs.Command.{key_of}
+use Rattle.mr_node.specs.Command.{key_of_command}
 use Rattle.mr_proxy.specs.Pending.{PendingView}
 use Rattle.mr_proxy.specs.ProxyView.{ProxyView}
 use Rattle.mr_proxy.specs.Sheets.{pool_at, IsSheetOf}
@@ -42,8 +42,8 @@ use Rattle.mr_world.specs.declared.message.Delivery.{Delivery}
 use Rattle.mr_world.specs.declared.node.Node.{Node}
 use Rattle.mr_world.specs.declared.note.Note.{Note}
 use Rattle.mr_world.specs.Lists.{Has}
-use Rattle.mr_world.specs.Steps.{message_of, performed, is_noreply, answered, answered_by, Ticks, Issues, Asks, Delivers, Returns, GivesUp, Empties, Restarts, WorldStep}
-use Rattle.mr_world.specs.Positions.{number_of}
+use Rattle.mr_world.specs.Steps.{message_of, performed, is_noreply, answered, answered_by, Ticks, Issues, ClientAsks, Delivers, Returns, GivesUp, Empties, Restarts, WorldStep}
+use Rattle.mr_world.specs.Positions.{node_number}
 use Rattle.mr_world.specs.Tracked.{GoesWhereNamed, IsAtHome, IsUnanswered, IsWaiting, IsSent, IsGivenOut, IsTracked}
 use Rattle.mr_world.specs.WorldView.{WorldView}
 use Rattle.mr_world.proofs.Lists.{test_holds, at_there, at_within, at_one, at_left, at_cases, at_last, at_new, has_one, has_none, has_map, at_set, at_kept, at_written, length_set, length_left, at_taken, at_none}
@@ -155,7 +155,7 @@ module _ (L : Laws) where
       record {
         number = keeps.number ∙ home.number;
         sound = L.keep_sound p q home.sound step;
-        named = subst (λ (r : RoutingView). (pool index : ℕ) → HasNode r pool index → number_of nodes (name_at r pool index) < length nodes) (sym keeps.routing) home.named;
+        named = subst (λ (r : RoutingView). (pool index : ℕ) → HasNode r pool index → node_number nodes (name_at r pool index) < length nodes) (sym keeps.routing) home.named;
       }
 
   home_set : (nodes : List Node) (P : List ProxyView) (n : ℕ) (p q : ProxyView) → At P n p → ProxyStep p q
@@ -210,12 +210,12 @@ answered_issued {H = H} {op = op} formed was =
 -- nodes keep their names
 
 pub number_written : (nodes : List Node) (k : ℕ) (old new : Node) (name : List ℕ) → slice_get nodes k ≡ Some old → new.name ≡ old.name
-    → number_of (slice_set nodes k new) name ≡ number_of nodes name
+    → node_number (slice_set nodes k new) name ≡ node_number nodes name
 number_written [] k old new name e same = refl
 number_written (x ∷ nodes) zero old new name e same =
     let is : x ≡ old = cc in
     let named : new.name ≡ x.name = same ∙ ap (λ (z : Node). z.name) (sym is) in
-    ap (λ n. cond (not (bytes_eq n name)) (1 + number_of nodes name) 0) named
+    ap (λ n. cond (not (bytes_eq n name)) (1 + node_number nodes name) 0) named
 number_written (x ∷ nodes) (suc k) old new name e same =
     ap (λ n. cond (not (bytes_eq x.name name)) (1 + n) 0) (number_written nodes k old new name e same)
 
@@ -252,7 +252,7 @@ pub sheet_there : Laws → (p : ProxyView) (t : ℕ) (request : Request) (sheet 
     → HasNode p.routing (pool_at sheet) sheet.node × (sheet.id.op ≡ next_op p)
 sheet_there L p t request sheet s h =
     let says = L.says p.routing p.schedule (next_op p) (used_reading p.last t) request h.place sheet h.there.gets in (
-      node_there p.routing sheet (spot_by p.routing.hash (key_of sheet.command)) s.routing says.node,
+      node_there p.routing sheet (spot_by p.routing.hash (key_of_command sheet.command)) s.routing says.node,
       ap (λ (id : LegId). id.op) says.named,
     )
 
@@ -287,7 +287,7 @@ goes_nodes P nodes k old new m at same g =
     ]
 
 -- the node at the number of a name has that name
-number_named : (nodes : List Node) (name : List ℕ) (node : Node) → At nodes (number_of nodes name) node → node.name ≡ name
+number_named : (nodes : List Node) (name : List ℕ) (node : Node) → At nodes (node_number nodes name) node → node.name ≡ name
 number_named nodes name node at =
     (bytes_eq-Decides node.name name).0 (test_holds (λ (x : Node). bytes_eq x.name name) nodes node at.gets)
 
@@ -357,7 +357,7 @@ module _ (L : Laws) where
               let (sheet, has, is) = has_map (message_of w.nodes p.routing) (sheets_of p u q) (fresh.1) in
               let there = sheet_there L p u q sheet home.sound has in
               let name = name_at p.routing (pool_at sheet) sheet.node in
-              let (node, at) = at_there w.nodes (number_of w.nodes name) (home.named (pool_at sheet) sheet.node (there.0)) in
+              let (node, at) = at_there w.nodes (node_number w.nodes name) (home.named (pool_at sheet) sheet.node (there.0)) in
               let place : sheet.id.op.proxy ≡ n = ap (λ (o : OpId). o.proxy) (there.1) ∙ home.number in
               subst (GoesWhereNamed (slice_set w.proxies n after) w.nodes) (sym is) (record {
                 proxy = after;
@@ -493,7 +493,7 @@ module _ (L : Laws) where
   empties_tracked : (w : WorldView) (name : List ℕ) (note : Note) (new : WorldView) → Empties w name note new → IsTracked w → IsTracked new
   empties_tracked w name note new step t =
       let node : Node = record { name = step.node.name; cache = record step.node.cache { items = [] } } in
-      let k = number_of w.nodes name in
+      let k = node_number w.nodes name in
       subst IsTracked (sym step.becomes) (record {
         clocks = t.clocks;
         within = t.within;
@@ -526,7 +526,7 @@ module _ (L : Laws) where
         ];
       })
 
-  asks_tracked : (w : WorldView) (n : ℕ) (q : Request) (note : Note) (new : WorldView) → Asks w n q note new → IsTracked w → IsTracked new
+  asks_tracked : (w : WorldView) (n : ℕ) (q : Request) (note : Note) (new : WorldView) → ClientAsks w n q note new → IsTracked w → IsTracked new
   asks_tracked w n (request.Get keys) note new step t = issues_tracked w n (request.Get keys) note new step t
   asks_tracked w n (request.Set key flags exptime block noreply) note new step t = issues_tracked w n (request.Set key flags exptime block noreply) note new step t
   asks_tracked w n (request.Delete key noreply) note new step t = issues_tracked w n (request.Delete key noreply) note new step t

@@ -8,7 +8,7 @@ use Rattle.mr_history.specs.declared.entry.Author.{Author}
 use Rattle.mr_history.specs.declared.entry.Author.TheVariants.{Beginning, By}
 use Rattle.mr_history.specs.declared.entry.Entry.{Entry}
 use Rattle.mr_history.specs.declared.entry.Entry.TheVariants.{Stored, Removed}
-use Rattle.mr_history.specs.History.{IsIssued, WasIssued, IsFresh}
+use Rattle.mr_history.specs.History.{IsIssued, WasIssued, IsFreshHit}
 use Rattle.mr_history.specs.Places.{At}
 use Rattle.mr_join.specs.declared.leg_reply.LegReply.TheVariants.{Hit}
 use Rattle.mr_phases.specs.Schedule.{Hop, first_start, first_interval}
@@ -16,7 +16,7 @@ use Rattle.mr_phases.specs.Pools.{read_pool, delete_pools, SomeFrom}
 use Rattle.mr_pools.specs.Names.{name_at}
 use Rattle.mr_pools.specs.Routing.{RoutingView, pool_of, place_of}
 use Rattle.mr_node.specs.CacheStep.{Datum, Holds, contents_of}
-use Rattle.mr_node.specs.Command.{key_of}
+use Rattle.mr_node.specs.Command.{key_of_command}
 use Rattle.mr_node.specs.declared.command.NodeCommand.TheVariants as command
 use Rattle.mr_proxy.specs.Sheets.{pool_at}
 use Rattle.mr_world.specs.declared.message.Message.{Message}
@@ -24,7 +24,7 @@ use Rattle.mr_world.specs.declared.message.Delivery.{Delivery}
 use Rattle.mr_world.specs.declared.node.Node.{Node}
 use Rattle.mr_world.specs.Facts.{CameBack}
 use Rattle.mr_world.specs.Lists.{Has}
-use Rattle.mr_world.specs.Positions.{number_of}
+use Rattle.mr_world.specs.Positions.{node_number}
 use Rattle.mr_world.specs.WorldView.{WorldView}
 
 -- a leg of this set went to this pool
@@ -97,7 +97,7 @@ pub record IsHeld (sent : List Message) (history : List Entry) (pool : ℕ) (ite
 
 -- the number of the node that keeps the key in a pool
 abbrev pub home_of : List Node → RoutingView → ℕ → List ℕ → ℕ
-home_of nodes routing pool key = number_of nodes (name_at routing pool (place_of routing.hash (pool_of routing pool) key))
+home_of nodes routing pool key = node_number nodes (name_at routing pool (place_of routing.hash (pool_of routing pool) key))
 
 -- each item at its key's node
 abbrev pub ItemsAreHeld : RoutingView → WorldView → Type 0
@@ -110,7 +110,7 @@ ItemsAreHeld routing w =
 abbrev pub HitsAreFresh : List Message → List Delivery → List Entry → Type 0
 HitsAreFresh sent replies history =
     (message : Message) (flags : ℕ) (block : List ℕ) → CameBack sent replies message (Hit flags block)
-    → (was : WasIssued history message.sheet.id.op) × IsFresh history (record { key = key_of message.sheet.command; flags = flags; block = block }) was.place (length history)
+    → (was : WasIssued history message.sheet.id.op) × IsFreshHit history (record { key = key_of_command message.sheet.command; flags = flags; block = block }) was.place (length history)
 
 -- while some clock is before the first start, no set went to another pool than the first
 abbrev pub EarlySetsStay : List Hop → List ℕ → List Message → Type 0

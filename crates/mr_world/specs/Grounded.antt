@@ -4,7 +4,7 @@ use Rattle.mr_history.specs.History.{IsSafe}
 use Rattle.mr_history.specs.Places.{At}
 use Rattle.mr_phases.specs.Schedule.{Hop, least_interval}
 use Rattle.mr_pools.specs.Routing.{RoutingView}
-use Rattle.mr_node.specs.Command.{key_of}
+use Rattle.mr_node.specs.Command.{key_of_command}
 use Rattle.mr_proxy.specs.ProxyView.{ProxyView}
 use Rattle.mr_proxy.specs.Sheets.{pool_at}
 use Rattle.mr_world.specs.declared.message.Message.{Message}
@@ -18,7 +18,7 @@ use Rattle.mr_world.specs.WorldView.{WorldView}
 pub record IsGrounded (routing : RoutingView) (hops : List Hop) (w : WorldView) : Type 0 where
   pub plan : IsPlan routing hops
   pub least : w.terms.least ≤ least_interval hops
-  pub goes : (message : Message) → Has w.sent message → message.node ≡ home_of w.nodes routing (pool_at message.sheet) (key_of message.sheet.command)
+  pub goes : (message : Message) → Has w.sent message → message.node ≡ home_of w.nodes routing (pool_at message.sheet) (key_of_command message.sheet.command)
   pub reached : SetsAreReached hops w.readings.standing w.sent
   pub reach_down : DeletesReachDown hops w.readings.standing w.sent w.history
   pub sets_later : SetsComeLater w.sent w.history

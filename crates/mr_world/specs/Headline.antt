@@ -10,7 +10,7 @@ use Rattle.mr_world.specs.declared.event.Event.{Event}
 use Rattle.mr_world.specs.declared.premises.Premises.{Premises}
 use Rattle.mr_world.specs.Ground.{IsGround}
 use Rattle.mr_world.specs.Premises.{premises_of, ticks_of}
-use Rattle.mr_world.specs.Setup.{SetupView, AllAlike, IsNewPoolEmpty, least_of, Begins}
+use Rattle.mr_world.specs.Setup.{SetupView, AllAlike, IsNewPoolEmpty, least_interval_of, Begins}
 use Rattle.mr_world.specs.Steps.{WorldRun}
 use Rattle.mr_world.specs.WorldView.{WorldView}
 
@@ -40,7 +40,7 @@ pub record PremisesHold (setup : SetupView) (events : List Event) : Type 0 where
   pub same : AllAlike setup.proxies
   pub new_empty : IsNewPoolEmpty setup
   pub forward : NeverGoesBack (map (λ proxy. proxy.reading) setup.proxies) (ticks_of events)
-  pub near : StayWithin (least_of setup.proxies) (map (λ proxy. proxy.reading) setup.proxies) (ticks_of events)
+  pub near : StayWithin (least_interval_of setup.proxies) (map (λ proxy. proxy.reading) setup.proxies) (ticks_of events)
 
 -- after every list of events each hit is fresh
 abbrev pub Headline : Type 0

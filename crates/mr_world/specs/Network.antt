@@ -8,7 +8,7 @@ use Rattle.mr_world.specs.declared.event.Event.{Event}
 use Rattle.mr_world.specs.declared.note.Note.{Note}
 use Rattle.mr_world.specs.Facts.{IsFaithfulWorld}
 use Rattle.mr_world.specs.Grounded.{StaysSecured}
-use Rattle.mr_world.specs.Refusals.{refusal_of_event, IsRefusal}
+use Rattle.mr_world.specs.Refusals.{refusal_of_event, IsEventRefusal}
 use Rattle.mr_world.specs.Steps.{WorldStep}
 use Rattle.mr_world.specs.Tracked.{IsTracked, numbers_of}
 use Rattle.mr_world.specs.WorldView.{WorldView}
@@ -27,7 +27,7 @@ pub record IsReady (n : NetworkView) : Type 0 where
 -- an event is accepted and does its step, or is refused and changes nothing
 abbrev pub DoesEvent : NetworkView → Event → Result Note WorldError → NetworkView → Type 0
 DoesEvent old event (Ok note) new = (refusal_of_event old.world event ≡ None) × WorldStep old.world event note new.world × (new.numbers ≡ old.numbers)
-DoesEvent old event (Err e) new = IsRefusal (refusal_of_event old.world event) event e × (new ≡ old)
+DoesEvent old event (Err e) new = IsEventRefusal (refusal_of_event old.world event) event e × (new ≡ old)
 
 -- the numbers of the nodes of a pool
 abbrev pub numbers_at : List (List ℕ) → LegSheet → List ℕ

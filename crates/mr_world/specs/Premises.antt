@@ -5,7 +5,7 @@ use Rattle.mr_clock.specs.Readings.{AreWithin, Tick}
 use Rattle.mr_world.specs.declared.event.Event.{Event}
 use Rattle.mr_world.specs.declared.event.Event.TheVariants.{Clock, Client, Deliver, Return, GiveUp, NodeRestart, ProxyRestart}
 use Rattle.mr_world.specs.declared.premises.Premises.{Premises}
-use Rattle.mr_world.specs.Setup.{SetupView, AllAlike, IsNewPoolEmpty, least_of}
+use Rattle.mr_world.specs.Setup.{SetupView, AllAlike, IsNewPoolEmpty, least_interval_of}
 use Rattle.mr_world.specs.WorldView.{WorldView}
 
 -- only a Clock event changes a reading
@@ -35,7 +35,7 @@ pub record PremisesAtFirst (setup : SetupView) (premises : Premises) : Type 0 wh
   pub same : IsTrue premises.same ↔ AllAlike setup.proxies
   pub new_empty : IsTrue premises.new_empty ↔ IsNewPoolEmpty setup
   pub forward : IsTrue premises.forward
-  pub near : IsTrue premises.near ↔ AreWithin (least_of setup.proxies) (map (λ proxy. proxy.reading) setup.proxies)
+  pub near : IsTrue premises.near ↔ AreWithin (least_interval_of setup.proxies) (map (λ proxy. proxy.reading) setup.proxies)
 
 -- after accepted events: those of the clocks hold as far as they did and the events keep them
 pub record PremisesAfter (old : WorldView) (events : List Event) (new : Premises) : Type 0 where

@@ -15,7 +15,7 @@ use Rattle.mr_world.specs.declared.error.WorldError.TheVariants.{NoSuchProxy, No
 use Rattle.mr_world.specs.declared.event.Event.{Event}
 use Rattle.mr_world.specs.declared.event.Event.TheVariants.{Clock, Client, Deliver, Return, GiveUp, NodeRestart, ProxyRestart}
 use Rattle.mr_world.specs.Steps.{WorldRun}
-use Rattle.mr_world.specs.Positions.{number_of}
+use Rattle.mr_world.specs.Positions.{node_number}
 use Rattle.mr_world.specs.WorldView.{WorldView}
 
 -- a list has nothing at this number
@@ -49,7 +49,7 @@ refusal_of_event w (Client proxy request) = refused_request (slice_get w.proxies
 refusal_of_event w (Deliver message now) = refused_past NoSuchMessage message (length w.sent)
 refusal_of_event w (Return reply) = refused_past NoSuchMessage reply (length w.replies)
 refusal_of_event w (GiveUp op) = refused_give_up (slice_get w.proxies op.proxy) op
-refusal_of_event w (NodeRestart node) = refused_past NoSuchNode (number_of w.nodes node) (length w.nodes)
+refusal_of_event w (NodeRestart node) = refused_past NoSuchNode (node_number w.nodes node) (length w.nodes)
 refusal_of_event w (ProxyRestart proxy) = refused_restart (slice_get w.proxies proxy)
 
 -- these events take memory
@@ -66,13 +66,13 @@ TakesMemory (NodeRestart node) = ⊥
 TakesMemory (ProxyRestart proxy) = ⊥
 
 -- the refusal; where there is none, want of memory
-abbrev pub IsRefusal : Option WorldError → Event → WorldError → Type 0
-IsRefusal None event e = TakesMemory event × (e ≡ OutOfMemory)
-IsRefusal (Some refusal) event e = e ≡ refusal
+abbrev pub IsEventRefusal : Option WorldError → Event → WorldError → Type 0
+IsEventRefusal None event e = TakesMemory event × (e ≡ OutOfMemory)
+IsEventRefusal (Some refusal) event e = e ≡ refusal
 
 -- the events before this one were played, and this one was refused
 pub record IsStopped (old : WorldView) (events : List Event) (index : ℕ) (e : WorldError) (new : WorldView) : Type 0 where
   pub event : Event
   pub there : At events index event
   pub played : WorldRun old (take index events) new
-  pub refused : IsRefusal (refusal_of_event new event) event e
+  pub refused : IsEventRefusal (refusal_of_event new event) event e

@@ -11,7 +11,7 @@ use Rattle.mr_node.specs.Recency.{items_after}
 use Rattle.mr_proxy.specs.ProxyView.{ProxyView, fresh_proxy}
 use Rattle.mr_world.specs.declared.setup.ProxySetup.{ProxySetup}
 use Rattle.mr_world.specs.declared.setup.HeldItem.{HeldItem}
-use Rattle.mr_world.specs.Positions.{number_of}
+use Rattle.mr_world.specs.Positions.{node_number}
 use Rattle.mr_world.specs.declared.node.Node.{Node}
 use Rattle.mr_world.specs.WorldView.{WorldView}
 
@@ -24,14 +24,14 @@ pub record SetupView : Type 0 where
   pub held : List HeldItem
 
 -- a proxy's routing has a node of this name in the pool of this number
-pub record HasNode (routing : RoutingView) (pool : ℕ) (name : List ℕ) : Type 0 where
+pub record HasNamedNode (routing : RoutingView) (pool : ℕ) (name : List ℕ) : Type 0 where
   pub there : pool < length routing.pools
   pub names : Contains (pool_of routing pool) name
 
 -- a routing has a node of this name
 pub record NamesNode (routing : RoutingView) (name : List ℕ) : Type 0 where
   pub pool : ℕ
-  pub has : HasNode routing pool name
+  pub has : HasNamedNode routing pool name
 
 -- some proxy's routing has a node of this name
 pub record IsNamed (proxies : List ProxySetup) (name : List ℕ) : Type 0 where
@@ -54,7 +54,7 @@ empty_node capacity name = record { name = name; cache = record { capacity = cap
 
 -- a name that has no node yet gets the next one
 abbrev pub with_name : ℕ → List Node → List ℕ → List Node
-with_name capacity nodes name = if nat_lt (number_of nodes name) (length nodes) then nodes else nodes ++ empty_node capacity name ∷ []
+with_name capacity nodes name = if nat_lt (node_number nodes name) (length nodes) then nodes else nodes ++ empty_node capacity name ∷ []
 
 abbrev pub with_pool : ℕ → List Node → List (List ℕ) → List Node
 with_pool capacity nodes pool = fold (with_name capacity) nodes pool
@@ -80,7 +80,7 @@ hold_at nodes number item (Some node) = slice_set nodes number (with_item item n
 
 -- the node of that name holds one more item
 abbrev pub hold : List Node → HeldItem → List Node
-hold nodes item = hold_at nodes (number_of nodes item.node) item (slice_get nodes (number_of nodes item.node))
+hold nodes item = hold_at nodes (node_number nodes item.node) item (slice_get nodes (node_number nodes item.node))
 
 abbrev pub nodes_at_first : SetupView → List Node
 nodes_at_first setup = fold hold (nodes_of setup.capacity setup.proxies) setup.held
@@ -96,19 +96,19 @@ AllAlike proxies = AllPairs (λ one other. (one.routing ≡ other.routing) × (o
 pub record MovesTo (routing : RoutingView) (name : List ℕ) : Type 0 where
   pub pool : ℕ
   pub later : 0 < pool
-  pub has : HasNode routing pool name
+  pub has : HasNamedNode routing pool name
 
 -- no item is held by a node of a pool that some proxy moves to
 abbrev pub IsNewPoolEmpty : SetupView → Type 0
 IsNewPoolEmpty setup = All (λ item. All (λ proxy. ¬ MovesTo proxy.routing item.node) setup.proxies) setup.held
 
-abbrev pub least_from : ℕ → List ProxySetup → ℕ
-least_from least proxies = fold min least (map (λ proxy. least_interval proxy.schedule) proxies)
+abbrev pub least_interval_from : ℕ → List ProxySetup → ℕ
+least_interval_from least proxies = fold min least (map (λ proxy. least_interval proxy.schedule) proxies)
 
 -- the least interval of all proxies, 0 without proxies
-abbrev pub least_of : List ProxySetup → ℕ
-least_of [] = 0
-least_of (first ∷ rest) = least_from (least_interval first.schedule) rest
+abbrev pub least_interval_of : List ProxySetup → ℕ
+least_interval_of [] = 0
+least_interval_of (first ∷ rest) = least_interval_from (least_interval first.schedule) rest
 
 -- nothing happened yet
 pub record Begins (setup : SetupView) (w : WorldView) : Type 0 where
@@ -120,4 +120,4 @@ pub record Begins (setup : SetupView) (w : WorldView) : Type 0 where
   pub history : w.history ≡ map held_entry setup.held
   pub same : IsTrue w.terms.same ↔ AllAlike setup.proxies
   pub new_empty : IsTrue w.terms.new_empty ↔ IsNewPoolEmpty setup
-  pub least : w.terms.least ≡ least_of setup.proxies
+  pub least : w.terms.least ≡ least_interval_of setup.proxies

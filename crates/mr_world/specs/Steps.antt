@@ -29,12 +29,12 @@ use Rattle.mr_world.specs.declared.message.Message.{Message}
 use Rattle.mr_world.specs.declared.note.Note.{Note}
 use Rattle.mr_world.specs.declared.note.Note.TheVariants.{Nothing, Issued, Performed, Waiting, Answered, Stranger}
 use Rattle.mr_world.specs.declared.node.Node.{Node}
-use Rattle.mr_world.specs.Positions.{number_of}
+use Rattle.mr_world.specs.Positions.{node_number}
 use Rattle.mr_world.specs.WorldView.{WorldView}
 
 -- a leg goes to the node that its proxy's routing names
 abbrev pub message_of : List Node → RoutingView → LegSheet → Message
-message_of nodes routing sheet = record { sheet = sheet; node = number_of nodes (name_at routing (pool_at sheet) sheet.node) }
+message_of nodes routing sheet = record { sheet = sheet; node = node_number nodes (name_at routing (pool_at sheet) sheet.node) }
 
 -- a proxy's clock shows another reading
 pub record Ticks (old : WorldView) (number reading : ℕ) (note : Note) (new : WorldView) : Type 0 where
@@ -64,11 +64,11 @@ pub record Issues (old : WorldView) (number : ℕ) (request : Request) (note : N
         history = old.history ++ entry.Issued (next_op proxy) number request ∷ [];
       }
 
-abbrev pub Asks : WorldView → ℕ → Request → Note → WorldView → Type 0
-Asks old number (request.Get keys) note new = Issues old number (request.Get keys) note new
-Asks old number (request.Set key flags exptime block noreply) note new = Issues old number (request.Set key flags exptime block noreply) note new
-Asks old number (request.Delete key noreply) note new = Issues old number (request.Delete key noreply) note new
-Asks old number request.Quit note new = Quits old number note new
+abbrev pub ClientAsks : WorldView → ℕ → Request → Note → WorldView → Type 0
+ClientAsks old number (request.Get keys) note new = Issues old number (request.Get keys) note new
+ClientAsks old number (request.Set key flags exptime block noreply) note new = Issues old number (request.Set key flags exptime block noreply) note new
+ClientAsks old number (request.Delete key noreply) note new = Issues old number (request.Delete key noreply) note new
+ClientAsks old number request.Quit note new = Quits old number note new
 
 -- what the history gains when a node performs a leg: a set is stored, a delete removed whether an item was there or not
 abbrev pub performed : LegSheet → NodeCommand → List Entry
@@ -149,11 +149,11 @@ pub record GivesUp (old : WorldView) (op : OpId) (note : Note) (new : WorldView)
 -- the node of this name loses all that it holds
 pub record Empties (old : WorldView) (name : List ℕ) (note : Note) (new : WorldView) : Type 0 where
   pub node : Node
-  pub there : At old.nodes (number_of old.nodes name) node
+  pub there : At old.nodes (node_number old.nodes name) node
   pub tells : note ≡ Nothing
   pub becomes :
       new ≡ record old {
-        nodes = slice_set old.nodes (number_of old.nodes name) (record { name = node.name; cache = record node.cache { items = [] } });
+        nodes = slice_set old.nodes (node_number old.nodes name) (record { name = node.name; cache = record node.cache { items = [] } });
       }
 
 -- the proxy forgets its requests and begins its next incarnation; its clock stays
@@ -167,7 +167,7 @@ pub record Restarts (old : WorldView) (number : ℕ) (note : Note) (new : WorldV
 -- an accepted event, what is told of it, and the fleet after it
 abbrev pub WorldStep : WorldView → Event → Note → WorldView → Type 0
 WorldStep old (Clock proxy reading) note new = Ticks old proxy reading note new
-WorldStep old (Client proxy request) note new = Asks old proxy request note new
+WorldStep old (Client proxy request) note new = ClientAsks old proxy request note new
 WorldStep old (Deliver message now) note new = Delivers old message now note new
 WorldStep old (Return reply) note new = Returns old reply note new
 WorldStep old (GiveUp op) note new = GivesUp old op note new

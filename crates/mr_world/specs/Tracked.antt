@@ -13,14 +13,14 @@ use Rattle.mr_proxy.specs.Sound.{IsSound, WasGivenOut}
 use Rattle.mr_world.specs.declared.message.Message.{Message}
 use Rattle.mr_world.specs.declared.message.Delivery.{Delivery}
 use Rattle.mr_world.specs.declared.node.Node.{Node}
-use Rattle.mr_world.specs.Positions.{number_of}
+use Rattle.mr_world.specs.Positions.{node_number}
 use Rattle.mr_world.specs.WorldView.{WorldView}
 
 -- a proxy knows its number and is sound, and there is a node of each name in its pools
 pub record IsAtHome (nodes : List Node) (place : ℕ) (proxy : ProxyView) : Type 0 where
   pub number : proxy.number ≡ place
   pub sound : IsSound proxy
-  pub named : (pool index : ℕ) → HasNode proxy.routing pool index → number_of nodes (name_at proxy.routing pool index) < length nodes
+  pub named : (pool index : ℕ) → HasNode proxy.routing pool index → node_number nodes (name_at proxy.routing pool index) < length nodes
 
 -- the op was issued and not answered
 pub record IsUnanswered (history : List Entry) (op : OpId) : Type 0 where
@@ -67,7 +67,7 @@ pub record IsTracked (w : WorldView) : Type 0 where
 
 -- the numbers of the nodes that each proxy's routing names, pool by pool
 abbrev pub numbers_in : List Node → ProxyView → List (List ℕ)
-numbers_in nodes proxy = map (λ pool. map (number_of nodes) pool) proxy.routing.pools
+numbers_in nodes proxy = map (λ pool. map (node_number nodes) pool) proxy.routing.pools
 
 abbrev pub numbers_of : List Node → List ProxyView → List (List (List ℕ))
 numbers_of nodes proxies = map (numbers_in nodes) proxies

@@ -1,3 +1,4 @@
+//! Why a world refuses an event.
 ghost use Rattle.std.specs.Prelude.{◌≡◌};
 
 use mr_history::HistoryError;

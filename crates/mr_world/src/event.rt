@@ -1,3 +1,4 @@
+//! What may happen to a fleet.
 ghost use Rattle.std.specs.Prelude.{◌≡◌, IfOk};
 
 use mr_history::OpId;

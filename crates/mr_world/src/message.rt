@@ -1,3 +1,4 @@
+//! Messages to nodes, and the replies that come back.
 ghost use Rattle.std.specs.Prelude.{◌≡◌, IfOk};
 
 use mr_join::LegReply;

@@ -1,6 +1,6 @@
 //! The nodes of a fleet, one for each name.
 ghost use Rattle.std.specs.Prelude.{◌≡◌, position, bytes_eq};
-ghost use Rattle.mr_world.specs.Positions.{number_of};
+ghost use Rattle.mr_world.specs.Positions.{node_number};
 
 use mr_node::CacheNode;
 use mr_pools::NodeName;
@@ -16,7 +16,7 @@ pub(crate) struct Node {
 
 /// The number of the node of this name, or how many nodes there are where none has it.
 pub(crate) fn number_of(nodes: &[Node], name: &NodeName) -> usize
-    ensures { result ≡ number_of nodes.now name.now }
+    ensures { result ≡ node_number nodes.now name.now }
 {
     match find_node(nodes, name) {
         Some(number) => number,

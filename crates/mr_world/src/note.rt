@@ -1,3 +1,4 @@
+//! What became of an event.
 ghost use Rattle.std.specs.Prelude.{◌≡◌};
 
 use mr_history::OpId;

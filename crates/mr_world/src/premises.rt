@@ -1,3 +1,5 @@
+//! The premises of the promise, as a run kept them.
+
 /// Whether the premises hold under which acknowledged deletes hold.
 #[derive(Clone, Copy, Debug, PartialEq, Eq)]
 pub struct Premises {

@@ -1,6 +1,6 @@
 //! What a setup says of the premises of its runs.
 ghost use Rattle.std.specs.Prelude.{◌≡◌, ◌↔◌, IsTrue, All};
-ghost use Rattle.mr_world.specs.Setup.{AllAlike, IsNewPoolEmpty, MovesTo, HasNode, least_of};
+ghost use Rattle.mr_world.specs.Setup.{AllAlike, IsNewPoolEmpty, MovesTo, HasNamedNode, least_interval_of};
 
 use crate::setup::{ProxySetup, Setup};
 use mr_pools::{NodeName, Routing};
@@ -18,7 +18,7 @@ pub(crate) struct Terms {
 
 /// Whether the pool of that number has a node of this name.
 pub(crate) fn has_node(routing: &Routing, pool: usize, name: &NodeName) -> bool
-    ensures { IsTrue result ↔ HasNode routing.now pool name.now }
+    ensures { IsTrue result ↔ HasNamedNode routing.now pool name.now }
 {
     pool < routing.pools().len() && routing.pool(pool).names().contains(name)
 }
@@ -83,7 +83,7 @@ fn are_alike(proxies: &[ProxySetup]) -> bool
 
 /// The least interval of all proxies, 0 without proxies.
 fn least_of(proxies: &[ProxySetup]) -> u64
-    ensures { result ≡ least_of proxies.now }
+    ensures { result ≡ least_interval_of proxies.now }
 {
     let Some((first, rest)) = proxies.split_first() else {
         return 0;
@@ -100,7 +100,7 @@ impl Terms {
     pub(crate) fn of(setup: &Setup) -> Terms
         ensures same { IsTrue result.same ↔ AllAlike setup.now.proxies }
         ensures new_empty { IsTrue result.new_empty ↔ IsNewPoolEmpty setup.now }
-        ensures least { result.least ≡ least_of setup.now.proxies }
+        ensures least { result.least ≡ least_interval_of setup.now.proxies }
     {
         Terms {
             same: are_alike(setup.proxies()),

@@ -40,7 +40,7 @@ impl World {
     ghost use Rattle.mr_world.specs.Grounded.{StaysSecured};
     ghost use Rattle.mr_world.specs.Headline.{DeletesHold, StandsOnGround};
     ghost use Rattle.mr_world.specs.Premises.{premises_of, PremisesAtFirst, PremisesAfter};
-    ghost use Rattle.mr_world.specs.Refusals.{refusal_of_event, IsRefusal, IsStopped};
+    ghost use Rattle.mr_world.specs.Refusals.{refusal_of_event, IsEventRefusal, IsStopped};
     ghost use Rattle.mr_world.specs.Setup.{CanBeMade, Begins};
     ghost use Rattle.mr_world.specs.Steps.{WorldStep, WorldRun};
     ghost use Rattle.mr_world.specs.Tracked.{IsTracked};
@@ -70,7 +70,7 @@ impl World {
     /// OutOfMemory.
     pub fn step(&mut self, event: Event) -> Result<Note, WorldError>
         ensures accepted { IfOk result (λ note. (refusal_of_event self.old event ≡ None) × WorldStep self.old event note self.new) }
-        ensures refused { IfErr result (λ e. IsRefusal (refusal_of_event self.old event) event e) }
+        ensures refused { IfErr result (λ e. IsEventRefusal (refusal_of_event self.old event) event e) }
         ensures unchanged { OnErr result (self.new ≡ self.old) }
         ensures premises { IfOk result (λ _. PremisesAfter self.old (event ∷ []) (premises_of self.new)) }
         ensures facts { Facts self.new }

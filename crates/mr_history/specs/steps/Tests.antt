@@ -49,9 +49,9 @@ delete_of_request key op (Delete key' noreply) = if bytes_eq key' key then Some 
 delete_of_request key op request = None
 
 -- the op that the entry issues, where it is a delete of this key
-abbrev pub delete_of : List ℕ → Entry → Option OpId
-delete_of key (Issued op proxy request) = delete_of_request key op request
-delete_of key entry = None
+abbrev pub issued_delete : List ℕ → Entry → Option OpId
+issued_delete key (Issued op proxy request) = delete_of_request key op request
+issued_delete key entry = None
 
 -- from this place on no element passes
 pub record NonePasses {X : Type 0} (test : X → Bool) (list : List X) (from : ℕ) : Type 0 where
@@ -66,7 +66,7 @@ pub record LastPasses {X : Type 0} (test : X → Bool) (list : List X) (place : 
 
 -- before this place no delete of the key was issued that is acknowledged among the entries
 pub record NoConvict (entries : List Entry) (key : List ℕ) (end : ℕ) : Type 0 where
-  pub fail : (place : ℕ) (entry : Entry) (delete : OpId) → place < end → At entries place entry → delete_of key entry ≡ Some delete
+  pub fail : (place : ℕ) (entry : Entry) (delete : OpId) → place < end → At entries place entry → issued_delete key entry ≡ Some delete
       → list_any (is_acknowledged delete) entries ≡ false
 
 -- the first such delete
@@ -74,6 +74,6 @@ pub record FirstConvict (entries : List Entry) (key : List ℕ) (delete : OpId) 
   pub place : ℕ
   pub entry : Entry
   pub there : At entries place entry
-  pub issued : delete_of key entry ≡ Some delete
+  pub issued : issued_delete key entry ≡ Some delete
   pub acknowledged : list_any (is_acknowledged delete) entries ≡ true
   pub first : NoConvict entries key place

@@ -15,8 +15,8 @@ use Rattle.mr_node.specs.declared.session.SessionFault.TheVariants.{OutOfMemory,
 use Rattle.mr_node.specs.declared.session.Step.{Step}
 use Rattle.mr_node.specs.declared.session.Step.TheVariants.{Served, Waits, Ends}
 use Rattle.mr_node.specs.Output.Exchange.{Asked}
-use Rattle.mr_node.specs.Output.{Exchange, IsServed, SpellsExchange, answer_of, reply_to_refusal}
-use Rattle.mr_node.specs.Session.{Station, Answers, StopsAnswering, DoesExchange, IsUnanswered}
+use Rattle.mr_node.specs.Output.{Exchange, IsServed, SpellsExchange, answer_to, reply_to_refusal}
+use Rattle.mr_node.specs.Session.{Station, Answers, StopsAnswering, DoesExchange, LeavesUnanswered}
 use Rattle.mr_node.specs.Outcome.{Outcomes}
 
 module _ {C P : Type 0} (Does : Outcomes C P) (old new : Station C P) where
@@ -24,12 +24,12 @@ module _ {C P : Type 0} (Does : Outcomes C P) (old new : Station C P) where
   abbrev pub RequestIs : Request → Result Step SessionFault → Type 0
   RequestIs request (Ok Served) =
       IsServed request × (outcome : Reply) × Does old.clock old.node request outcome new.clock new.node
-      × Answers (answer_of (Asked request outcome)) old.writer new.writer
+      × Answers (answer_to (Asked request outcome)) old.writer new.writer
   RequestIs request (Ok Waits) = ⊥
   RequestIs request (Ok (Ends ended)) = (request ≡ Quit) × (ended ≡ how.Quit) × (new ≡ old)
   RequestIs request (Err fault) =
       (fault ≡ WriteFault) × IsServed request × (outcome : Reply) × Does old.clock old.node request outcome new.clock new.node
-      × StopsAnswering (answer_of (Asked request outcome)) old.writer new.writer
+      × StopsAnswering (answer_to (Asked request outcome)) old.writer new.writer
 
   module _ (ended : Bool) (rest : List ℕ) (requests : ReaderView) where
     abbrev pub EndIs : Ended → Type 0
@@ -44,8 +44,8 @@ module _ {C P : Type 0} (Does : Outcomes C P) (old new : Station C P) where
     abbrev pub StepIs : Result Step SessionFault → Type 0
     StepIs (Ok Served) =
         (exchange : Exchange) × (spelling : List ℕ) × (after : List ℕ) × (1 ≤ length spelling) × (rest ≡ spelling ++ after) × SpellsExchange spelling exchange
-        × DoesExchange Does old exchange new × Answers (answer_of exchange) old.writer new.writer × Becomes requests after ended false
+        × DoesExchange Does old exchange new × Answers (answer_to exchange) old.writer new.writer × Becomes requests after ended false
     StepIs (Ok Waits) =
         (new ≡ old) × IsUnfinished SpellsRequest RefusesRequest rest × (ended ≡ true → rest ≡ []) × Becomes requests rest ended false
     StepIs (Ok (Ends how)) = EndIs how
-    StepIs (Err fault) = ((fault ≡ OutOfMemory) × (new ≡ old)) ⊎ ((fault ≡ WriteFault) × IsUnanswered Does rest old new)
+    StepIs (Err fault) = ((fault ≡ OutOfMemory) × (new ≡ old)) ⊎ ((fault ≡ WriteFault) × LeavesUnanswered Does rest old new)

@@ -6,7 +6,7 @@ use Rattle.mr_text.specs.declared.error.TextError.{TextError}
 use Rattle.mr_text.specs.declared.reply.Reply.{Reply}
 use Rattle.mr_text.specs.declared.request.Request.{Request}
 use Rattle.mr_node.specs.Outcome.{Outcomes}
-use Rattle.mr_node.specs.Output.{IsServed, answer_of}
+use Rattle.mr_node.specs.Output.{IsServed, answer_to}
 use Rattle.mr_node.specs.Output.Exchange.{Asked}
 use Rattle.mr_node.specs.Session.{Station, Answers, StopsAnswering, AnswersRefusal}
 use Rattle.mr_node.specs.declared.session.SessionFault.TheVariants as fault
@@ -18,8 +18,8 @@ use Rattle.mr_sessions.specs.ClientSession.{Fails, IsInVain}
 
 -- the client is told the outcome, unless it wants no answer; or the writer fails
 abbrev pub AnsweredSo : Request → Reply → SinkView → SinkView → Result (Unit {0}) WorkerError → Type 0
-AnsweredSo request outcome old new (Ok _) = Answers (answer_of (Asked request outcome)) old new
-AnsweredSo request outcome old new (Err fault) = (fault ≡ WriteFault) × StopsAnswering (answer_of (Asked request outcome)) old new
+AnsweredSo request outcome old new (Ok _) = Answers (answer_to (Asked request outcome)) old new
+AnsweredSo request outcome old new (Err fault) = (fault ≡ WriteFault) × StopsAnswering (answer_to (Asked request outcome)) old new
 
 -- a refusal is answered as in any session
 abbrev pub ClientRefusalIs : TextError → SinkView → Result Step WorkerError → SinkView → Type 0

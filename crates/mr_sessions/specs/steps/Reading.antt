@@ -34,9 +34,9 @@ NextIs kept (Err OutOfMemory) replies = HoldsReply kept
 NextIs kept (Err other) replies = ⊥
 
 -- what one read comes to
-abbrev pub PieceIs : List ℕ → SourceView → Result (Unit {0}) WorkerError → ReaderView → SourceView → Type 0
-PieceIs kept old (Ok _) replies new = (piece : List ℕ) × BringsPiece piece old new × Becomes replies (kept ++ piece) false false
-PieceIs kept old (Err ReadFault) replies new = FailsToRead old new
-PieceIs kept old (Err LinkBroken) replies new = MeetsEnd old new
-PieceIs kept old (Err OutOfMemory) replies new = (piece : List ℕ) × BringsPiece piece old new
-PieceIs kept old (Err other) replies new = ⊥
+abbrev pub ReplyPieceIs : List ℕ → SourceView → Result (Unit {0}) WorkerError → ReaderView → SourceView → Type 0
+ReplyPieceIs kept old (Ok _) replies new = (piece : List ℕ) × BringsPiece piece old new × Becomes replies (kept ++ piece) false false
+ReplyPieceIs kept old (Err ReadFault) replies new = FailsToRead old new
+ReplyPieceIs kept old (Err LinkBroken) replies new = MeetsEnd old new
+ReplyPieceIs kept old (Err OutOfMemory) replies new = (piece : List ℕ) × BringsPiece piece old new
+ReplyPieceIs kept old (Err other) replies new = ⊥

@@ -3,9 +3,9 @@ mod list_clock;
 mod readings;
 mod system_clock;
 
+use super::{count_is, holds, is, number_is};
 use mr_clock::Clock;
 use std::process::Abort;
-use super::{count_is, holds, is, number_is};
 
 /// Asserts what a clock shows, or that it fails.
 fn shows<C: Clock>(rt: &impl Abort, row: usize, clock: &mut C, wanted: Option<u64>) {

@@ -1,11 +1,11 @@
 //! Replies joined in either order, and the worse of two.
+use super::leg_replies::{Came, reply_of, word_of};
+use super::{holds, is, says};
 use crate::tests::must;
 use mr_join::{Joining, LegReply, worse};
 use mr_phases::Side;
 use std::alloc::Global;
 use std::process::Abort;
-use super::leg_replies::{Came, reply_of, word_of};
-use super::{holds, is, says};
 
 /// What the old and the new node answered, what a client is told of both, how bad the old one's is, and whether both are
 /// the same.

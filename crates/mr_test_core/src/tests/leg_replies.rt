@@ -1,9 +1,9 @@
 //! What nodes answer, in few words.
+use super::{must, repeated};
 use mr_join::LegReply;
 use mr_text::{Block, Cause};
 use std::alloc::Global;
 use std::process::Abort;
-use super::{must, repeated};
 
 /// What comes back for a leg.
 #[derive(Clone, Copy)]

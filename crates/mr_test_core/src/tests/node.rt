@@ -5,11 +5,11 @@ mod memory;
 mod service;
 mod values;
 
+use super::leg_replies::word_of;
+use super::{are, count_is, holds, is, says};
 use mr_node::{CacheNode, NodeCommand};
 use mr_text::{Block, Key, TextError};
 use std::alloc::Global;
-use super::leg_replies::word_of;
-use super::{are, count_is, holds, is, says};
 
 /// When the item of a key expires, if it does and if there is one.
 fn expiry(node: &CacheNode, key: &Key) -> Option<Option<u64>> {

@@ -1,6 +1,6 @@
 //! A migration that starts at 1000 with an interval of 100 seconds.
-use crate::tests::must;
 use super::{count_is, holds, is, number_is, says};
+use crate::tests::must;
 use mr_phases::{
     Judged, PhaseName, RequestKind, Schedule, ScheduleError, Side, Sides, judge, laws,
 };

@@ -1,10 +1,10 @@
 //! Worked values of names, hashes, pools and routings.
+use super::{are, count_is, holds, is, pool, routing, says};
 use crate::tests::must;
 use mr_pools::{Fnv1a32, KeyHash, NamedHash, NodeName, Pool, PoolError, Routing, SumHash, laws};
 use mr_text::Key;
 use std::alloc::Global;
 use std::process::Abort;
-use super::{are, count_is, holds, is, pool, routing, says};
 
 /// A key, and where it is kept: its spot by its sum, the places in the old and the new pool by that, with their nodes, and
 /// its spot by FNV-1a with the places by that.

@@ -8,6 +8,8 @@ mod values;
 ghost use Rattle.std.specs.Prelude.{◌≢◌};
 ghost use Rattle.mr_text.specs.declared.request.Request.{Request};
 
+use super::leg_replies::{Came, reply_of};
+use super::{Rule, are, count_is, holds, is, leaves, number_is, routing, says, spelled};
 use crate::tests::must;
 use mr_history::OpId;
 use mr_phases::Schedule;
@@ -16,8 +18,6 @@ use mr_proxy::{Answer, Issued, LegId, ProxyCore, Taken};
 use mr_text::{Block, Key, KeyList, Request};
 use std::alloc::Global;
 use std::process::Abort;
-use super::leg_replies::{Came, reply_of};
-use super::{Rule, are, count_is, holds, is, leaves, number_is, routing, says, spelled};
 
 fn core_of(rt: &impl Abort, alloc: Global, incarnation: u64, room: u64) -> ProxyCore {
     let schedule = must(rt, Schedule::new(1000, 100));

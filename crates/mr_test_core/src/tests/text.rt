@@ -5,10 +5,10 @@ mod slow_reader;
 mod values;
 mod writer;
 
+use super::{Rule, are, count_is, holds, is, leaves, must, repeated, spelled};
 use mr_text::{Block, Item, Key};
 use std::alloc::Global;
 use std::process::Abort;
-use super::{Rule, are, count_is, holds, is, leaves, must, repeated, spelled};
 
 /// An item of these bytes.
 fn item(rt: &impl Abort, alloc: Global, key: &[u8], flags: u32, block: &[u8]) -> Item {

@@ -3,6 +3,7 @@
 mod at_once;
 mod phases;
 
+use super::{is, is_at, must, recorded};
 use mr_clock::Clock;
 use mr_desks::{Carrier, Closed, Gate, Share};
 use mr_fleet::{FleetClient, FleetEnd, FleetProxy, run_fleet};
@@ -13,7 +14,6 @@ use std::alloc::Global;
 use std::process::Abort;
 use std::sync::Wait;
 use std::thread::Threads;
-use super::{is, is_at, must, recorded};
 
 /// The nodes of the new pool.
 const NEW: [&[u8]; 3] = [b"7101", b"7102", b"7103"];

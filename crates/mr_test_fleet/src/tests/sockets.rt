@@ -5,6 +5,7 @@ mod fleet;
 
 ghost use Rattle.mr_proxy.specs.ProxyView.{IsFresh};
 
+use super::{is_at, must};
 use mr_clock::FixedClock;
 use mr_desks::{Desk, SharedNode};
 use mr_node::CacheNode;
@@ -20,7 +21,6 @@ use std::process::Abort;
 use std::sync::Wait;
 use std::thread::Threads;
 use std::time::Clock;
-use super::{is_at, must};
 
 /// How many reads each connection is allowed.
 const TURNS: u64 = 1_000_000;

@@ -1,5 +1,6 @@
 //! Whole runs, over files, inputs and outputs in memory. Those of services are over sockets of this machine, and each waits
 //! for threads.
+use super::is;
 use crate::tests::commands::files_at::{FilesAt, Place};
 use mr_sockets::HostServers;
 use mr_text::{OverReader, OverWriter, Source};
@@ -13,7 +14,6 @@ use std::process::Abort;
 use std::sync::Wait;
 use std::thread::Threads;
 use std::time::Clock;
-use super::is;
 
 mod arguments;
 mod devices;

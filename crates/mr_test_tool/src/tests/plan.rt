@@ -3,11 +3,11 @@
 mod configs;
 mod scripts;
 
+use super::is;
 use mr_pools::{NodeName, Pool};
 use std::alloc::{AllocError, Global};
 use std::fmt::Debug;
 use std::process::Abort;
-use super::is;
 
 /// Asserts which value there is in one case of several.
 fn is_for<T: PartialEq + Debug + Drop>(rt: &impl Abort, value: T, wanted: T, case: &str) {

@@ -9,22 +9,22 @@ use Rattle.mr_text.specs.declared.error.TextError.{TextError}
 use Rattle.mr_text.specs.declared.reading.commands.Command.{Command}
 use Rattle.mr_text.specs.declared.reading.commands.Command.TheVariants.{Get, Set, Delete, Quit}
 
-abbrev pub said_by : Command → CommandLine
-said_by (Get keys count) = GetLine (words_of keys.now)
-said_by (Set key flags exptime block_length noreply) = SetLine key.now flags exptime block_length noreply
-said_by (Delete key noreply) = DeleteLine key.now noreply
-said_by Quit = QuitLine
+abbrev pub command_line_of : Command → CommandLine
+command_line_of (Get keys count) = GetLine (words_of keys.now)
+command_line_of (Set key flags exptime block_length noreply) = SetLine key.now flags exptime block_length noreply
+command_line_of (Delete key noreply) = DeleteLine key.now noreply
+command_line_of Quit = QuitLine
 
 -- the keys are counted right
-abbrev pub IsCounted : Command → Type 0
-IsCounted (Get keys count) = count ≡ length (words_of keys.now)
-IsCounted (Set key flags exptime block_length noreply) = Unit {0}
-IsCounted (Delete key noreply) = Unit {0}
-IsCounted Quit = Unit {0}
+abbrev pub IsCommandCounted : Command → Type 0
+IsCommandCounted (Get keys count) = count ≡ length (words_of keys.now)
+IsCommandCounted (Set key flags exptime block_length noreply) = Unit {0}
+IsCommandCounted (Delete key noreply) = Unit {0}
+IsCommandCounted Quit = Unit {0}
 
 -- what the words say, or how they are refused
 abbrev pub IsCommand : Result CommandLine TextError → Result Command TextError → Type 0
-IsCommand line (Ok command) = (line ≡ Ok (said_by command)) × IsCounted command
+IsCommand line (Ok command) = (line ≡ Ok (command_line_of command)) × IsCommandCounted command
 IsCommand line (Err refusal) = line ≡ Err refusal
 
 -- the words are the keys of one request, so many

@@ -19,22 +19,22 @@ use Rattle.mr_text.specs.declared.request.Request.TheVariants.{Get, Set, Delete,
 
 -- what a stretch of bytes gives: it waits for more, or gives a value, or is refused. The length is what is read:
 -- of a refusal, the line that reading goes on behind, and nothing where it ends.
-pub data Reading (Value : Type 0) : Type 0 where
-  Waits : Reading Value
-  Gives : (value : Value) (length : ℕ) → Reading Value
-  Refused : (refusal : TextError) (length : ℕ) → Reading Value
+pub data StretchReading (Value : Type 0) : Type 0 where
+  Waits : StretchReading Value
+  Gives : (value : Value) (length : ℕ) → StretchReading Value
+  Refused : (refusal : TextError) (length : ℕ) → StretchReading Value
 
 -- the first line, with the length of its bytes, its end included
-abbrev pub line_read_to : List ℕ → ℕ → Reading (List ℕ)
+abbrev pub line_read_to : List ℕ → ℕ → StretchReading (List ℕ)
 line_read_to bytes place =
     let line = without_carriage_return (take place bytes) in
     if nat_lt MAX_LINE (length line) then Refused LineTooLong 0 else Gives line (place + 1)
 
-abbrev pub line_reading_at : List ℕ → Option ℕ → Reading (List ℕ)
+abbrev pub line_reading_at : List ℕ → Option ℕ → StretchReading (List ℕ)
 line_reading_at bytes None = if nat_le (MAX_LINE + 2) (length bytes) then Refused LineTooLong 0 else Waits
 line_reading_at bytes (Some place) = line_read_to bytes place
 
-unfoldable pub line_reading : List ℕ → Reading (List ℕ)
+unfoldable pub line_reading : List ℕ → StretchReading (List ℕ)
 line_reading bytes = line_reading_at bytes (byte_place 10 bytes)
 
 -- a line as its words say it
@@ -127,14 +127,14 @@ unfoldable pub block_reading : ℕ → List ℕ → Result Bool TextError
 block_reading block_length bytes = has_end (block_end block_length bytes)
 
 -- a set, when its line was read
-abbrev pub set_reading : List ℕ → List ℕ → ℕ → ℤ → ℕ → Bool → ℕ → Result Bool TextError → Reading Request
+abbrev pub set_reading : List ℕ → List ℕ → ℕ → ℤ → ℕ → Bool → ℕ → Result Bool TextError → StretchReading Request
 set_reading bytes key flags exptime block_length noreply line_length (Ok true) =
     Gives (Set key flags exptime (take block_length (drop line_length bytes)) noreply) (line_length + block_length + 2)
 set_reading bytes key flags exptime block_length noreply line_length (Ok false) = Waits
 set_reading bytes key flags exptime block_length noreply line_length (Err refusal) = Refused refusal 0
 
 -- a request, when its line was read
-abbrev pub request_of_line : List ℕ → ℕ → Result CommandLine TextError → Reading Request
+abbrev pub request_of_line : List ℕ → ℕ → Result CommandLine TextError → StretchReading Request
 request_of_line bytes line_length (Ok (GetLine keys)) = Gives (Get keys) line_length
 request_of_line bytes line_length (Ok (DeleteLine key noreply)) = Gives (Delete key noreply) line_length
 request_of_line bytes line_length (Ok QuitLine) = Gives Quit line_length
@@ -142,11 +142,11 @@ request_of_line bytes line_length (Ok (SetLine key flags exptime block_length no
     set_reading bytes key flags exptime block_length noreply line_length (block_reading block_length (drop line_length bytes))
 request_of_line bytes line_length (Err refusal) = Refused refusal line_length
 
-abbrev pub request_of_reading : List ℕ → Reading (List ℕ) → Reading Request
+abbrev pub request_of_reading : List ℕ → StretchReading (List ℕ) → StretchReading Request
 request_of_reading bytes Waits = Waits
 request_of_reading bytes (Gives line line_length) = request_of_line bytes line_length (command_line (words_of line))
 request_of_reading bytes (Refused refusal length) = Refused refusal length
 
 -- the request at the front of the bytes
-unfoldable pub request_reading : List ℕ → Reading Request
+unfoldable pub request_reading : List ℕ → StretchReading Request
 request_reading bytes = request_of_reading bytes (line_reading bytes)

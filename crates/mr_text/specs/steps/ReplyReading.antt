@@ -4,8 +4,8 @@ use Rattle.std.specs.Str.{bytes_eq}
 use Rattle.mr_lines.specs.Numbers.{number_in}
 use Rattle.mr_lines.specs.Words.{words_of, drop_spaces}
 use Rattle.mr_text.specs.Key.{key_test}
-use Rattle.mr_text.specs.steps.Reading.{Reading, line_reading, block_reading}
-use Rattle.mr_text.specs.steps.Reading.Reading.{Waits, Gives, Refused}
+use Rattle.mr_text.specs.steps.Reading.{StretchReading, line_reading, block_reading}
+use Rattle.mr_text.specs.steps.Reading.StretchReading.{Waits, Gives, Refused}
 use Rattle.mr_text.specs.Replies.{cause_of}
 use Rattle.mr_text.specs.declared.item.Item.{Item}
 use Rattle.mr_text.specs.Limits.{MAX_BLOCK, MAX_ITEMS}
@@ -67,61 +67,61 @@ pub data Step : Type 0 where
   ItemStep : (item : Item) → Step
   EndStep : Step
 
-abbrev pub item_step : List ℕ → ℕ → List ℕ → ℕ → ℕ → Result Bool TextError → Reading Step
+abbrev pub item_step : List ℕ → ℕ → List ℕ → ℕ → ℕ → Result Bool TextError → StretchReading Step
 item_step bytes line_length key flags block_length (Ok true) =
     Gives (ItemStep (record { key = key; flags = flags; block = take block_length (drop line_length bytes) })) (line_length + block_length + 2)
 item_step bytes line_length key flags block_length (Ok false) = Waits
 item_step bytes line_length key flags block_length (Err refusal) = Refused refusal 0
 
-abbrev pub step_of_line : List ℕ → ℕ → Result ReplyLine TextError → Reading Step
+abbrev pub step_of_line : List ℕ → ℕ → Result ReplyLine TextError → StretchReading Step
 step_of_line bytes line_length (Ok (ItemLine key flags block_length)) =
     item_step bytes line_length key flags block_length (block_reading block_length (drop line_length bytes))
 step_of_line bytes line_length (Ok EndLine) = Gives EndStep line_length
 step_of_line bytes line_length (Ok (LoneLine reply)) = Refused WrongWords 0
 step_of_line bytes line_length (Err refusal) = Refused refusal 0
 
-abbrev pub step_of_reading : ℕ → List ℕ → Reading (List ℕ) → Reading Step
+abbrev pub step_of_reading : ℕ → List ℕ → StretchReading (List ℕ) → StretchReading Step
 step_of_reading room bytes Waits = Waits
 step_of_reading room bytes (Gives line line_length) = step_of_line bytes line_length (next_line room (words_of line))
 step_of_reading room bytes (Refused refusal length) = Refused refusal 0
 
 -- the next item, or the end, with room for so many more
-unfoldable pub step_reading : ℕ → List ℕ → Reading Step
+unfoldable pub step_reading : ℕ → List ℕ → StretchReading Step
 step_reading room bytes = step_of_reading room bytes (line_reading bytes)
 
 -- items in front of those behind them, which take so many bytes
-abbrev pub with_items : List Item → ℕ → Reading (List Item) → Reading (List Item)
+abbrev pub with_items : List Item → ℕ → StretchReading (List Item) → StretchReading (List Item)
 with_items front size Waits = Waits
 with_items front size (Gives items length) = Gives (front ++ items) (size + length)
 with_items front size (Refused refusal length) = Refused refusal length
 
-abbrev pub items_by : (List ℕ → Reading (List Item)) → List ℕ → Reading Step → Reading (List Item)
+abbrev pub items_by : (List ℕ → StretchReading (List Item)) → List ℕ → StretchReading Step → StretchReading (List Item)
 items_by behind bytes Waits = Waits
 items_by behind bytes (Gives (ItemStep item) size) = with_items (item ∷ []) size (behind (drop size bytes))
 items_by behind bytes (Gives EndStep size) = Gives [] size
 items_by behind bytes (Refused refusal length) = Refused refusal 0
 
 -- the items to the end, with room for so many
-unfoldable pub items_reading : ℕ → List ℕ → Reading (List Item)
+unfoldable pub items_reading : ℕ → List ℕ → StretchReading (List Item)
 items_reading zero bytes = items_by (λ _. Waits) bytes (step_reading zero bytes)
 items_reading (suc room) bytes = items_by (items_reading room) bytes (step_reading (suc room) bytes)
 
-abbrev pub as_reply : Reading (List Item) → Reading Reply
+abbrev pub as_reply : StretchReading (List Item) → StretchReading Reply
 as_reply Waits = Waits
 as_reply (Gives items length) = Gives (Items items) length
 as_reply (Refused refusal length) = Refused refusal length
 
-abbrev pub reply_of_line : List ℕ → ℕ → Result ReplyLine TextError → Reading Reply
+abbrev pub reply_of_line : List ℕ → ℕ → Result ReplyLine TextError → StretchReading Reply
 reply_of_line bytes line_length (Ok (ItemLine key flags block_length)) = as_reply (items_reading MAX_ITEMS bytes)
 reply_of_line bytes line_length (Ok EndLine) = as_reply (items_reading MAX_ITEMS bytes)
 reply_of_line bytes line_length (Ok (LoneLine reply)) = Gives reply line_length
 reply_of_line bytes line_length (Err refusal) = Refused refusal 0
 
-abbrev pub reply_of_reading : List ℕ → Reading (List ℕ) → Reading Reply
+abbrev pub reply_of_reading : List ℕ → StretchReading (List ℕ) → StretchReading Reply
 reply_of_reading bytes Waits = Waits
 reply_of_reading bytes (Gives line line_length) = reply_of_line bytes line_length (first_line line (words_of line))
 reply_of_reading bytes (Refused refusal length) = Refused refusal 0
 
 -- the reply at the front of the bytes
-unfoldable pub reply_reading : List ℕ → Reading Reply
+unfoldable pub reply_reading : List ℕ → StretchReading Reply
 reply_reading bytes = reply_of_reading bytes (line_reading bytes)

@@ -4,8 +4,8 @@ use Rattle.mr_text.specs.Block.{IsBlock}
 use Rattle.mr_text.specs.Key.{IsKey}
 use Rattle.mr_text.specs.steps.ReplyView.{HasOneLine}
 use Rattle.mr_text.specs.Replies.{cause_of}
-use Rattle.mr_text.specs.steps.Reading.{Reading}
-use Rattle.mr_text.specs.steps.Reading.Reading.{Waits, Gives, Refused}
+use Rattle.mr_text.specs.steps.Reading.{StretchReading}
+use Rattle.mr_text.specs.steps.Reading.StretchReading.{Waits, Gives, Refused}
 use Rattle.mr_text.specs.steps.ReplyReading.{Step, step_reading, items_reading, reply_reading}
 use Rattle.mr_text.specs.steps.ReplyReading.Step.{ItemStep, EndStep}
 use Rattle.mr_text.specs.declared.item.Item.{Item}
@@ -21,16 +21,16 @@ use Rattle.mr_text.specs.declared.reply.Reply.{Reply}
 use Rattle.mr_text.specs.declared.reply.Reply.TheVariants as reply
 
 -- what the reading of the next step gives
-abbrev pub IsStep : ℕ → List ℕ → Result (Option FoundStep) TextError → Type 0
-IsStep room bytes (Ok None) = step_reading room bytes ≡ Waits
-IsStep room bytes (Ok (Some (step.Item key flags block size))) =
+abbrev pub IsReplyStep : ℕ → List ℕ → Result (Option FoundStep) TextError → Type 0
+IsReplyStep room bytes (Ok None) = step_reading room bytes ≡ Waits
+IsReplyStep room bytes (Ok (Some (step.Item key flags block size))) =
     (step_reading room bytes ≡ Gives (ItemStep (record { key = key.now; flags = flags; block = block.now })) size) ×
     IsKey key.now × IsBlock block.now × (size ≤ length bytes) × (0 < room)
-IsStep room bytes (Ok (Some (step.End size))) = (step_reading room bytes ≡ Gives EndStep size) × (size ≤ length bytes)
-IsStep room bytes (Err refusal) = step_reading room bytes ≡ Refused refusal 0
+IsReplyStep room bytes (Ok (Some (step.End size))) = (step_reading room bytes ≡ Gives EndStep size) × (size ≤ length bytes)
+IsReplyStep room bytes (Err refusal) = step_reading room bytes ≡ Refused refusal 0
 
 -- the same, of an item whose line was read
-abbrev pub IsItemStep : Reading Step → List ℕ → ℕ → ℕ → Result (Option FoundStep) TextError → Type 0
+abbrev pub IsItemStep : StretchReading Step → List ℕ → ℕ → ℕ → Result (Option FoundStep) TextError → Type 0
 IsItemStep reading key flags all (Ok None) = reading ≡ Waits
 IsItemStep reading key flags all (Ok (Some (step.Item k f block size))) =
     (reading ≡ Gives (ItemStep (record { key = key; flags = flags; block = block.now })) size) × (k.now ≡ key) × (f ≡ flags) × IsBlock block.now × (size ≤ all)

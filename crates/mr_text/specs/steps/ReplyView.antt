@@ -11,15 +11,15 @@ use Rattle.mr_text.specs.declared.reading.reply_lines.SaidLine.{SaidLine}
 use Rattle.mr_text.specs.declared.reading.reply_lines.SaidLine.TheVariants.{Item, End, Stored, Deleted, NotFound, Error, ClientError, ServerError}
 use Rattle.mr_text.specs.declared.reply.Reply.TheVariants as reply
 
-abbrev pub said_by : SaidLine → ReplyLine
-said_by (Item key flags block_length) = ItemLine key.now flags block_length
-said_by End = EndLine
-said_by Stored = LoneLine reply.Stored
-said_by Deleted = LoneLine reply.Deleted
-said_by NotFound = LoneLine reply.NotFound
-said_by Error = LoneLine reply.Error
-said_by (ClientError text) = LoneLine (reply.ClientError (cause_of text.now))
-said_by (ServerError text) = LoneLine (reply.ServerError (cause_of text.now))
+abbrev pub reply_line_of : SaidLine → ReplyLine
+reply_line_of (Item key flags block_length) = ItemLine key.now flags block_length
+reply_line_of End = EndLine
+reply_line_of Stored = LoneLine reply.Stored
+reply_line_of Deleted = LoneLine reply.Deleted
+reply_line_of NotFound = LoneLine reply.NotFound
+reply_line_of Error = LoneLine reply.Error
+reply_line_of (ClientError text) = LoneLine (reply.ClientError (cause_of text.now))
+reply_line_of (ServerError text) = LoneLine (reply.ServerError (cause_of text.now))
 
 -- an item's key is one, its block may have this length, and there was room
 abbrev pub IsGoodItem : ℕ → SaidLine → Type 0
@@ -37,6 +37,6 @@ HasOneLine (ServerError text) = IsOneLine text.now
 HasOneLine line = Unit {0}
 
 -- what the words say, or how they are refused
-abbrev pub IsLine : Result ReplyLine TextError → Result SaidLine TextError → Type 0
-IsLine said (Ok line) = said ≡ Ok (said_by line)
-IsLine said (Err refusal) = said ≡ Err refusal
+abbrev pub IsReplyLine : Result ReplyLine TextError → Result SaidLine TextError → Type 0
+IsReplyLine said (Ok line) = said ≡ Ok (reply_line_of line)
+IsReplyLine said (Err refusal) = said ≡ Err refusal

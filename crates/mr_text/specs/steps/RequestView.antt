@@ -5,7 +5,7 @@ use Rattle.mr_text.specs.Block.{IsBlock}
 use Rattle.mr_text.specs.Key.{IsKey}
 use Rattle.mr_text.specs.steps.CommandView.{AreKeys}
 use Rattle.mr_text.specs.steps.Reading.{request_reading}
-use Rattle.mr_text.specs.steps.Reading.Reading.{Waits, Gives, Refused}
+use Rattle.mr_text.specs.steps.Reading.StretchReading.{Waits, Gives, Refused}
 use Rattle.mr_text.specs.declared.reading.commands.Command.{Command}
 use Rattle.mr_text.specs.declared.reading.commands.Command.TheVariants.{Get, Set, Delete, Quit}
 use Rattle.mr_text.specs.declared.reading.requests.FoundRequest.{FoundRequest}
@@ -30,11 +30,11 @@ IsGood (Set key flags exptime block_length noreply) block = IsKey key.now × IsB
 IsGood (Delete key noreply) block = IsKey key.now
 IsGood Quit block = Unit {0}
 
-abbrev pub IsWhole : FoundRequest → Type 0
-IsWhole found = IsGood found.command found.block.now
+abbrev pub IsWholeRequest : FoundRequest → Type 0
+IsWholeRequest found = IsGood found.command found.block.now
 
 -- what the reading of the bytes gives
-abbrev pub IsFound : List ℕ → Result (Option FoundRequest) RefusedText → Type 0
-IsFound bytes (Ok None) = request_reading bytes ≡ Waits
-IsFound bytes (Ok (Some found)) = (request_reading bytes ≡ Gives (said_request found) found.length) × IsWhole found × (found.length ≤ length bytes)
-IsFound bytes (Err refused) = (request_reading bytes ≡ Refused refused.refusal refused.length) × (refused.length ≤ length bytes)
+abbrev pub FindsRequest : List ℕ → Result (Option FoundRequest) RefusedText → Type 0
+FindsRequest bytes (Ok None) = request_reading bytes ≡ Waits
+FindsRequest bytes (Ok (Some found)) = (request_reading bytes ≡ Gives (said_request found) found.length) × IsWholeRequest found × (found.length ≤ length bytes)
+FindsRequest bytes (Err refused) = (request_reading bytes ≡ Refused refused.refusal refused.length) × (refused.length ≤ length bytes)

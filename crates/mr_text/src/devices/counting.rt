@@ -3,10 +3,7 @@
 mod bytes;
 mod count;
 mod least;
-mod lowest;
-mod roll;
-mod tally;
 
 pub use bytes::GhostBytes;
-pub use lowest::GhostLeast;
-pub use tally::GhostCount;
+pub use count::GhostCount;
+pub use least::GhostLeast;

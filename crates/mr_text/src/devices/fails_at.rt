@@ -1,3 +1,4 @@
+//! A device that fails when it is told to, for tests.
 ghost use Rattle.std.specs.Prelude.{◌≡◌, ◌≢◌, ◌-◌, ◌==◌, false, IsErr, None, []};
 ghost use Rattle.mr_text.specs.Sink.{IsOneWrite};
 ghost use Rattle.mr_text.specs.Source.{IsOneRead};

@@ -1,3 +1,4 @@
+//! Where bytes are written to, and what contracts know of it.
 ghost use Rattle.std.specs.Prelude.{◌≡◌, [], false};
 ghost use Rattle.mr_text.specs.Sink.{SinkView, IsOneWrite};
 

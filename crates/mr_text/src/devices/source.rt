@@ -1,3 +1,4 @@
+//! Where bytes are read from, and what contracts know of it.
 ghost use Rattle.std.specs.Prelude.{◌≡◌, [], None};
 ghost use Rattle.mr_text.specs.Source.{SourceView, IsOneRead};
 

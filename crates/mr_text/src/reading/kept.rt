@@ -1,3 +1,4 @@
+//! What came of a stream and wasn't read yet.
 ghost use Rattle.std.specs.Prelude.{◌≡◌, ◌≤◌, ◌++◌, [], length, drop, OnOk, OnErr};
 
 use std::alloc::{AllocError, Global};

@@ -2,7 +2,7 @@
 ghost use Rattle.std.specs.Prelude.{◌≡◌, ◌<◌, ◌≤◌, length, IfSome, IfOk, MatchResult, MatchOption};
 ghost use Rattle.mr_lines.specs.Lines.{byte_place, without_carriage_return};
 ghost use Rattle.mr_text.specs.steps.Reading.{line_reading, line_reading_at, line_read_to};
-ghost use Rattle.mr_text.specs.steps.Reading.Reading.{Waits, Gives, Refused};
+ghost use Rattle.mr_text.specs.steps.Reading.StretchReading.{Waits, Gives, Refused};
 ghost use Rattle.mr_text.specs.Line.{HasLineFeed};
 
 use crate::error::TextError;

@@ -3,10 +3,10 @@ ghost use Rattle.std.specs.Prelude.{◌≡◌, ◌≤◌, Some, is_none, drop, l
 ghost use Rattle.mr_text.specs.Block.{IsBlock};
 ghost use Rattle.mr_text.specs.Key.{IsKey};
 ghost use Rattle.mr_text.specs.steps.Reading.{block_reading};
-ghost use Rattle.mr_text.specs.steps.Reading.Reading.{Gives};
+ghost use Rattle.mr_text.specs.steps.Reading.StretchReading.{Gives};
 ghost use Rattle.mr_text.specs.Replies.{cause_of};
 ghost use Rattle.mr_text.specs.steps.ReplyReading.{item_step, items_reading};
-ghost use Rattle.mr_text.specs.steps.ReplySteps.{IsStep, IsItemStep, IsCount, HasItems, IsFoundItems, IsFoundReply, IsWholeReply, SaysReply, lone_reply};
+ghost use Rattle.mr_text.specs.steps.ReplySteps.{IsReplyStep, IsItemStep, IsCount, HasItems, IsFoundItems, IsFoundReply, IsWholeReply, SaysReply, lone_reply};
 ghost use Rattle.mr_text.specs.steps.ReplyView.{HasOneLine, IsOneLine};
 ghost use Rattle.mr_text.specs.Limits.{MAX_BLOCK, MAX_ITEMS};
 ghost use Rattle.mr_text.specs.declared.reply.Reply.{Reply};
@@ -52,7 +52,7 @@ pub(crate) enum FoundReply<'a> {
 /// The next item, or the end of the items, with room for so many more; None where more bytes are needed.
 #[tactic(auto, unfolding(crate::specs::steps::ReplyReading::step_reading))]
 fn step_at(room: usize, bytes: &[u8]) -> Result<Option<FoundStep<'_>>, TextError>
-    ensures { IsStep room bytes.now result }
+    ensures { IsReplyStep room bytes.now result }
 {
     let found = line_at(bytes)?;
     let Some((line, line_length)) = found else {
@@ -101,7 +101,7 @@ fn item_at<'a>(
 /// The same behind the bytes that were read.
 fn step_from(room: usize, bytes: &[u8], read: usize) -> Result<Option<FoundStep<'_>>, TextError>
     requires { read ≤ length bytes.now }
-    ensures { IsStep room (drop read bytes.now) result }
+    ensures { IsReplyStep room (drop read bytes.now) result }
 {
     step_at(room, &bytes[read..])
 }

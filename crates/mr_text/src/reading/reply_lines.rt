@@ -6,7 +6,7 @@ ghost use Rattle.mr_lines.specs.Words.{words_of, drop_spaces};
 ghost use Rattle.mr_text.specs.Replies.{lone_words};
 ghost use Rattle.mr_text.specs.steps.ReplyReading.{ReplyLine, first_line, next_line, item_line, item_line_within, lone_line};
 ghost use Rattle.mr_text.specs.steps.ReplyReading.ReplyLine.{EndLine, LoneLine};
-ghost use Rattle.mr_text.specs.steps.ReplyView.{IsLine, IsGoodItem, HasOneLine, IsOneLine, said_by};
+ghost use Rattle.mr_text.specs.steps.ReplyView.{IsReplyLine, IsGoodItem, HasOneLine, IsOneLine, reply_line_of};
 ghost use Rattle.mr_text.specs.Line.{HasLineFeed};
 ghost use Rattle.mr_text.specs.Limits.{MAX_LINE};
 
@@ -38,7 +38,7 @@ pub(crate) enum SaidLine<'a> {
 pub(crate) fn first_line_of(line: &[u8]) -> Result<SaidLine<'_>, TextError>
     requires one_line { ¬ HasLineFeed line.now }
     requires not_long { length line.now ≤ MAX_LINE }
-    ensures line { IsLine (first_line line.now (words_of line.now)) result }
+    ensures line { IsReplyLine (first_line line.now (words_of line.now)) result }
     ensures text { IfOk result HasOneLine }
 {
     let Some((word, rest)) = next_word(line) else {
@@ -63,7 +63,7 @@ pub(crate) fn first_line_of(line: &[u8]) -> Result<SaidLine<'_>, TextError>
 #[tactic(auto, unfolding(crate::specs::steps::ReplyReading::first_line))]
 fn lone_word<'a>(word: &[u8]) -> Option<SaidLine<'a>>
     ensures line { MatchOption result (list_any (bytes_eq word.now) lone_words ≡ false)
-        (λ said. (line : List ℕ) → (words : List (List ℕ)) → first_line line (word.now ∷ words) ≡ lone_line (said_by said) words) }
+        (λ said. (line : List ℕ) → (words : List (List ℕ)) → first_line line (word.now ∷ words) ≡ lone_line (reply_line_of said) words) }
     ensures text { IfSome result HasOneLine }
 {
     if is_text(word, b"STORED") {
@@ -86,7 +86,7 @@ fn lone_word<'a>(word: &[u8]) -> Option<SaidLine<'a>>
 
 /// What a line behind an item says, with room for so many more items.
 pub(crate) fn next_line_of(room: usize, line: &[u8]) -> Result<SaidLine<'_>, TextError>
-    ensures line { IsLine (next_line room (words_of line.now)) result }
+    ensures line { IsReplyLine (next_line room (words_of line.now)) result }
     ensures good { IfOk result (IsGoodItem room) }
 {
     next_said(room, line)
@@ -94,7 +94,7 @@ pub(crate) fn next_line_of(room: usize, line: &[u8]) -> Result<SaidLine<'_>, Tex
 
 #[tactic(auto, unfolding(crate::specs::steps::ReplyReading::next_line))]
 fn next_said(room: usize, line: &[u8]) -> Result<SaidLine<'_>, TextError>
-    ensures { IsLine (next_line room (words_of line.now)) result }
+    ensures { IsReplyLine (next_line room (words_of line.now)) result }
 {
     let Some((word, rest)) = next_word(line) else {
         return Err(TextError::WrongWords);
@@ -125,7 +125,7 @@ fn error_text<'a>(line: &[u8], word_length: usize, rest: &'a [u8]) -> &'a [u8]
 
 /// A line whose word stands alone.
 fn alone<'a>(line: SaidLine<'a>, rest: &[u8]) -> Result<SaidLine<'a>, TextError>
-    ensures line { IsLine (lone_line (said_by line.entry) (words_of rest.now)) result }
+    ensures line { IsReplyLine (lone_line (reply_line_of line.entry) (words_of rest.now)) result }
     ensures same { IfOk result (λ said. said ≡ line.entry) }
 {
     if next_word(rest).is_some() {
@@ -135,7 +135,7 @@ fn alone<'a>(line: SaidLine<'a>, rest: &[u8]) -> Result<SaidLine<'a>, TextError>
 }
 
 fn item_within(room: usize, words: &[u8]) -> Result<SaidLine<'_>, TextError>
-    ensures { IsLine (item_line_within room (words_of words.now)) result }
+    ensures { IsReplyLine (item_line_within room (words_of words.now)) result }
 {
     if room == 0 {
         return Err(TextError::WrongWords);
@@ -145,7 +145,7 @@ fn item_within(room: usize, words: &[u8]) -> Result<SaidLine<'_>, TextError>
 
 /// The words behind VALUE.
 fn item(words: &[u8]) -> Result<SaidLine<'_>, TextError>
-    ensures line { IsLine (item_line (words_of words.now)) result }
+    ensures line { IsReplyLine (item_line (words_of words.now)) result }
     ensures text { IfOk result HasOneLine }
 {
     let Some((key, rest)) = next_word(words) else {
@@ -165,7 +165,7 @@ fn item(words: &[u8]) -> Result<SaidLine<'_>, TextError>
 
 /// The item of these words.
 fn item_of<'a>(key: &'a [u8], flags: &[u8], bytes: &[u8]) -> Result<SaidLine<'a>, TextError>
-    ensures line { IsLine (item_line (key.entry.now ∷ flags.now ∷ bytes.now ∷ [])) result }
+    ensures line { IsReplyLine (item_line (key.entry.now ∷ flags.now ∷ bytes.now ∷ [])) result }
     ensures text { IfOk result HasOneLine }
 {
     if !is_key(key) {

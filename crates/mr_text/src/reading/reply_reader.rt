@@ -1,3 +1,4 @@
+//! Replies, out of a stream that comes in any pieces.
 ghost use Rattle.std.specs.Prelude.{◌≡◌, ◌≤◌, ℕ, List, [], true, false, drop, length};
 ghost use Rattle.mr_text.specs.Replies.{SpellsReply, RefusesReply, SkipsNone, is_no_last};
 ghost use Rattle.mr_text.specs.Stream.{StandsFor, Becomes, NextIs, FeedIs};

@@ -1,3 +1,4 @@
+//! Requests, out of a stream that comes in any pieces.
 ghost use Rattle.std.specs.Prelude.{◌≡◌, ◌≤◌, ℕ, List, [], true, false, drop, length, if◌then◌else◌};
 ghost use Rattle.mr_text.specs.Requests.{SpellsRequest, RefusesRequest, SkipsLine, is_quit};
 ghost use Rattle.mr_text.specs.Stream.{StandsFor, Becomes, NextIs, FeedIs, skips_line};

@@ -3,8 +3,8 @@ ghost use Rattle.std.specs.Prelude.{◌≡◌, ◌≤◌, length, IfOk};
 ghost use Rattle.mr_lines.specs.Words.{words_of};
 ghost use Rattle.mr_text.specs.Limits.{MAX_LINE};
 ghost use Rattle.mr_text.specs.steps.Reading.{line_reading};
-ghost use Rattle.mr_text.specs.steps.Reading.Reading.{Gives};
-ghost use Rattle.mr_text.specs.steps.RequestView.{IsFound, IsWhole, said_request};
+ghost use Rattle.mr_text.specs.steps.Reading.StretchReading.{Gives};
+ghost use Rattle.mr_text.specs.steps.RequestView.{FindsRequest, IsWholeRequest, said_request};
 ghost use Rattle.mr_text.specs.steps.CommandView.{AreKeys};
 
 use crate::block::Block;
@@ -38,7 +38,7 @@ pub(crate) struct RefusedText {
 /// The request at the front of the bytes; None where more bytes are needed.
 #[tactic(auto, unfolding(crate::specs::steps::Reading::request_reading))]
 pub(crate) fn request_at(bytes: &[u8]) -> Result<Option<FoundRequest<'_>>, RefusedText>
-    ensures { IsFound bytes.now result }
+    ensures { FindsRequest bytes.now result }
 {
     match line_at(bytes) {
         Ok(Some((line, length))) => request_of_line(bytes, line, length),
@@ -57,7 +57,7 @@ fn request_of_line<'a>(
     requires line { line_reading bytes.now ≡ Gives line.now line_length }
     requires within { line_length ≤ length bytes.now }
     requires not_long { length line.now ≤ MAX_LINE }
-    ensures { IsFound bytes.entry.now result }
+    ensures { FindsRequest bytes.entry.now result }
 {
     let command = match command_of(line) {
         Ok(command) => command,
@@ -89,7 +89,7 @@ fn request_of_line<'a>(
 
 /// The request that was found, with bytes of its own.
 pub(crate) fn request_of(alloc: Global, found: &FoundRequest<'_>) -> Result<Request, AllocError>
-    requires { IsWhole found.now }
+    requires { IsWholeRequest found.now }
     ensures { IfOk result (λ request. request ≡ said_request found.now) }
 {
     Ok(match &found.command {

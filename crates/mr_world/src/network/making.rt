@@ -6,13 +6,13 @@ ghost use Rattle.mr_proxy.specs.Sound.{IsSound};
 ghost use Rattle.mr_world.specs.declared.error.WorldError.TheVariants.{NoSuchNode, OutOfMemory};
 ghost use Rattle.mr_world.specs.Headline.{IsPlan};
 ghost use Rattle.mr_world.specs.Setup.{CanBeMade, Begins, NamesNode, IsNamed, with_name, with_pool, with_routing, nodes_of, hold, held_entry, proxies_from};
-ghost use Rattle.mr_world.specs.Positions.{number_of};
+ghost use Rattle.mr_world.specs.Positions.{node_number};
 ghost use Rattle.mr_clock.specs.Readings.{readings_at_first};
 ghost use Rattle.mr_world.specs.Tracked.{numbers_of};
 
 use crate::error::WorldError;
 use crate::network::Network;
-use crate::node::{Node, find_node, number_of};
+use crate::node::{Node, find_node, node_number};
 use crate::numbers::NodeNumbers;
 use crate::setup::{HeldItem, ProxySetup, Setup};
 use crate::terms::{Terms, has_node};
@@ -196,7 +196,7 @@ fn hold_items(
 
 /// The numbers of the nodes of a pool.
 fn numbers_in(alloc: Global, nodes: &[Node], pool: &Pool) -> Result<Vec<usize>, AllocError>
-    ensures { IfOk result (λ numbers. numbers.items ≡ map (number_of nodes.now) pool.now) }
+    ensures { IfOk result (λ numbers. numbers.items ≡ map (node_number nodes.now) pool.now) }
 {
     let mut numbers = Vec::with_capacity(alloc, pool.len())?;
     for name in pool.names() {

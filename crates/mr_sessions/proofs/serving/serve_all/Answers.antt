@@ -8,7 +8,7 @@ use Rattle.mr_node.proofs.SessionLemmas.{begins_so, stepped, goes_on, waits_for,
 use Rattle.mr_sessions.specs.Account.{account}
 use Rattle.mr_desks.specs.declared.error.WorkerError.{WorkerError}
 use Rattle.mr_sessions.specs.ClientSession.{ClientSessionIs}
-use Rattle.mr_sessions.specs.Asking.{Asks, AsksInVain}
+use Rattle.mr_sessions.specs.Asking.{AsksDesk, AsksInVain}
 use Rattle.mr_sessions.proofs.StepLemmas.{fails_so, client_told}
 use Rattle.mr_sessions.proofs.serving.serve_all.Goals as goal
 
@@ -26,7 +26,7 @@ session-init g c = record {
 pub returns-in_err-serve_next-clause-session : goal.returns-in_err-serve_next-clause-session
 returns-in_err-serve_next-clause-session g c =
     let p = err_from_is_err_and c.from_residual.result c.from_residual.ensures.1 in
-    rw (p.1, p.2) (fails_so (Asks g.K.Clock.reads g.K.Clock.failures g.C.Carrier.gave g.D.Desk.recorded) (AsksInVain g.K.Clock.reads g.K.Clock.failures) _ _ _ _ (station c.serve_next.new.clock (account c.serve_next.new.till.share c.serve_next.new.till.answers.items (g.L.Carriers.losses c.serve_next.new.carriers) (g.L.Carriers.brought c.serve_next.new.carriers)) (g.W.Sink.told c.serve_next.new.writer)) _ c.serve_next.new.requests _ c.session.invariant.so c.in_err-serve_next.field-0.0
+    rw (p.1, p.2) (fails_so (AsksDesk g.K.Clock.reads g.K.Clock.failures g.C.Carrier.gave g.D.Desk.recorded) (AsksInVain g.K.Clock.reads g.K.Clock.failures) _ _ _ _ (station c.serve_next.new.clock (account c.serve_next.new.till.share c.serve_next.new.till.answers.items (g.L.Carriers.losses c.serve_next.new.carriers) (g.L.Carriers.brought c.serve_next.new.carriers)) (g.W.Sink.told c.serve_next.new.writer)) _ c.serve_next.new.requests _ c.session.invariant.so c.in_err-serve_next.field-0.0
     (c.in_err-serve_next.ensures c.session.invariant.so.rest c.session.invariant.so.becomes.stands))
 
 pub session-smaller-in-Served : goal.session-smaller-in-Served
@@ -68,11 +68,11 @@ returns-then-turns_left-eq0-clause-session g c =
 pub returns-in-Err-clause-session : goal.returns-in-Err-clause-session
 returns-in-Err-clause-session g c =
     let step = stepped _ _ _ _ _ (station c.serve_next.new.clock (account c.serve_next.new.till.share c.serve_next.new.till.answers.items (g.L.Carriers.losses c.serve_next.new.carriers) (g.L.Carriers.brought c.serve_next.new.carriers)) (g.W.Sink.told c.serve_next.new.writer)) _ c.serve_next.new.requests _ c.session.invariant.so (Ok c.in_ok-serve_next.field-0) (Ok Waits) (ap (λ (s : Step). Ok s) c.in-Waits.is) (c.in_ok-serve_next.ensures c.session.invariant.so.rest c.session.invariant.so.becomes.stands) in
-    subst (λ (e : WorkerError). ClientSessionIs (Asks g.K.Clock.reads g.K.Clock.failures g.C.Carrier.gave g.D.Desk.recorded) (AsksInVain g.K.Clock.reads g.K.Clock.failures) (g.S.Source.told c.args.reader.now) (g.S.Source.told c.read_piece.new.reader)
+    subst (λ (e : WorkerError). ClientSessionIs (AsksDesk g.K.Clock.reads g.K.Clock.failures g.C.Carrier.gave g.D.Desk.recorded) (AsksInVain g.K.Clock.reads g.K.Clock.failures) (g.S.Source.told c.args.reader.now) (g.S.Source.told c.read_piece.new.reader)
     (station c.args.clock.now (account c.args.till.now.share c.args.till.now.answers.items (g.L.Carriers.losses c.args.carriers.now) (g.L.Carriers.brought c.args.carriers.now)) (g.W.Sink.told c.args.writer.now))
     (station c.serve_next.new.clock (account c.serve_next.new.till.share c.serve_next.new.till.answers.items (g.L.Carriers.losses c.serve_next.new.carriers) (g.L.Carriers.brought c.serve_next.new.carriers)) (g.W.Sink.told c.serve_next.new.writer))
     (Err e)) (sym c.error_of.ensures)
-    (client_told (Asks g.K.Clock.reads g.K.Clock.failures g.C.Carrier.gave g.D.Desk.recorded) (AsksInVain g.K.Clock.reads g.K.Clock.failures) (g.S.Source.told c.args.reader.now) (g.S.Source.told c.read_piece.new.reader)
+    (client_told (AsksDesk g.K.Clock.reads g.K.Clock.failures g.C.Carrier.gave g.D.Desk.recorded) (AsksInVain g.K.Clock.reads g.K.Clock.failures) (g.S.Source.told c.args.reader.now) (g.S.Source.told c.read_piece.new.reader)
     (station c.args.clock.now (account c.args.till.now.share c.args.till.now.answers.items (g.L.Carriers.losses c.args.carriers.now) (g.L.Carriers.brought c.args.carriers.now)) (g.W.Sink.told c.args.writer.now))
     (station c.serve_next.new.clock (account c.serve_next.new.till.share c.serve_next.new.till.answers.items (g.L.Carriers.losses c.serve_next.new.carriers) (g.L.Carriers.brought c.serve_next.new.carriers)) (g.W.Sink.told c.serve_next.new.writer)) c.in-Err.fault
     (read_fails _ _ _ _ _ (station c.serve_next.new.clock (account c.serve_next.new.till.share c.serve_next.new.till.answers.items (g.L.Carriers.losses c.serve_next.new.carriers) (g.L.Carriers.brought c.serve_next.new.carriers)) (g.W.Sink.told c.serve_next.new.writer)) _ c.serve_next.new.requests _ c.session.invariant.so (length c.session.buffer) (g.S.Source.told c.read_piece.new.reader) c.read_piece.new.requests c.in-Err.fault step

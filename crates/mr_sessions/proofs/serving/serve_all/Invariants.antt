@@ -3,13 +3,13 @@ use Rattle.mr_text.specs.Source.{AreOffered}
 use Rattle.mr_node.specs.Session.{station, read_length}
 use Rattle.mr_node.proofs.SessionLemmas.{UnderWay}
 use Rattle.mr_sessions.specs.Account.{account}
-use Rattle.mr_sessions.specs.Asking.{Asks}
+use Rattle.mr_sessions.specs.Asking.{AsksDesk}
 use Rattle.mr_sessions.proofs.serving.serve_all.Given as goal
 
 -- what was read so far was served, and the reader didn't fail
 abbrev pub invariant-session : goal.invariant-session
 invariant-session g l = record {
-  so : UnderWay (Asks g.K.Clock.reads g.K.Clock.failures g.C.Carrier.gave g.D.Desk.recorded)
+  so : UnderWay (AsksDesk g.K.Clock.reads g.K.Clock.failures g.C.Carrier.gave g.D.Desk.recorded)
       (g.S.Source.told l.initial.reader)
       (station l.initial.clock
       (account l.initial.till.share l.initial.till.answers.items (g.L.Carriers.losses l.initial.carriers) (g.L.Carriers.brought l.initial.carriers))

@@ -1,9 +1,9 @@
 //! Clocks whose readings are given.
+use super::shows;
 use crate::tests::must;
 use mr_clock::{FixedClock, ListClock};
 use std::alloc::Global;
 use std::process::Abort;
-use super::shows;
 
 /// The members of a list, and what a clock of it shows, one reading after the other.
 type Row = (&'static [Option<u64>], &'static [Option<u64>]);

@@ -1,9 +1,9 @@
 //! The readings of a fleet.
+use super::{count_is, holds, is, number_is};
 use crate::tests::must;
 use mr_clock::{ClockError, ClockFault, Readings};
 use std::alloc::Global;
 use std::process::Abort;
-use super::{count_is, holds, is, number_is};
 
 /// Asserts the greatest difference that there was, and whether a reading went back.
 fn tells(rt: &impl Abort, row: usize, readings: &Readings, spread: u64, went_back: bool) {

@@ -1,10 +1,10 @@
 //! The machine's clock, and a clock of std that is made to show times or to fail.
+use super::{holds, shows};
 use mr_clock::{Clock, SystemClock};
 use std::cell::Cell;
 use std::process::Abort;
 use std::time::Duration;
 use std::{io, time};
-use super::{holds, shows};
 
 /// A clock of std that shows this time, and fails without one.
 #[derive(Drop)]

@@ -1,6 +1,6 @@
 //! Entries that dice choose.
-use super::*;
 use super::told::*;
+use super::*;
 
 /// A small generator of numbers.
 #[derive(Clone, Copy)]

@@ -1,7 +1,7 @@
 //! Histories written by hand: which entries fit, and what is said of them then; room and copies.
-use crate::tests::must;
-use super::*;
 use super::told::*;
+use super::*;
+use crate::tests::must;
 
 /// The first request of the first proxy.
 const FIRST: OpId = OpId {

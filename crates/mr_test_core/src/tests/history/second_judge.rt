@@ -1,8 +1,8 @@
 //! The judge beside the definition's own words: every hit, every Stored entry, every delete.
-use crate::tests::must;
-use super::*;
 use super::dice::Dice;
 use super::told::*;
+use super::*;
+use crate::tests::must;
 
 /// Whether the op was issued as a get here.
 fn is_get(entry: Told, get: OpId) -> bool {

@@ -1,6 +1,6 @@
 //! Entries and verdicts as plain values. A key and data have one byte each.
-use crate::tests::{must, says};
 use super::*;
+use crate::tests::{must, says};
 
 /// The key and the data of an item, whose flags are 0.
 pub type Found = (u8, u8);

@@ -1,11 +1,11 @@
 //! What a cache answers and keeps.
+use super::{Came, Told, count_is, expiry, is, says, word_of};
 use crate::tests::must;
 use mr_join::LegReply;
 use mr_node::{CacheNode, NodeCommand, NodeError, Perform};
 use mr_text::Key;
 use std::alloc::{AllocError, Global};
 use std::process::Abort;
-use super::{Came, Told, count_is, expiry, is, says, word_of};
 
 /// What a copy of a command comes to, through the bound.
 fn perform<P: Perform>(

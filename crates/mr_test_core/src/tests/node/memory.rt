@@ -1,4 +1,6 @@
 //! Refused memory. In the gate no allocation is refused; `refused-memory` refuses each in turn.
+use super::devices::{AMPLE, Left, Pieces, serve_input};
+use super::{Came, Told, are, is, word_of};
 use mr_clock::FixedClock;
 use mr_join::LegReply;
 use mr_node::{CacheNode, Ended, NodeCommand, NodeError, Perform};
@@ -8,8 +10,6 @@ use std::alloc::{AllocError, Global};
 use std::cell::Cell;
 use std::process::Abort;
 use std::test::Fail;
-use super::devices::{AMPLE, Left, Pieces, serve_input};
-use super::{Came, Told, are, is, word_of};
 
 /// What a command comes to and how many items it leaves, or nothing where memory was refused for it.
 type Outcome = Option<(&'static str, usize)>;

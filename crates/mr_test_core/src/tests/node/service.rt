@@ -1,4 +1,6 @@
 //! What a service answers to texts, and what it leaves where a device fails.
+use super::devices::{AMPLE, Given, Left, Pieces, Shown, serve_input};
+use super::{are, count_is, expiry, is};
 use crate::tests::{Rule, must, spelled};
 use mr_clock::{Clock, ListClock};
 use mr_node::{CacheNode, Ended, NodeError};
@@ -7,8 +9,6 @@ use mr_text::Key;
 use std::alloc::Global;
 use std::cell::Cell;
 use std::process::Abort;
-use super::devices::{AMPLE, Given, Left, Pieces, Shown, serve_input};
-use super::{are, count_is, expiry, is};
 
 /// A text and what it is served with. How the service has to end, what it writes, in how many calls of the device, and
 /// how many items are kept then.

@@ -1,10 +1,10 @@
 //! Copies of items, and the numbers of errors.
+use super::{Told, are, is};
 use crate::tests::must;
 use mr_node::{CacheNode, CachedItem, NodeError, Perform};
 use mr_text::Key;
 use std::alloc::Global;
 use std::process::Abort;
-use super::{Told, are, is};
 
 /// Asserts what an item has.
 fn has(rt: &impl Abort, item: &CachedItem) {

@@ -1,11 +1,11 @@
 //! What a client reads of an answer, in how many calls it goes out, and what is left where one of them fails.
+use super::{Asked, Came, Rule, answer_to, are, leaves, spelled};
 use crate::tests::must;
 use mr_proxy::Answer;
 use mr_test_support::{TakesHalf, reply_text};
 use mr_text::OverWriter;
 use std::alloc::Global;
 use std::process::Abort;
-use super::{Asked, Came, Rule, answer_to, are, leaves, spelled};
 
 /// Asserts that an answer is this text, goes out in so many calls, and stops at each of them that fails.
 fn is_written(

@@ -1,11 +1,11 @@
 //! Which nodes the legs of a request go to.
+use super::{Asked, core_of, count_is, is, issue, number_is, request_of, says};
 use crate::tests::must;
 use mr_join::LegReply;
 use mr_phases::Side;
 use mr_proxy::{Leg, LegBack, ProxyCore, Taken};
 use std::alloc::Global;
 use std::process::Abort;
-use super::{Asked, core_of, count_is, is, issue, number_is, request_of, says};
 
 /// A side, and the index of a node in its pool.
 type Node = (Side, u32);

@@ -1,10 +1,10 @@
 //! What becomes of requests and replies, one after the other.
+use super::{Asked, Came, core_of, holds, is, is_asked, issue, reply_of, request_of, says};
 use mr_history::OpId;
 use mr_join::LegReply;
 use mr_proxy::{LegId, ProxyCore, ProxyError, Taken};
 use std::alloc::Global;
 use std::process::Abort;
-use super::{Asked, Came, core_of, holds, is, is_asked, issue, reply_of, request_of, says};
 
 /// The incarnation and the number of a request.
 type Name = (u64, u64);

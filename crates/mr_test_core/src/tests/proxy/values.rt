@@ -1,9 +1,9 @@
 //! What a proxy and an answer tell of themselves.
+use super::{Asked, answer_to, core_of, count_is, holds, is, is_asked, issue, number_is};
 use crate::tests::must;
 use mr_proxy::{Answer, ProxyCore, ProxyError};
 use std::alloc::Global;
 use std::process::Abort;
-use super::{Asked, answer_to, core_of, count_is, holds, is, is_asked, issue, number_is};
 
 fn tells(rt: &impl Abort, core: &ProxyCore) {
     is(rt, 0, core.number(), 0);

@@ -1,10 +1,10 @@
 //! What goes through to a device, and a device that fails.
+use super::{are, count_is, holds, is, repeated};
 use mr_text::{FailsAt, OverReader, OverWriter, ReadFault, Sink, Source};
 use std::alloc::Global;
 use std::io;
 use std::io::{Read, Write};
 use std::process::Abort;
-use super::{are, count_is, holds, is, repeated};
 
 /// Asserts what a read comes to, through the bound.
 fn reads<S: Source>(

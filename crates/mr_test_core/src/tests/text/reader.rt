@@ -4,11 +4,11 @@ mod replies;
 mod requests;
 mod streams;
 
+use super::{Rule, are, holds, is, spelled};
 use crate::tests::must;
 use mr_test_support::{Texts, answers_in_two, first_cell};
 use std::alloc::Global;
 use std::process::Abort;
-use super::{Rule, are, holds, is, spelled};
 
 /// Asserts what a reader answers to a text in two pieces, and perhaps the end of the input then.
 fn gives(

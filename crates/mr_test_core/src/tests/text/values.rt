@@ -1,7 +1,7 @@
 //! Which bytes make a value, and copies of each.
+use super::{Rule, are, count_is, is, item, repeated, spelled};
 use crate::tests::must;
 use mr_test_support::{repeated_keys, reply_text, request_text};
-use super::{Rule, are, count_is, is, item, repeated, spelled};
 use mr_text::{
     Block, Cause, FIXED_BUFFER, Item, ItemList, Key, KeyList, Line, MAX_BLOCK, MAX_ERROR_TEXT,
     MAX_ITEMS, MAX_KEY, MAX_LINE, Reply, Request, TextError,

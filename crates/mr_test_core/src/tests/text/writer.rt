@@ -1,12 +1,12 @@
 //! What requests and replies are written as, in how many calls, and what is left where one of them fails.
 mod told;
 
+use super::{Rule, count_is, item, leaves, repeated, spelled};
 use crate::tests::must;
 use mr_test_support::TakesHalf;
 use mr_text::OverWriter;
 use std::alloc::Global;
 use std::process::Abort;
-use super::{Rule, count_is, item, leaves, repeated, spelled};
 use told::{Told, Written, written_of};
 
 /// Asserts that a text takes so many calls, and what each of them leaves where it fails.

@@ -1,6 +1,7 @@
 //! Clients and links that run at the same time: a leg is held until another client of the same proxy has its answers.
 ghost use Rattle.std.specs.Prelude.{◌≡◌, [], false};
 
+use super::{proxy_of, run, went_well};
 use crate::tests::{Nodes, ToNode, carriers_to_all, is, is_at, make_nodes, must};
 use mr_clock::FixedClock;
 use mr_desks::{Carrier, Gate};
@@ -15,7 +16,6 @@ use std::sync::{Mutex, Wait};
 use std::thread::Threads;
 use std::time::{Clock, Duration};
 use std::{io, thread};
-use super::{proxy_of, run, went_well};
 
 /// How often a flag is looked at.
 const TURNS: u64 = 100_000;

@@ -1,4 +1,5 @@
 //! Many clients at once, while the migration goes through all four phases.
+use super::{goes_well, proxy_of};
 use crate::tests::{Nodes, ToNode, carriers_to_all, is, make_nodes, must};
 use mr_clock::{Clock, ClockFault};
 use mr_desks::OpenGate;
@@ -11,7 +12,6 @@ use std::process::Abort;
 use std::sync::atomic::{AtomicU64, Ordering};
 use std::sync::{Mutex, Wait};
 use std::thread::Threads;
-use super::{goes_well, proxy_of};
 
 /// How many clients each proxy has.
 const CLIENTS: usize = 4;

@@ -2,6 +2,7 @@
 //! accepted.
 ghost use Rattle.std.specs.Prelude.{◌+◌};
 
+use super::{TURNS, address_of, answers, listener, name_of, node, node_serves, were_told};
 use crate::tests::{is, is_at, must};
 use mr_clock::FixedClock;
 use mr_desks::{Carrier, SharedNode};
@@ -20,7 +21,6 @@ use std::sync::{Mutex, Wait};
 use std::thread::Threads;
 use std::time::Clock;
 use std::{io, thread};
-use super::{TURNS, address_of, answers, listener, name_of, node, node_serves, were_told};
 
 #[test]
 fn an_accepted_connection_is_without_delay(rt: HostRuntime) {

@@ -2,6 +2,7 @@
 mod losses;
 mod workers;
 
+use super::{delete_of, first_leg};
 use crate::tests::{core_of, is, must};
 use crossbeam_channel::{Receiver, Sender};
 use mr_clock::FixedClock;
@@ -13,7 +14,6 @@ use mr_text::Cause;
 use std::alloc::Global;
 use std::process::Abort;
 use std::sync::Wait;
-use super::{delete_of, first_leg};
 
 /// A carrier to a node that refuses every leg: since it is full, or for no reason that it tells.
 #[derive(Clone, Copy)]

@@ -3,6 +3,7 @@ mod answers;
 mod breaks;
 mod memory;
 
+use super::devices::{Given, Pieces, Reads, reader, writer};
 use crate::tests::{is_at, must};
 use mr_desks::{Carrier, WorkerError};
 use mr_history::OpId;
@@ -16,7 +17,6 @@ use mr_text::{Block, Cause, FailsAt, Key, OverReader, OverWriter, TextError};
 use std::alloc::Global;
 use std::process::Abort;
 use std::test::Fail;
-use super::devices::{Given, Pieces, Reads, reader, writer};
 
 /// What a leg tells its node to do with the key `k`.
 #[derive(Clone, Copy)]

@@ -10,6 +10,7 @@ mod noreply;
 mod requests;
 mod strangers;
 
+use super::devices::{Given, Reads, reader, writer};
 use crate::tests::{Nodes, ToNode, carriers_to_all, is_at, make_nodes, must, recorded};
 use mr_clock::{Clock, ListClock};
 use mr_desks::{Carrier, Carriers, Desk, DirectCarriers, RecordedProxy, WorkerError};
@@ -19,7 +20,6 @@ use mr_sessions::{Served, serve_client};
 use std::alloc::{AllocError, Global};
 use std::process::Abort;
 use std::sync::Wait;
-use super::devices::{Given, Reads, reader, writer};
 
 /// The nodes of the new pool.
 const NEW: [&[u8]; 3] = [b"7101", b"7102", b"7103"];

@@ -6,6 +6,7 @@ mod closings;
 ghost use Rattle.std.specs.Prelude.{◌≢◌};
 ghost use Rattle.mr_text.specs.declared.request.Request.{Request};
 
+use super::broken::Broken;
 use crate::tests::{must, recorded};
 use mr_clock::FixedClock;
 use mr_desks::{Desk, DeskError, RecordedProxy, Share};
@@ -14,7 +15,6 @@ use mr_text::Request;
 use std::alloc::Global;
 use std::process::Abort;
 use std::sync::Wait;
-use super::broken::Broken;
 
 /// The nodes of the new pool.
 const NEW: [&[u8]; 1] = [b"7101"];

@@ -1,4 +1,5 @@
 //! The program, from its arguments.
+use super::{PLACES, Ran, expect_run, is};
 use crate::tests::commands::files_at::FilesAt;
 use crate::tests::must;
 use mr_sockets::HostServers;
@@ -11,7 +12,6 @@ use std::net::{Net, TcpListener, TcpStream};
 use std::sync::Wait;
 use std::thread::Threads;
 use std::time::Clock;
-use super::{PLACES, Ran, expect_run, is};
 
 fn run_with<R: Net<Listener = TcpListener, Stream = TcpStream> + Threads + Wait + Clock + Sync>(
     rt: &R,

@@ -1,4 +1,5 @@
 //! What is left where an output fails.
+use super::{ACCEPTED, PLACES, SCRIPT, TRANSCRIPT, is_in};
 use crate::tests::commands::files_at::FilesAt;
 use mr_sockets::HostServers;
 use mr_test_support::TakesHalf;
@@ -10,7 +11,6 @@ use std::process::Abort;
 use std::sync::Wait;
 use std::thread::Threads;
 use std::time::Clock;
-use super::{ACCEPTED, PLACES, SCRIPT, TRANSCRIPT, is_in};
 
 /// What is handed to a device: a text that it takes whole, or takes half of, and then fails; or nothing.
 enum Handed {

@@ -1,4 +1,5 @@
 //! What is read of the input, byte by byte.
+use super::{PLACES, SCRIPT, TRANSCRIPT, byte_by_byte, expect_row, expect_run, is, run_over};
 use crate::tests::commands::files_at::FilesAt;
 use crate::tests::must;
 use mr_text::{FailsAt, OverReader, Source};
@@ -8,7 +9,6 @@ use std::process::Abort;
 use std::sync::Wait;
 use std::thread::Threads;
 use std::time::Clock;
-use super::{PLACES, SCRIPT, TRANSCRIPT, byte_by_byte, expect_row, expect_run, is, run_over};
 
 const PLAN: &[&str] = &["plan", "--config", "fleet.json", "--at", "999"];
 

@@ -1,5 +1,6 @@
 //! One run of each command, over a list of files. What else the commands answer to words, files and input is shown by
 //! tests/cases.
+use super::{ACCEPTED, PLACES, Ran, SCRIPT, TRANSCRIPT, expect_row, is_in, run_over};
 use crate::tests::commands::files_at::FilesAt;
 use mr_text::OverReader;
 use std::alloc::Global;
@@ -8,7 +9,6 @@ use std::process::Abort;
 use std::sync::Wait;
 use std::thread::Threads;
 use std::time::Clock;
-use super::{ACCEPTED, PLACES, Ran, SCRIPT, TRANSCRIPT, expect_row, is_in, run_over};
 
 /// What a run leaves: it did what was wanted and wrote this, or it told this and ended with that status.
 enum Left {

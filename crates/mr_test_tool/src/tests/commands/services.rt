@@ -1,6 +1,7 @@
 //! Nodes and proxies as commands that can't begin. What their clients see is looked at from outside.
 mod beginnings;
 
+use super::{Ran, expect_run, run_over};
 use crate::tests::commands::files_at::{FilesAt, Place};
 use mr_text::{FailsAt, OverReader};
 use std::alloc::{AllocError, Global};
@@ -8,7 +9,6 @@ use std::net::{Net, SocketAddr, TcpListener, TcpStream};
 use std::sync::Wait;
 use std::thread::Threads;
 use std::time::Clock;
-use super::{Ran, expect_run, run_over};
 
 /// Runs a command over files. It doesn't read its input: a read would fail.
 fn run<R: Net<Listener = TcpListener, Stream = TcpStream> + Threads + Wait + Clock + Sync>(

@@ -1,5 +1,8 @@
 //! Configurations, plans, timelines, scripts and transcripts.
-use mr_configs::{Advice, Config, PhaseTimes, PlanError, RequestPlan, Span, advise, plan, timeline};
+use super::{is, is_for, names_are};
+use mr_configs::{
+    Advice, Config, PhaseTimes, PlanError, RequestPlan, Span, advise, plan, timeline,
+};
 use mr_history::OpId;
 use mr_phases::{PhaseName, ScheduleError, Side};
 use mr_pools::{NamedHash, PoolError};
@@ -8,7 +11,6 @@ use mr_text::{Key, KeyList, Request};
 use std::alloc::Global;
 use std::process::Abort;
 use std::test::Fail;
-use super::{is, is_for, names_are};
 
 mod configurations;
 mod errors;

@@ -1,5 +1,6 @@
 //! What a script says once it is read, and the refusals that the program doesn't print whole. Most texts are one script with
 //! a part changed.
+use super::{changed, is, is_for, names_are};
 use crate::tests::must;
 use mr_configs::PlanError;
 use mr_history::OpId;
@@ -12,7 +13,6 @@ use mr_world::{Event, HeldItem, ProxySetup, Setup, WorldError};
 use std::alloc::Global;
 use std::process::Abort;
 use std::test::Fail;
-use super::{changed, is, is_for, names_are};
 
 /// A script with each kind of event and of request, an item that is held, and one proxy.
 const SCRIPT: &str = r#"{

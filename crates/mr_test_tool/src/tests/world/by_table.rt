@@ -1,14 +1,14 @@
 //! The world beside the table of events, on many lists of events.
+use super::fleets::Fleet;
+use super::holds;
+use super::moves::{Asked, Move, event_of, note_of};
+use super::table::Table;
 use crate::tests::must;
 use mr_history::OpId;
 use mr_world::World;
 use std::alloc::Global;
 use std::process::Abort;
 use std::test::Fail;
-use super::fleets::Fleet;
-use super::holds;
-use super::moves::{Asked, Move, event_of, note_of};
-use super::table::Table;
 
 /// Two proxies at 999 and 1050, and nodes that hold nothing.
 const FLEET: Fleet = Fleet {

@@ -1,14 +1,14 @@
 //! Runs as plain values, and what is asserted of each.
-use crate::tests::must;
-use mr_history::OpId;
-use mr_world::World;
-use std::alloc::Global;
-use std::process::Abort;
 use super::fleets::Fleet;
 use super::holds;
 use super::moves::{Row, first_other};
 use super::showing::{premises, verdict};
 use super::telling::{Told, says};
+use crate::tests::must;
+use mr_history::OpId;
+use mr_world::World;
+use std::alloc::Global;
+use std::process::Abort;
 
 /// What a world shows.
 pub struct Shown {

@@ -1,14 +1,14 @@
 //! What is refused, what is copied, and runs that stop.
-use crate::tests::must;
-use mr_proxy::ProxyError;
-use mr_world::{Delivery, Event, Message, Note, Setup, World, WorldError};
-use std::alloc::Global;
-use std::process::Abort;
 use super::fleets::Fleet;
 use super::holds;
 use super::moves::{Asked, DELETE, GET, Move, Row, events_of, first_other, note_of};
 use super::playing::{Run, Shown, goes};
 use super::telling::{FIRST, Told, says};
+use crate::tests::must;
+use mr_proxy::ProxyError;
+use mr_world::{Delivery, Event, Message, Note, Setup, World, WorldError};
+use std::alloc::Global;
+use std::process::Abort;
 
 /// Moves that name what there is none of, and a quit.
 static NOT_THERE: Run = Run {

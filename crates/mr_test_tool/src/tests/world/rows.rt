@@ -1,11 +1,11 @@
 //! A worked row as calls, its history compared whole: two clocks an interval apart, and a delete that holds.
-use mr_history::Author;
-use mr_phases::Side;
-use mr_world::Note;
 use super::fleets::Fleet;
 use super::moves::{DELETE, GET, Move, SET};
 use super::playing::{Run, Shown, goes};
 use super::telling::{FIRST, OTHER_FIRST, OTHER_SECOND, Told};
+use mr_history::Author;
+use mr_phases::Side;
+use mr_world::Note;
 
 /// The second proxy sets the key, the first deletes it from both pools, the second gets it.
 static NEAR_CLOCKS: Run = Run {

@@ -2,6 +2,8 @@
 ghost use Rattle.std.specs.Prelude.{◌≢◌};
 ghost use Rattle.mr_text.specs.declared.request.Request.{Request};
 
+use super::fleets::routing;
+use super::telling::{Told, only, says, tell_reply, tell_request};
 use mr_history::{Author, OpId};
 use mr_join::LegReply;
 use mr_node::{CacheNode, NodeCommand, Perform};
@@ -12,8 +14,6 @@ use mr_text::Request;
 use mr_world::{Event, Note, World, WorldError};
 use std::alloc::Global;
 use std::test::Fail;
-use super::fleets::routing;
-use super::telling::{Told, only, says, tell_reply, tell_request};
 
 /// What becomes of an event.
 type Outcome = Result<Note, WorldError>;

@@ -1,8 +1,15 @@
+//! Bytes that only contracts see.
 ghost use Rattle.std.specs.Prelude.{◌≡◌, [], ◌∷◌, ◌++◌};
 
-use crate::devices::counting::roll::Roll;
 use std::marker::Model;
 use std::snapshot::Snapshot;
+
+/// Bytes that went by: none, or one more byte after those that contracts remember.
+#[derive(Drop)]
+pub enum Roll {
+    Empty,
+    More(Snapshot<Roll>, Snapshot<u8>),
+}
 
 /// Bytes that went by, which contracts see as a list and the program doesn't keep.
 #[derive(Drop)]

@@ -1,10 +1,10 @@
 //! Readers that are refused memory once: the same call made again gives what it would have given.
+use super::are;
 use mr_test_support::{Reader, Texts};
 use mr_text::{OverWriter, ReplyReader, RequestReader, TextError, write_reply, write_request};
 use std::alloc::{AllocError, Global};
 use std::process::Abort;
 use std::test::Fail;
-use super::are;
 
 /// Writes the next request, and says whether there was memory for it.
 fn request_is_written(

@@ -1,9 +1,9 @@
 //! Which replies lines and blocks say, and how others are refused.
+use super::{LongRow, gives_all, gives_long, is};
 use crate::tests::{must, says};
 use mr_test_support::Texts;
 use mr_text::{Cause, Reply, ReplyReader};
 use std::process::Abort;
-use super::{LongRow, gives_all, gives_long, is};
 
 #[test]
 fn lines_say_replies(rt: HostRuntime) {

@@ -1,6 +1,6 @@
 //! Which requests lines say, and how other lines are refused.
-use mr_test_support::Texts;
 use super::{LongRow, gives_all, gives_long};
+use mr_test_support::Texts;
 
 #[test]
 fn lines_say_requests(rt: HostRuntime) {

@@ -1,10 +1,10 @@
 //! Texts in any pieces, the end of the input, and closed readers.
+use super::{are, gives, holds, is};
 use crate::tests::must;
 use mr_test_support::{Reader, Texts, add_answers};
 use mr_text::{RequestReader, TextError};
 use std::alloc::Global;
 use std::process::Abort;
-use super::{are, gives, holds, is};
 
 /// Texts with a block that holds a line end, each the canonical one of what it says.
 static WHOLE: [(Texts, &[u8], &[u8]); 2] = [

@@ -1,9 +1,9 @@
 //! The readers beside the slow ones, to which each has to answer alike.
+use super::slow::add_slow_answers;
 use crate::tests::must;
 use mr_test_support::{Texts, add_repeated, answers_in_two};
 use std::alloc::Global;
 use std::process::Abort;
-use super::slow::add_slow_answers;
 
 /// Asserts which answers there are to a text in two pieces; the pieces are told too where they are others.
 fn are_answers(rt: &impl Abort, answers: &[u8], wanted: &[u8], pieces: (&[u8], &[u8])) {

@@ -1,7 +1,7 @@
 //! What is written, as rows of a table say it.
+use super::{item, repeated};
 use crate::tests::must;
 use mr_test_support::{TakesHalf, repeated_keys};
-use super::{item, repeated};
 use mr_text::{
     Block, Cause, ItemList, Key, KeyList, Line, MAX_ITEMS, OverWriter, Reply, Request, WriteFault,
     write_delete, write_get, write_reply, write_request, write_server_error, write_set,

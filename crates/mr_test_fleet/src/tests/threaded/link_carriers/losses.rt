@@ -1,9 +1,9 @@
 //! Legs that never get to their node.
+use super::{brings_nothing, leg_of, link, links, sends};
 use crate::tests::{is, must};
 use mr_desks::Carriers;
 use mr_fleet::LinkCarriers;
 use std::process::Abort;
-use super::{brings_nothing, leg_of, link, links, sends};
 
 #[test]
 fn a_leg_that_is_dropped_on_its_way_is_lost(rt: HostRuntime) {

@@ -1,4 +1,5 @@
 //! Legs that are carried at the ends of their links.
+use super::{Loads, Refuses, brings_nothing, legs_of, link, links, sends};
 use crate::tests::{is, must};
 use mr_desks::{Carriers, Gate};
 use mr_fleet::{LinkCarriers, Links, carry_loads};
@@ -11,7 +12,6 @@ use std::sync::Wait;
 use std::sync::atomic::{AtomicU64, Ordering};
 use std::thread;
 use std::thread::Threads;
-use super::{Loads, Refuses, brings_nothing, legs_of, link, links, sends};
 
 /// Which node a leg came back from.
 #[derive(Clone, Copy, Debug, PartialEq, Eq)]

@@ -1,6 +1,6 @@
 //! What a link says of a node's replies.
-use crate::tests::threaded::devices::Given;
 use super::{AMPLE, BY_BYTES, Came, DELETE, GET, Row, SET, Told, are_rows};
+use crate::tests::threaded::devices::Given;
 
 /// Each reply that answers its leg.
 static ANSWERS: [Row; 11] = [

@@ -1,7 +1,7 @@
 //! What breaks a link, which carries nothing more then.
+use super::{AMPLE, BY_BYTES, Came, DELETE, GET, Row, SET, Told, are_rows};
 use crate::tests::threaded::devices::Given;
 use mr_desks::WorkerError;
-use super::{AMPLE, BY_BYTES, Came, DELETE, GET, Row, SET, Told, are_rows};
 
 /// What comes of the first leg where its answer is none, and of each leg of a broken link.
 const MISMATCH: Came = Came::Fault(WorkerError::Mismatch);

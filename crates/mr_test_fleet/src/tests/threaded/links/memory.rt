@@ -1,9 +1,9 @@
 //! Refused memory. In the gate no allocation is refused; `refused-memory` refuses each in turn.
+use super::{BY_BYTES, Came, Told, link};
 use crate::tests::is;
 use crate::tests::threaded::devices::Reads;
 use mr_desks::{Carrier, WorkerError};
 use std::alloc::Global;
-use super::{BY_BYTES, Came, Told, link};
 
 /// What a get and a delete may come to, whose answers come a byte at a time. Both are answered, or the one whose memory was
 /// refused says so and breaks the link.

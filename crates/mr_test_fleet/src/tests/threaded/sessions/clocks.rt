@@ -1,6 +1,6 @@
 //! What a session does with the readings of its clock, and with a book that is full.
-use mr_node::Ended;
 use super::{IN_TIME, Kept, Row, SILENT, are_rows};
+use mr_node::Ended;
 
 static FAILS_ONCE: [Row; 1] = [Row {
     clock: &[None, Some(999)],

@@ -2,6 +2,7 @@
 //! answer of its own. The answers of those before it are kept.
 ghost use Rattle.std.specs.Prelude.{true};
 
+use super::{IN_TIME, NEW, Row, SILENT, direct, goes_so};
 use crate::tests::threaded::get_of;
 use crate::tests::{Nodes, ToNode, is, make_nodes, must, recorded};
 use mr_clock::{Clock, FixedClock};
@@ -12,7 +13,6 @@ use mr_text::Request;
 use std::alloc::{AllocError, Global};
 use std::process::Abort;
 use std::sync::Wait;
-use super::{IN_TIME, NEW, Row, SILENT, direct, goes_so};
 
 /// A desk that issues at one proxy, and takes legs and gives requests up at another.
 struct Torn<C: Carrier> {

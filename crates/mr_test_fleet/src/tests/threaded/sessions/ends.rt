@@ -1,8 +1,8 @@
 //! How a session ends.
+use super::{IN_TIME, Row, SILENT, WHOLE, are_rows};
 use crate::tests::threaded::devices::Given;
 use mr_desks::WorkerError;
 use mr_node::Ended;
-use super::{IN_TIME, Row, SILENT, WHOLE, are_rows};
 
 /// Clients that quit, and input that ends.
 static ENDS: [Row; 4] = [

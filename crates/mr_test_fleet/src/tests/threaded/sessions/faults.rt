@@ -1,8 +1,8 @@
 //! Devices that fail.
+use super::{IN_TIME, Kept, Row, SILENT, WHOLE, are_rows};
 use crate::tests::threaded::devices::Given;
 use mr_desks::WorkerError;
 use mr_node::Ended;
-use super::{IN_TIME, Kept, Row, SILENT, WHOLE, are_rows};
 
 /// Two sets, the second without an answer, a line that is no request, and a get.
 const CLIENT: Row = Row {

@@ -1,4 +1,5 @@
 //! Legs that don't come back.
+use super::{Kept, NEW, Row, SILENT, direct, goes_so};
 use crate::tests::threaded::broken::broken_carriers;
 use crate::tests::{Nodes, ToNode, carriers_to, make_nodes, must, recorded};
 use mr_desks::{DirectCarriers, RecordedProxy};
@@ -6,7 +7,6 @@ use mr_node::Ended;
 use std::alloc::Global;
 use std::process::Abort;
 use std::sync::Wait;
-use super::{Kept, NEW, Row, SILENT, direct, goes_so};
 
 /// A client of the phase in which deletes go to both sides and gets to the old one.
 const DURING: Row = Row {

@@ -1,4 +1,5 @@
 //! Refused memory. In the gate no allocation is refused; `refused-memory` refuses each in turn.
+use super::{Left, NEW, WHOLE, direct, serve};
 use crate::tests::{Nodes, ToNode, is, make_nodes, recorded};
 use mr_clock::FixedClock;
 use mr_desks::{RecordedProxy, WorkerError};
@@ -7,7 +8,6 @@ use std::alloc::{AllocError, Global};
 use std::process::Abort;
 use std::sync::Wait;
 use std::test::Fail;
-use super::{Left, NEW, WHOLE, direct, serve};
 
 /// How a session may end, what its client may be told then, and how many requests it may have issued.
 type Outcome = (Result<Ended, WorkerError>, &'static [u8], u64);

@@ -1,4 +1,5 @@
 //! Requests that are answered.
+use super::{IN_TIME, Kept, NEW, Row, SILENT, WHOLE, are_rows, direct, goes_so};
 use crate::tests::threaded::devices::Given;
 use crate::tests::{Nodes, ToNode, core_of, make_nodes, must};
 use mr_desks::SharedProxy;
@@ -6,7 +7,6 @@ use mr_node::Ended;
 use std::alloc::Global;
 use std::process::Abort;
 use std::sync::Wait;
-use super::{IN_TIME, Kept, NEW, Row, SILENT, WHOLE, are_rows, direct, goes_so};
 
 /// A client that sets, gets and deletes, and then quits; nothing is served behind that.
 const CLIENT: Row = Row {

@@ -1,6 +1,7 @@
 //! Carriers that bring a leg late, when its request was given up.
 ghost use Rattle.std.specs.Prelude.{◌≡◌, ◌+◌, MatchOption, IfSome};
 
+use super::{IN_TIME, Kept, NEW, Row, SILENT, direct, goes_so};
 use crate::tests::{Nodes, ToNode, make_nodes, must, recorded};
 use mr_desks::{Carried, Carrier, Carriers, DirectCarriers, RecordedProxy};
 use mr_proxy::Leg;
@@ -8,7 +9,6 @@ use mr_text::GhostCount;
 use std::alloc::Global;
 use std::process::Abort;
 use std::sync::Wait;
-use super::{IN_TIME, Kept, NEW, Row, SILENT, direct, goes_so};
 
 /// Carriers that bring nothing the first time they are asked, and from then on what came, the leg that was late first.
 struct Late<C: Carrier> {

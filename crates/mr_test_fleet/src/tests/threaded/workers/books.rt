@@ -1,4 +1,5 @@
 //! How much a book has room for.
+use super::{NEW, desk_of, issue};
 use crate::tests::threaded::broken::Broken;
 use crate::tests::threaded::{delete_of, get_of};
 use crate::tests::{core_of, is, is_at, must};
@@ -9,7 +10,6 @@ use mr_proxy::{Leg, Taken};
 use std::alloc::Global;
 use std::process::Abort;
 use std::sync::Wait;
-use super::{NEW, desk_of, issue};
 
 /// What a session asks of a proxy.
 #[derive(Clone, Copy)]

@@ -2,23 +2,23 @@
 ghost use Rattle.std.specs.Prelude.{◌≢◌};
 ghost use Rattle.mr_text.specs.declared.request.Request.{Request};
 
+use super::{NEW, desk_of, issue};
 use crate::tests::threaded::broken::broken_carriers;
 use crate::tests::threaded::{delete_of, first_leg, get_of};
-use super::{NEW, desk_of, issue};
 use crate::tests::{
     Nodes, ToNode, carriers_to_all, core_of, is, is_at, make_nodes, must, recorded,
 };
 use mr_clock::{FixedClock, ListClock};
+use mr_desks::{
+    Carrier, Carriers, Desk, DirectCarriers, Gate, LocalCarrier, OpenGate, RecordedProxy,
+    SharedNode, SharedProxy,
+};
 use mr_history::OpId;
 use mr_join::LegReply;
 use mr_node::{CacheNode, NodeCommand, Perform};
 use mr_proxy::{Answer, Leg, LegSheet, Taken};
 use mr_test_support::reply_text;
 use mr_text::{Block, Cause, Key, Request};
-use mr_desks::{
-    Carrier, Carriers, Desk, DirectCarriers, Gate, LocalCarrier, OpenGate, RecordedProxy,
-    SharedNode, SharedProxy,
-};
 use std::alloc::Global;
 use std::process::Abort;
 use std::sync::Wait;

@@ -2,6 +2,7 @@
 ghost use Rattle.std.specs.Prelude.{◌≢◌};
 ghost use Rattle.mr_text.specs.declared.request.Request.{Request};
 
+use super::{desk_of, issue};
 use crate::tests::threaded::broken::Broken;
 use crate::tests::threaded::{delete_of, get_of};
 use crate::tests::{is, must};
@@ -11,7 +12,6 @@ use mr_text::Request;
 use std::alloc::Global;
 use std::process::Abort;
 use std::sync::Wait;
-use super::{desk_of, issue};
 
 /// A proxy, and what its sessions did: their shares, and the answers that they took.
 #[derive(Drop)]

@@ -1,8 +1,8 @@
 //! Services that can't begin.
-use crate::tests::must;
-use std::net::TcpListener;
 use super::super::PLACES;
 use super::{expect_run, run, word_of};
+use crate::tests::must;
+use std::net::TcpListener;
 
 #[test]
 fn a_port_in_use_has_a_line(rt: HostRuntime) {

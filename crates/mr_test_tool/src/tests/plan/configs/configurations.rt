@@ -1,6 +1,6 @@
 //! What a configuration says, and the refusals of lower layers that the program doesn't print.
-use crate::tests::must;
 use super::*;
+use crate::tests::must;
 
 /// Texts that are refused for a reason of a lower layer, with that reason.
 static REFUSED: [(&str, PlanError); 7] = [

@@ -1,6 +1,6 @@
 //! The numbers of the refusals.
-use mr_world::WorldError;
 use super::*;
+use mr_world::WorldError;
 
 /// Each refusal and its number, in order.
 static NUMBERS: [(PlanError, u8); 13] = [

@@ -1,8 +1,8 @@
 //! Plans, timelines and advice over the configuration of the worked examples.
+use super::*;
 use crate::tests::must;
 use mr_proxy::LegSheet;
 use std::process::Abort;
-use super::*;
 
 /// One request that is planned.
 #[derive(Clone, Copy)]

@@ -1,8 +1,8 @@
 //! Transcripts: written by a play, and held against a play of their own events.
+use super::*;
 use crate::tests::must;
 use mr_scripts::read_events;
 use mr_transcripts::{Checked, Outcome, check_transcript, write_transcript};
-use super::*;
 
 /// One proxy at 999 gets a key that no node has.
 const SCRIPT: &str =

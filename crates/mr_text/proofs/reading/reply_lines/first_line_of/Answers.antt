@@ -1,13 +1,13 @@
 use Rattle.std.proofs.Common.{sym, ◌∙◌, subst}
 use Rattle.mr_lines.specs.Words.{words_of}
-use Rattle.mr_text.specs.steps.ReplyView.{IsLine}
+use Rattle.mr_text.specs.steps.ReplyView.{IsReplyLine}
 use Rattle.mr_text.proofs.ReplyFirst.{value_line, client_error_line, server_error_line, unknown_line}
 use Rattle.mr_text.proofs.reading.reply_lines.first_line_of.Goals as goal
 
 pub returns-then-is_text-clause-line : goal.returns-then-is_text-clause-line
 returns-then-is_text-clause-line c =
     let line = c.args.line.now in
-    subst (λ l. IsLine l c.item.result)
+    subst (λ l. IsReplyLine l c.item.result)
     (sym (value_line line (words_of line) c.in-Some.word.now (words_of c.in-Some.rest.now) c.in-Some.ensures.words (sym c.is_text.ensures ∙ c.if-is_text.true))) c.item.ensures.line
 
 pub returns-then-is_text-2-clause-line : goal.returns-then-is_text-2-clause-line

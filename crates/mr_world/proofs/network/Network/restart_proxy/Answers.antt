@@ -3,7 +3,7 @@ use Rattle.mr_proxy.specs.ProxyView.{ProxyView}
 use Rattle.mr_world.specs.contracts.network.Network.{the_view}
 use Rattle.mr_world.specs.declared.error.WorldError.TheVariants.{IssueRefused}
 use Rattle.mr_world.specs.declared.event.Event.TheVariants.{ProxyRestart}
-use Rattle.mr_world.specs.Refusals.{refused_restart, IsRefusal}
+use Rattle.mr_world.specs.Refusals.{refused_restart, IsEventRefusal}
 use Rattle.mr_world.proofs.Lists.{at_read}
 use Rattle.mr_world.proofs.NetworkLemmas.{restart_accepted, restart_refused, unchanged}
 use Rattle.mr_world.proofs.network.Network.restart_proxy.Goals as goal
@@ -19,7 +19,7 @@ returns-in-Err c =
     let v = the_view c.self.inside in
     let last = restart_refused p (λ apart. let accepted = c.in-Err.ensures.accepted.1 apart in (cc)) in
     rw (← c.self.view_is) (
-      subst (λ o. IsRefusal o (ProxyRestart c.args.number) (IssueRefused c.in-Err.refusal)) (sym (ap refused_restart at.gets ∙ last))
+      subst (λ o. IsEventRefusal o (ProxyRestart c.args.number) (IssueRefused c.in-Err.refusal)) (sym (ap refused_restart at.gets ∙ last))
           (ap IssueRefused (c.in-Err.ensures.spent.0)),
       unchanged v c.args.number c.restart.new.self p v.world.sent v.world.history at (c.in-Err.ensures.spent.1) refl refl,
     )

@@ -1,13 +1,13 @@
 use Rattle.std.proofs.Common.{◌≡◌, ◌<◌, inl, inr, true, false, length, ap, subst, arith}
 use Rattle.std.proofs.lemmas.Bool.{cases_order}
-use Rattle.mr_world.specs.Setup.{HasNode}
+use Rattle.mr_world.specs.Setup.{HasNamedNode}
 use Rattle.mr_world.proofs.network.making.names_node.Goals as goal
 
 pub loop-pool-preserved : goal.loop-pool-preserved
 loop-pool-preserved c = λ k below has.
     elim (cases_order k c.loop-pool.pool) [
       | inl same ↦
-          let here : c.has_node.result ≡ true = c.has_node.ensures.1 (subst (λ n. HasNode c.args.routing.now n c.args.name.now) same has) in
+          let here : c.has_node.result ≡ true = c.has_node.ensures.1 (subst (λ n. HasNamedNode c.args.routing.now n c.args.name.now) same has) in
           let missing = c.if-has_node.false in
           cc
       | inr apart ↦ elim apart [ inl less ↦ c.loop-pool.invariant k less has | inr less ↦ absurd (omega arith) ]

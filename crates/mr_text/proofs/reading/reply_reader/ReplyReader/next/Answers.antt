@@ -2,7 +2,7 @@ use Rattle.std.proofs.Common.{◌≡◌, false, Ok, refl, sym, ◌∙◌, ap, su
 use Rattle.mr_text.specs.steps.Waiting.{WaitIs}
 use Rattle.mr_text.specs.Replies.{SpellsReply, RefusesReply, SkipsNone, is_no_last}
 use Rattle.mr_text.specs.steps.ReplyReading.{reply_reading}
-use Rattle.mr_text.specs.steps.Reading.Reading.{Waits, Gives, Refused}
+use Rattle.mr_text.specs.steps.Reading.StretchReading.{Waits, Gives, Refused}
 use Rattle.mr_text.specs.steps.ReplySteps.{IsFoundReply, size_of}
 use Rattle.mr_text.proofs.Nexts.{gives, lacks, waiting}
 use Rattle.mr_text.proofs.ReplyReading.{reply_found, reply_refusal_found}

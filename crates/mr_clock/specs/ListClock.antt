@@ -1,7 +1,7 @@
 -- What a clock of listed readings still has to give.
 use Rattle.std.specs.Prelude.{◌≡◌, ℕ, ◌+◌, List, [], ◌∷◌, Option, Some, None}
 
-pub record Script : Type 0 where
+pub record ClockList : Type 0 where
   -- the readings still to come; the last stays for good
   pub left : List (Option ℕ)
   -- how often there was none
@@ -24,7 +24,7 @@ failures_after None failures = failures + 1
 failures_after (Some reading) failures = failures
 
 -- one call gives the next reading
-pub record GivesNext (old : Script) (reading : Option ℕ) (new : Script) : Type 0 where
+pub record GivesNext (old : ClockList) (reading : Option ℕ) (new : ClockList) : Type 0 where
   pub gives : reading ≡ first_reading old.left
   pub leaves : new.left ≡ left_after old.left
   pub counts : new.failures ≡ failures_after reading old.failures
