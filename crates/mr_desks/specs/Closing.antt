@@ -2,7 +2,7 @@
 use Rattle.std.specs.Prelude.{◌≡◌, ℕ, ◌&&◌, ◌||◌, List, [], ◌∷◌, Bool, true, false, not, sum, All, Contains, ⊤}
 use Rattle.mr_history.specs.declared.op_id.OpId.{OpId}
 use Rattle.mr_proxy.specs.Answer.{AnswerView}
-use Rattle.mr_proxy.specs.Pending.{is_same_op}
+use Rattle.mr_history.specs.OpIds.{is_same_op}
 use Rattle.mr_proxy.specs.ProxyView.{ProxyView, opening_of, AreAlike}
 use Rattle.mr_desks.specs.Replay.{answers_of}
 use Rattle.mr_desks.specs.declared.closed.Closed.{Closed}

@@ -1,6 +1,6 @@
 //! Whether the book of a proxy stands with what its sessions did.
 ghost use Rattle.std.specs.Prelude.{◌≡◌, ◌↔◌, IsTrue, All, Contains, IfOk, IfErr, sum, map};
-ghost use Rattle.mr_proxy.specs.Pending.{is_same_op};
+ghost use Rattle.mr_history.specs.OpIds.{is_same_op};
 ghost use Rattle.mr_desks.specs.Closing.{has_op, some_has_op, are_apart, have_different_ops, AreAmong, CountsIssues, StandsWith, ClosesSo};
 
 use crate::carrier::Carrier;
@@ -8,7 +8,7 @@ use crate::closed::Closed;
 use crate::recorded_proxy::RecordedProxy;
 use crate::recorded_state::RecordedState;
 use crate::share::Share;
-use mr_history::OpId;
+use mr_history::{OpId, is_same_op};
 use mr_proxy::{Answer, ProxyCore};
 use std::alloc::{AllocError, Global};
 
@@ -66,8 +66,7 @@ fn all_are_among(others: &[Answer], sessions: &[Vec<Answer>]) -> bool
 fn answers_op(answer: &Answer, op: OpId) -> bool
     ensures { result ≡ is_same_op answer.now.op op }
 {
-    let own = answer.op();
-    own.proxy == op.proxy && own.incarnation == op.incarnation && own.number == op.number
+    is_same_op(answer.op(), op)
 }
 
 /// Whether one of the answers is to the request of this op.

@@ -16,7 +16,8 @@ use Rattle.mr_history.specs.declared.entry.Entry.{Entry}
 use Rattle.mr_history.specs.declared.entry.Entry.TheVariants.{Issued, Stored, Removed, Answered}
 use Rattle.mr_history.specs.Places.{At}
 use Rattle.mr_history.specs.History.{WasIssued, WasAnswered}
-use Rattle.mr_history.specs.steps.Tests.{is_same_op, is_issued, is_answered, is_get, is_issued_get, is_stored, acknowledges, is_acknowledged, issued_delete, delete_of_request}
+use Rattle.mr_history.specs.OpIds.{is_same_op}
+use Rattle.mr_history.specs.steps.Tests.{is_issued, is_answered, is_get, is_issued_get, is_stored, acknowledges, is_acknowledged, issued_delete, delete_of_request}
 use Rattle.mr_history.proofs.Lists.{any_place, none_passes}
 
 both : (a b : Bool) → (a && b) ≡ true → (a ≡ true) × (b ≡ true)

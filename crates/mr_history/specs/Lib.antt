@@ -1,3 +1,4 @@
+pub mod OpIds
 pub mod Places
 pub mod History
 pub mod HistoryView

@@ -14,5 +14,5 @@ pub use entry::{Author, Entry};
 pub use error::HistoryError;
 pub use history::History;
 pub use judge::judge_history;
-pub use op_id::OpId;
+pub use op_id::{OpId, is_same_op};
 pub use verdict::Verdict;

@@ -1,17 +1,12 @@
 //! Searches in a list of entries. None of them takes memory.
 ghost use Rattle.std.specs.Prelude.{◌≡◌, length, position, MatchOption};
 ghost use Rattle.std.specs.List.{list_any};
-ghost use Rattle.mr_history.specs.steps.Tests.{is_same_op, is_issued, is_answered, is_get, is_issued_get, is_stored, acknowledges, is_acknowledged, issued_delete, NonePasses, LastPasses, NoConvict, FirstConvict};
+ghost use Rattle.mr_history.specs.OpIds.{is_same_op};
+ghost use Rattle.mr_history.specs.steps.Tests.{is_issued, is_answered, is_get, is_issued_get, is_stored, acknowledges, is_acknowledged, issued_delete, NonePasses, LastPasses, NoConvict, FirstConvict};
 
 use crate::entry::Entry;
-use crate::op_id::OpId;
+use crate::op_id::{OpId, is_same_op};
 use mr_text::{Item, Key, Reply, Request};
-
-fn is_same_op(a: OpId, b: OpId) -> bool
-    ensures { result ≡ is_same_op a b }
-{
-    a.proxy == b.proxy && a.incarnation == b.incarnation && a.number == b.number
-}
 
 fn is_issued(entry: &Entry, op: OpId) -> bool
     ensures { result ≡ is_issued op entry.now }

@@ -12,8 +12,8 @@ use Rattle.mr_text.specs.declared.request.Request.TheVariants.{Get, Set, Delete,
 use Rattle.mr_node.specs.declared.ended.Ended.{Ended}
 use Rattle.mr_node.specs.declared.ended.Ended.TheVariants as how
 use Rattle.mr_node.specs.declared.session.SessionFault.{SessionFault}
-use Rattle.mr_node.specs.declared.session.Step.{Step}
-use Rattle.mr_node.specs.declared.session.Step.TheVariants.{Served, Waits, Ends}
+use Rattle.mr_node.specs.declared.session.SessionStep.{SessionStep}
+use Rattle.mr_node.specs.declared.session.SessionStep.TheVariants.{Served, Waits, Ends}
 use Rattle.mr_text.specs.Sink.{SinkView}
 use Rattle.mr_node.specs.Output.{IsServed, is_silent, answer_to}
 use Rattle.mr_node.specs.Session.{Station, station, Answers, AnswersRefusal}
@@ -52,7 +52,7 @@ answers_exchange request outcome silent answer old new answers is quiet =
 
 module _ {C P : Type 0} (Does : Outcomes C P) (rest : List ℕ) (old new : ReaderView) where
   -- a request that was read is served
-  pub step_of_request : (before after : Station C P) (request : Request) (result : Result Step SessionFault)
+  pub step_of_request : (before after : Station C P) (request : Request) (result : Result SessionStep SessionFault)
       → NextIs SpellsRequest RefusesRequest SkipsLine is_quit old new rest (Ok (Some request))
       → RequestIs Does before after request result
       → StepIs Does before after old.ended rest new result
@@ -78,23 +78,23 @@ module _ {C P : Type 0} (Does : Outcomes C P) (rest : List ℕ) (old new : Reade
 
   module _ (clock : C) (node : P) (written written' : SinkView) where
     -- a refusal that closes the reader ends the service
-    ends_refused : (refusal : TextError) (result : Result Step SessionFault) → FaultAt SpellsRequest RefusesRequest refusal rest
+    ends_refused : (refusal : TextError) (result : Result SessionStep SessionFault) → FaultAt SpellsRequest RefusesRequest refusal rest
         → skips_line refusal ≡ false → (refusal ≡ Truncated → old.ended ≡ true) → refusal ≢ OutOfMemory
         → AnswersRefusal refusal written result written'
         → StepIs Does (station clock node written) (station clock node written') old.ended rest new result
     ends_refused refusal (Ok step) fault closes cut other is =
         let ends : step ≡ Ends (how.Refused (number_of_refusal refusal)) =
         is.1 ∙ ap (λ (b : Bool). cond b Served (Ends (how.Refused (number_of_refusal refusal)))) closes in
-        subst (λ (s : Step). StepIs Does (station clock node written) (station clock node written') old.ended rest new (Ok s)) (sym ends)
+        subst (λ (s : SessionStep). StepIs Does (station clock node written) (station clock node written') old.ended rest new (Ok s)) (sym ends)
         (refl, refl, refusal, fault, closes, cut, refl, is.2)
     ends_refused refusal (Err e) fault closes cut other (inl is) = absurd (other is.0)
     ends_refused refusal (Err e) fault closes cut other (inr is) = inr (is.0, inr (refusal, fault, closes, refl, refl, is.1))
 
-    skips_unknown : (result : Result Step SessionFault) (after : List ℕ) → SkipsLine rest after → Becomes new after old.ended false
+    skips_unknown : (result : Result SessionStep SessionFault) (after : List ℕ) → SkipsLine rest after → Becomes new after old.ended false
         → AnswersRefusal (UnknownCommand false) written result written'
         → StepIs Does (station clock node written) (station clock node written') old.ended rest new result
     skips_unknown (Ok step) after skips becomes is =
-        subst (λ (s : Step). StepIs Does (station clock node written) (station clock node written') old.ended rest new (Ok s)) (sym is.1) (
+        subst (λ (s : SessionStep). StepIs Does (station clock node written) (station clock node written') old.ended rest new (Ok s)) (sym is.1) (
           Unknown,
           skips.line,
           after,
@@ -111,14 +111,14 @@ module _ {C P : Type 0} (Does : Outcomes C P) (rest : List ℕ) (old new : Reade
       inl (Unknown, skips.line, after, skips.splits, (skips.words, skips.is_line, skips.unknown), (refl, refl), is.1),
     )
 
-    lacks_memory : (result : Result Step SessionFault) → AnswersRefusal OutOfMemory written result written'
+    lacks_memory : (result : Result SessionStep SessionFault) → AnswersRefusal OutOfMemory written result written'
         → StepIs Does (station clock node written) (station clock node written') old.ended rest new result
     lacks_memory (Ok step) is = absurd (is.0 refl)
     lacks_memory (Err e) (inl is) = inl (is.1, ap (station clock node) is.2)
     lacks_memory (Err e) (inr is) = absurd is.1
 
     -- a refusal is answered
-    pub step_of_refusal : (refusal : TextError) (result : Result Step SessionFault) → old.closed ≡ false
+    pub step_of_refusal : (refusal : TextError) (result : Result SessionStep SessionFault) → old.closed ≡ false
         → NextIs SpellsRequest RefusesRequest SkipsLine is_quit old new rest (Err refusal)
         → AnswersRefusal refusal written result written'
         → StepIs Does (station clock node written) (station clock node written') old.ended rest new result

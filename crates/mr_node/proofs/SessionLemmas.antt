@@ -13,8 +13,8 @@ use Rattle.mr_node.specs.declared.ended.Ended.{Ended}
 use Rattle.mr_node.specs.declared.ended.Ended.TheVariants as how
 use Rattle.mr_node.specs.declared.session.SessionFault.{SessionFault}
 use Rattle.mr_node.specs.declared.session.SessionFault.TheVariants.{OutOfMemory, ReadFault, WriteFault, TurnsSpent}
-use Rattle.mr_node.specs.declared.session.Step.{Step}
-use Rattle.mr_node.specs.declared.session.Step.TheVariants.{Served, Waits, Ends}
+use Rattle.mr_node.specs.declared.session.SessionStep.{SessionStep}
+use Rattle.mr_node.specs.declared.session.SessionStep.TheVariants.{Served, Waits, Ends}
 use Rattle.mr_node.specs.Output.{Exchange, ReadsExchanges, SpellsExchange, answer_to, output_of, text_of_answer, text_of_exchange}
 use Rattle.mr_node.specs.Session.{Station, Answers, StopsAnswering, Performs, DoesExchange, SessionServes, SessionIs, PieceIs}
 use Rattle.mr_node.specs.steps.Step.{StepIs}
@@ -110,11 +110,11 @@ module _ {C P : Type 0} (Does : Outcomes C P) (reader : SourceView) (old : Stati
 
   module _ (reader' : SourceView) (now new : Station C P) (requests requests' : ReaderView) (ended : Bool) (so : UnderWay reader' now requests ended) where
     -- what a step says, where its result is known
-    pub stepped : (result result' : Result Step SessionFault) → result ≡ result'
+    pub stepped : (result result' : Result SessionStep SessionFault) → result ≡ result'
         → StepIs Does now new requests.ended so.rest requests' result → StepIs Does now new ended so.rest requests' result'
     stepped result result' is step =
         subst (λ (b : Bool). StepIs Does now new b so.rest requests' result') so.becomes.is_ended
-        (subst (λ (r : Result Step SessionFault). StepIs Does now new requests.ended so.rest requests' r) is step)
+        (subst (λ (r : Result SessionStep SessionFault). StepIs Does now new requests.ended so.rest requests' r) is step)
 
     -- a request was served
     pub goes_on : StepIs Does now new ended so.rest requests' (Ok Served) → UnderWay reader' new requests' ended

@@ -16,8 +16,8 @@ use Rattle.mr_node.specs.declared.ended.Ended.{Ended}
 use Rattle.mr_node.specs.declared.ended.Ended.TheVariants as how
 use Rattle.mr_node.specs.declared.session.SessionFault.{SessionFault}
 use Rattle.mr_node.specs.declared.session.SessionFault.TheVariants.{OutOfMemory, ReadFault, WriteFault, TurnsSpent}
-use Rattle.mr_node.specs.declared.session.Step.{Step}
-use Rattle.mr_node.specs.declared.session.Step.TheVariants.{Served, Ends}
+use Rattle.mr_node.specs.declared.session.SessionStep.{SessionStep}
+use Rattle.mr_node.specs.declared.session.SessionStep.TheVariants.{Served, Ends}
 use Rattle.mr_node.specs.Output.{Exchange, ReadsExchanges, SpellsExchange, answer_to, output_of, reply_to_refusal}
 use Rattle.mr_node.specs.Output.Exchange.{Asked, Unknown}
 use Rattle.mr_node.specs.Outcome.{Outcomes}
@@ -116,11 +116,11 @@ WritesAnswer answer old (Ok _) new = Answers answer old new
 WritesAnswer answer old (Err fault) new = (fault ≡ WriteFault) × StopsAnswering answer old new
 
 -- what a refusal leads to: reading goes on behind it, or the session ends
-abbrev pub step_after : TextError → Step
+abbrev pub step_after : TextError → SessionStep
 step_after refusal = if skips_line refusal then Served else Ends (how.Refused (number_of_refusal refusal))
 
 -- a refusal is answered; want of memory ends the session without an answer
-abbrev pub AnswersRefusal : TextError → SinkView → Result Step SessionFault → SinkView → Type 0
+abbrev pub AnswersRefusal : TextError → SinkView → Result SessionStep SessionFault → SinkView → Type 0
 AnswersRefusal refusal old (Ok step) new = (refusal ≢ NoMemory) × (step ≡ step_after refusal) × Answers (reply_to_refusal refusal) old new
 AnswersRefusal refusal old (Err fault) new =
     ((refusal ≡ NoMemory) × (fault ≡ OutOfMemory) × (new ≡ old)) ⊎ ((fault ≡ WriteFault) × StopsAnswering (reply_to_refusal refusal) old new)

@@ -12,7 +12,7 @@ use crate::error::NodeError;
 use crate::outcome::outcome;
 use crate::perform::Perform;
 use crate::session::{
-    READ_LENGTH, SessionFault, Step, answer_refusal, is_silent, read_piece, write_answer,
+    READ_LENGTH, SessionFault, SessionStep, answer_refusal, is_silent, read_piece, write_answer,
 };
 use mr_clock::Clock;
 use mr_text::{Reply, Request, RequestReader, Sink, Source};
@@ -86,9 +86,9 @@ fn serve_all<P: Perform, S: Source, W: Sink, C: Clock>(
     let mut turns_left = turns;
     'session: loop {
         match serve_next(alloc, node, requests, writer, clock) {
-            Ok(Step::Served) => {}
-            Ok(Step::Ends(how)) => return Ok(how),
-            Ok(Step::Waits) => {
+            Ok(SessionStep::Served) => {}
+            Ok(SessionStep::Ends(how)) => return Ok(how),
+            Ok(SessionStep::Waits) => {
                 if ended {
                     return Ok(Ended::Ended);
                 }
@@ -113,14 +113,14 @@ fn serve_next<P: Perform, W: Sink, C: Clock>(
     requests: &mut RequestReader,
     writer: &mut W,
     clock: &mut C,
-) -> Result<Step, SessionFault>
+) -> Result<SessionStep, SessionFault>
     requires { requests.old.closed ≡ false }
     ensures { (rest : List ℕ) → StandsFor requests.old rest
         → StepIs (Outcome C.reads C.failures P.did P.refused) (station clock.old node.old (W.told writer.old)) (station clock.new node.new (W.told writer.new))
         requests.old.ended rest requests.new result }
 {
     match requests.next() {
-        Ok(None) => Ok(Step::Waits),
+        Ok(None) => Ok(SessionStep::Waits),
         Ok(Some(request)) => serve_request(alloc, node, writer, clock, request),
         Err(refusal) => answer_refusal(refusal, writer),
     }
@@ -134,17 +134,17 @@ fn serve_request<P: Perform, W: Sink, C: Clock>(
     writer: &mut W,
     clock: &mut C,
     request: Request,
-) -> Result<Step, SessionFault>
+) -> Result<SessionStep, SessionFault>
     ensures { RequestIs (Outcome C.reads C.failures P.did P.refused) (station clock.old node.old (W.told writer.old))
         (station clock.new node.new (W.told writer.new)) request result }
 {
     if let Request::Quit = request {
-        return Ok(Step::Ends(Ended::Quit));
+        return Ok(SessionStep::Ends(Ended::Quit));
     }
     let silent = is_silent(&request);
     let reply = outcome(alloc, node, clock, request);
     write_answer(answer_to(silent, reply), writer)?;
-    Ok(Step::Served)
+    Ok(SessionStep::Served)
 }
 
 /// What a client is answered, where it wants an answer.

@@ -34,7 +34,7 @@ pub enum SessionFault {
 
 /// What one step of a session came to.
 #[derive(Clone, Copy, Debug, PartialEq, Eq)]
-pub enum Step {
+pub enum SessionStep {
     /// What was read is answered, where it gets an answer: a request that was done, or a line with an unknown command.
     Served,
     /// No request is whole: more has to be read, or all was.
@@ -114,7 +114,10 @@ pub fn skips_line(refusal: TextError) -> bool
 /// Answers a refused request, if it gets an answer. Unless reading goes on behind it, it ends the session.
 ///
 /// OutOfMemory, without an answer, where memory for the request was refused. WriteFault where the sink failed.
-pub fn answer_refusal<W: Sink>(refusal: TextError, writer: &mut W) -> Result<Step, SessionFault>
+pub fn answer_refusal<W: Sink>(
+    refusal: TextError,
+    writer: &mut W,
+) -> Result<SessionStep, SessionFault>
     ensures { AnswersRefusal refusal (W.told writer.old) result (W.told writer.new) }
 {
     if refusal == TextError::OutOfMemory {
@@ -122,9 +125,9 @@ pub fn answer_refusal<W: Sink>(refusal: TextError, writer: &mut W) -> Result<Ste
     }
     write_answer(reply_to_refusal(refusal), writer)?;
     if skips_line(refusal) {
-        Ok(Step::Served)
+        Ok(SessionStep::Served)
     } else {
-        Ok(Step::Ends(Ended::Refused(refusal.number())))
+        Ok(SessionStep::Ends(Ended::Refused(refusal.number())))
     }
 }
 

@@ -14,9 +14,6 @@ pub record PendingView : Type 0 where
   pub reading : ℕ
   pub slots : List Slot
 
-abbrev pub is_same_op : OpId → OpId → Bool
-is_same_op a b = (a.proxy == b.proxy) && (a.incarnation == b.incarnation) && (a.number == b.number)
-
 -- no leg is left that may answer yet
 abbrev pub is_complete : PendingView → Bool
 is_complete pending = not (list_any is_open pending.slots)

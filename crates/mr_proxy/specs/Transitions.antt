@@ -10,7 +10,8 @@ use Rattle.mr_proxy.specs.declared.slot.Slot.{Slot}
 use Rattle.mr_proxy.specs.declared.taken.Taken.{Taken}
 use Rattle.mr_proxy.specs.declared.taken.Taken.TheVariants.{Waiting, Answered, Stranger}
 use Rattle.mr_proxy.specs.Slots.{is_open}
-use Rattle.mr_proxy.specs.Pending.{PendingView, is_same_op, is_complete, with_reply}
+use Rattle.mr_history.specs.OpIds.{is_same_op}
+use Rattle.mr_proxy.specs.Pending.{PendingView, is_complete, with_reply}
 use Rattle.mr_proxy.specs.Answer.{AnswerView, answer_of}
 use Rattle.mr_proxy.specs.ProxyView.{ProxyView}
 

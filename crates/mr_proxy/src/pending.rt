@@ -4,7 +4,7 @@ ghost use Rattle.mr_proxy.specs.Slots.{is_open};
 
 use crate::room::room_for;
 use crate::slot::{Slot, same_slots};
-use mr_history::OpId;
+use mr_history::{OpId, is_same_op};
 use mr_join::LegReply;
 use mr_text::{Item, Request};
 use std::alloc::AllocError;
@@ -47,7 +47,8 @@ impl Model for Pending {
 }
 
 impl Pending {
-    ghost use Rattle.mr_proxy.specs.Pending.{is_same_op, with_reply};
+    ghost use Rattle.mr_history.specs.OpIds.{is_same_op};
+    ghost use Rattle.mr_proxy.specs.Pending.{with_reply};
     ghost use Rattle.mr_proxy.specs.steps.Room.{HasRoomFor};
     ghost use Rattle.mr_proxy.specs.steps.Noted.{noted_as};
 
@@ -85,9 +86,7 @@ impl Pending {
     pub(crate) fn has_op(&self, op: OpId) -> bool
         ensures { result ≡ is_same_op self.now.op op }
     {
-        self.op.proxy == op.proxy
-            && self.op.incarnation == op.incarnation
-            && self.op.number == op.number
+        is_same_op(self.op, op)
     }
 
     /// The request.

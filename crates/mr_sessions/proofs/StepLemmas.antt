@@ -12,8 +12,8 @@ use Rattle.mr_node.specs.Output.{IsServed}
 use Rattle.mr_node.specs.Session.{Station, station, SessionIs, PieceIs, AnswersRefusal}
 use Rattle.mr_node.specs.declared.session.SessionFault.{SessionFault}
 use Rattle.mr_node.specs.declared.session.SessionFault.TheVariants as fault
-use Rattle.mr_node.specs.declared.session.Step.{Step}
-use Rattle.mr_node.specs.declared.session.Step.TheVariants.{Served}
+use Rattle.mr_node.specs.declared.session.SessionStep.{SessionStep}
+use Rattle.mr_node.specs.declared.session.SessionStep.TheVariants.{Served}
 use Rattle.mr_node.proofs.ServiceLemmas.{step_of_request, step_of_refusal}
 use Rattle.mr_node.proofs.SessionLemmas.{UnderWay, stepped, step_fails, reader_fails, reader_well}
 use Rattle.mr_desks.specs.declared.error.WorkerError.{WorkerError}
@@ -57,7 +57,7 @@ module _ {C P : Type 0} (Does : Outcomes C P) (InVain : Fails C P) where
 
   module _ (rest : List ℕ) (old new : ReaderView) (before after : Station C P) where
     -- a request that was read is served
-    pub client_step : (request : Request) (result : Result Step WorkerError)
+    pub client_step : (request : Request) (result : Result SessionStep WorkerError)
         → NextIs SpellsRequest RefusesRequest SkipsLine is_quit old new rest (Ok (Some request))
         → ClientRequestIs Does InVain before after request result
         → ClientStepIs Does InVain before after old.ended rest new result
@@ -75,7 +75,7 @@ module _ {C P : Type 0} (Does : Outcomes C P) (InVain : Fails C P) where
 
   -- a refusal is answered
   pub client_refusal : (rest : List ℕ) (old new : ReaderView) (clock : C) (node : P) (written written' : SinkView) (refusal : TextError)
-      (result : Result Step WorkerError) → old.closed ≡ false
+      (result : Result SessionStep WorkerError) → old.closed ≡ false
       → NextIs SpellsRequest RefusesRequest SkipsLine is_quit old new rest (Err refusal)
       → ClientRefusalIs refusal written result written'
       → ClientStepIs Does InVain (station clock node written) (station clock node written') old.ended rest new result

@@ -19,8 +19,8 @@ use crate::served::Served;
 use crate::till::{Till, keep, make_room};
 use mr_clock::Clock;
 use mr_desks::{Carrier, Carriers, Desk, DeskError, WorkerError};
-use mr_history::OpId;
-use mr_node::session::{Step, answer_refusal, is_silent, read_piece, write_answer};
+use mr_history::{OpId, is_same_op};
+use mr_node::session::{SessionStep, answer_refusal, is_silent, read_piece, write_answer};
 use mr_node::{Ended, READ_LENGTH};
 use mr_proxy::{Answer, Issued};
 use mr_text::{Reply, Request, RequestReader, Sink, Source, TextError, WriteFault};
@@ -31,11 +31,7 @@ use std::sync::Wait;
 fn is_answer_to(answer: &Answer, op: OpId, request: &Request) -> bool
     ensures { result ≡ true → answer.now.request ≡ request.now }
 {
-    let own = answer.op();
-    own.proxy == op.proxy
-        && own.incarnation == op.incarnation
-        && own.number == op.number
-        && answer.request().same_as(request)
+    is_same_op(answer.op(), op) && answer.request().same_as(request)
 }
 
 /// Carries the legs of a request, and gives its answer. None where there is none, or what there is isn't its own.
@@ -145,25 +141,25 @@ fn serve_request<C: Carrier, D: Desk<C>, K: Clock, W: Sink, L: Carriers<C>, R: W
     carriers: &mut L,
     till: &mut Till,
     request: &Request,
-) -> Result<Step, WorkerError>
+) -> Result<SessionStep, WorkerError>
     ensures { ClientRequestIs (AsksDesk K.reads K.failures C.gave D.recorded) (AsksInVain K.reads K.failures)
         (station clock.old (account till.old.share till.old.answers.items (L.losses carriers.old) (L.brought carriers.old)) (W.told writer.old))
         (station clock.new (account till.new.share till.new.answers.items (L.losses carriers.new) (L.brought carriers.new)) (W.told writer.new))
         request.now result }
 {
     if let Request::Quit = request {
-        return Ok(Step::Ends(Ended::Quit));
+        return Ok(SessionStep::Ends(Ended::Quit));
     }
     if make_room(&mut till.answers, desk.is_recorded()).is_err() {
         return Err(WorkerError::OutOfMemory);
     }
     ask(rt, desk, clock, writer, carriers, till, request)?;
-    Ok(Step::Served)
+    Ok(SessionStep::Served)
 }
 
 /// Answers a refused request, if it gets an answer. Unless reading goes on behind it, it ends the session.
 #[tactic(auto, using(crate::proofs::StepLemmas::refused_told))]
-fn refuse<W: Sink>(refusal: TextError, writer: &mut W) -> Result<Step, WorkerError>
+fn refuse<W: Sink>(refusal: TextError, writer: &mut W) -> Result<SessionStep, WorkerError>
     ensures { ClientRefusalIs refusal (W.told writer.old) result (W.told writer.new) }
 {
     match answer_refusal(refusal, writer) {
@@ -181,7 +177,7 @@ fn serve_next<C: Carrier, D: Desk<C>, K: Clock, W: Sink, L: Carriers<C>, R: Wait
     writer: &mut W,
     carriers: &mut L,
     till: &mut Till,
-) -> Result<Step, WorkerError>
+) -> Result<SessionStep, WorkerError>
     requires { requests.old.closed ≡ false }
     ensures { (rest : List ℕ) → StandsFor requests.old rest
         → ClientStepIs (AsksDesk K.reads K.failures C.gave D.recorded) (AsksInVain K.reads K.failures)
@@ -190,7 +186,7 @@ fn serve_next<C: Carrier, D: Desk<C>, K: Clock, W: Sink, L: Carriers<C>, R: Wait
         requests.old.ended rest requests.new result }
 {
     match requests.next() {
-        Ok(None) => Ok(Step::Waits),
+        Ok(None) => Ok(SessionStep::Waits),
         Ok(Some(request)) => serve_request(rt, desk, clock, writer, carriers, till, &request),
         Err(refusal) => refuse(refusal, writer),
     }
@@ -226,9 +222,9 @@ fn serve_all<C: Carrier, D: Desk<C>, K: Clock, S: Source, W: Sink, L: Carriers<C
     let mut turns_left = turns;
     'session: loop {
         match serve_next(rt, desk, clock, &mut requests, writer, carriers, till)? {
-            Step::Served => {}
-            Step::Ends(how) => return Ok(how),
-            Step::Waits => {
+            SessionStep::Served => {}
+            SessionStep::Ends(how) => return Ok(how),
+            SessionStep::Waits => {
                 if ended {
                     return Ok(Ended::Ended);
                 }

@@ -27,7 +27,8 @@ use Rattle.mr_proxy.specs.declared.sheet.LegSheet.{LegSheet}
 use Rattle.mr_proxy.specs.declared.slot.Slot.{Slot}
 use Rattle.mr_proxy.specs.declared.taken.Taken.TheVariants as taken
 use Rattle.mr_proxy.specs.Slots.{is_awaiting, open_slot}
-use Rattle.mr_proxy.specs.Pending.{PendingView, is_same_op, is_complete, with_reply, with_reply_in}
+use Rattle.mr_history.specs.OpIds.{is_same_op}
+use Rattle.mr_proxy.specs.Pending.{PendingView, is_complete, with_reply, with_reply_in}
 use Rattle.mr_proxy.specs.Answer.{AnswerView, answer_of, reply_of}
 use Rattle.mr_proxy.specs.Issue.{next_op, used_reading, sheets_of, pending_of, after_issue}
 use Rattle.mr_proxy.specs.Sheets.{commands_of}

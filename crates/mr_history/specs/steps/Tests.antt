@@ -8,12 +8,10 @@ use Rattle.mr_text.specs.declared.request.Request.TheVariants.{Get, Delete}
 use Rattle.mr_text.specs.declared.reply.Reply.{Reply}
 use Rattle.mr_text.specs.declared.reply.Reply.TheVariants.{Deleted, NotFound}
 use Rattle.mr_history.specs.declared.op_id.OpId.{OpId}
+use Rattle.mr_history.specs.OpIds.{is_same_op}
 use Rattle.mr_history.specs.Places.{At}
 use Rattle.mr_history.specs.declared.entry.Entry.{Entry}
 use Rattle.mr_history.specs.declared.entry.Entry.TheVariants.{Issued, Stored, Answered}
-
-abbrev pub is_same_op : OpId → OpId → Bool
-is_same_op a b = (a.proxy == b.proxy) && (a.incarnation == b.incarnation) && (a.number == b.number)
 
 abbrev pub is_issued : OpId → Entry → Bool
 is_issued op (Issued op' proxy request) = is_same_op op' op

@@ -12,8 +12,8 @@ use Rattle.mr_node.specs.declared.ended.Ended.{Ended}
 use Rattle.mr_node.specs.declared.ended.Ended.TheVariants as how
 use Rattle.mr_node.specs.declared.session.SessionFault.{SessionFault}
 use Rattle.mr_node.specs.declared.session.SessionFault.TheVariants.{OutOfMemory, WriteFault}
-use Rattle.mr_node.specs.declared.session.Step.{Step}
-use Rattle.mr_node.specs.declared.session.Step.TheVariants.{Served, Waits, Ends}
+use Rattle.mr_node.specs.declared.session.SessionStep.{SessionStep}
+use Rattle.mr_node.specs.declared.session.SessionStep.TheVariants.{Served, Waits, Ends}
 use Rattle.mr_node.specs.Output.Exchange.{Asked}
 use Rattle.mr_node.specs.Output.{Exchange, IsServed, SpellsExchange, answer_to, reply_to_refusal}
 use Rattle.mr_node.specs.Session.{Station, Answers, StopsAnswering, DoesExchange, LeavesUnanswered}
@@ -21,7 +21,7 @@ use Rattle.mr_node.specs.Outcome.{Outcomes}
 
 module _ {C P : Type 0} (Does : Outcomes C P) (old new : Station C P) where
   -- a quit ends the service; any other request is served and answered, or served and the writer fails
-  abbrev pub RequestIs : Request → Result Step SessionFault → Type 0
+  abbrev pub RequestIs : Request → Result SessionStep SessionFault → Type 0
   RequestIs request (Ok Served) =
       IsServed request × (outcome : Reply) × Does old.clock old.node request outcome new.clock new.node
       × Answers (answer_to (Asked request outcome)) old.writer new.writer
@@ -41,7 +41,7 @@ module _ {C P : Type 0} (Does : Outcomes C P) (old new : Station C P) where
         × Answers (reply_to_refusal refusal) old.writer new.writer
 
     -- one request that is whole is served, or none is whole, or the service ends
-    abbrev pub StepIs : Result Step SessionFault → Type 0
+    abbrev pub StepIs : Result SessionStep SessionFault → Type 0
     StepIs (Ok Served) =
         (exchange : Exchange) × (spelling : List ℕ) × (after : List ℕ) × (1 ≤ length spelling) × (rest ≡ spelling ++ after) × SpellsExchange spelling exchange
         × DoesExchange Does old exchange new × Answers (answer_to exchange) old.writer new.writer × Becomes requests after ended false

@@ -10,7 +10,7 @@ use Rattle.mr_node.specs.Output.{IsServed, answer_to}
 use Rattle.mr_node.specs.Output.Exchange.{Asked}
 use Rattle.mr_node.specs.Session.{Station, Answers, StopsAnswering, AnswersRefusal}
 use Rattle.mr_node.specs.declared.session.SessionFault.TheVariants as fault
-use Rattle.mr_node.specs.declared.session.Step.{Step}
+use Rattle.mr_node.specs.declared.session.SessionStep.{SessionStep}
 use Rattle.mr_node.specs.steps.Step.{RequestIs, StepIs}
 use Rattle.mr_desks.specs.declared.error.WorkerError.{WorkerError}
 use Rattle.mr_desks.specs.declared.error.WorkerError.TheVariants.{LinkBroken, Mismatch, BookFull, BookDiffers, ReadFault, WriteFault, TurnsSpent, OutOfMemory, NoThread}
@@ -22,7 +22,7 @@ AnsweredSo request outcome old new (Ok _) = Answers (answer_to (Asked request ou
 AnsweredSo request outcome old new (Err fault) = (fault ≡ WriteFault) × StopsAnswering (answer_to (Asked request outcome)) old new
 
 -- a refusal is answered as in any session
-abbrev pub ClientRefusalIs : TextError → SinkView → Result Step WorkerError → SinkView → Type 0
+abbrev pub ClientRefusalIs : TextError → SinkView → Result SessionStep WorkerError → SinkView → Type 0
 ClientRefusalIs refusal old (Ok step) new = AnswersRefusal refusal old (Ok step) new
 ClientRefusalIs refusal old (Err WriteFault) new = AnswersRefusal refusal old (Err fault.WriteFault) new
 ClientRefusalIs refusal old (Err OutOfMemory) new = AnswersRefusal refusal old (Err fault.OutOfMemory) new
@@ -42,7 +42,7 @@ module _ {C P : Type 0} (Does : Outcomes C P) (InVain : Fails C P) (old new : St
       ((result ≡ Err BookDiffers) × InVain old.clock old.node new.clock new.node × (new.writer ≡ old.writer))
 
   -- a request is served and answered, or served and the writer fails, or lacks the room for its answer, or has none
-  abbrev pub ClientRequestIs : Request → Result Step WorkerError → Type 0
+  abbrev pub ClientRequestIs : Request → Result SessionStep WorkerError → Type 0
   ClientRequestIs request (Ok step) = RequestIs Does old new request (Ok step)
   ClientRequestIs request (Err WriteFault) = RequestIs Does old new request (Err fault.WriteFault)
   ClientRequestIs request (Err OutOfMemory) = new ≡ old
@@ -57,7 +57,7 @@ module _ {C P : Type 0} (Does : Outcomes C P) (InVain : Fails C P) (old new : St
 
   module _ (ended : Bool) (rest : List ℕ) (requests : ReaderView) where
     -- one request that is whole is served, or none is whole, or the session ends
-    abbrev pub ClientStepIs : Result Step WorkerError → Type 0
+    abbrev pub ClientStepIs : Result SessionStep WorkerError → Type 0
     ClientStepIs (Ok step) = StepIs Does old new ended rest requests (Ok step)
     ClientStepIs (Err WriteFault) = StepIs Does old new ended rest requests (Err fault.WriteFault)
     ClientStepIs (Err OutOfMemory) = StepIs Does old new ended rest requests (Err fault.OutOfMemory)

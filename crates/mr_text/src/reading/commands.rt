@@ -43,22 +43,22 @@ pub(crate) fn command_of(line: &[u8]) -> Result<Command<'_>, TextError>
     ensures command { IsCommand (command_line (words_of line.now)) result }
     ensures good { IfOk result IsGoodLine }
 {
-    said(line)
+    read_command(line)
 }
 
 #[tactic(auto, unfolding(crate::specs::steps::Reading::shape_of))]
-fn said(line: &[u8]) -> Result<Command<'_>, TextError>
+fn read_command(line: &[u8]) -> Result<Command<'_>, TextError>
     ensures { IsCommand (command_line (words_of line.now)) result }
 {
     match next_word(line) {
-        Some((word, arguments)) => said_behind(word, arguments),
+        Some((word, arguments)) => command_behind(word, arguments),
         None => Err(TextError::UnknownCommand { closes: false }),
     }
 }
 
 /// What a line says that begins with this word.
 #[tactic(auto, unfolding(crate::specs::steps::Reading::shape_of))]
-fn said_behind<'a>(word: &[u8], arguments: &'a [u8]) -> Result<Command<'a>, TextError>
+fn command_behind<'a>(word: &[u8], arguments: &'a [u8]) -> Result<Command<'a>, TextError>
     ensures { IsCommand (command_line (word.now ∷ words_of arguments.entry.now)) result }
 {
     if is_text(word, b"get") {

@@ -2,8 +2,8 @@ use Rattle.std.proofs.Common.{◌∙◌, ℕ, List, length, length-append, Bool,
 use Rattle.mr_node.specs.declared.ended.Ended.TheVariants as how
 use Rattle.mr_node.specs.declared.session.SessionFault.{SessionFault}
 use Rattle.mr_node.specs.declared.session.SessionFault.TheVariants.{TurnsSpent}
-use Rattle.mr_node.specs.declared.session.Step.{Step}
-use Rattle.mr_node.specs.declared.session.Step.TheVariants.{Served, Waits, Ends}
+use Rattle.mr_node.specs.declared.session.SessionStep.{SessionStep}
+use Rattle.mr_node.specs.declared.session.SessionStep.TheVariants.{Served, Waits, Ends}
 use Rattle.mr_node.specs.Session.{PieceIs, station}
 use Rattle.mr_node.proofs.CountLemmas.{reads_nothing, read_by, read_on, read_failed, same_fault}
 use Rattle.mr_node.proofs.SessionLemmas.{begins_so, stepped, goes_on, waits_for, shrinks, ends, all_read, spent, step_fails, step_reads_well, step_not_spent, fed, read_fails}
@@ -16,7 +16,7 @@ pub session-smaller-in-Ok-Served : goal.session-smaller-in-Ok-Served
 session-smaller-in-Ok-Served g c =
     let step = stepped _ _ _ _ _ (station c.serve_next.new.clock c.serve_next.new.node (g.W.Sink.told c.serve_next.new.writer)) _ c.serve_next.new.requests _ c.session.invariant.so
     c.serve_next.result (Ok Served)
-    (c.in-Ok-Served.is ∙ ap (λ (s : Step). Ok s) c.in-Ok-Served.field-0-is)
+    (c.in-Ok-Served.is ∙ ap (λ (s : SessionStep). Ok s) c.in-Ok-Served.field-0-is)
     (c.serve_next.ensures c.session.invariant.so.rest c.session.invariant.so.becomes.stands) in
     omega (arith, shrinks _ _ _ _ _ (station c.serve_next.new.clock c.serve_next.new.node (g.W.Sink.told c.serve_next.new.writer)) _ c.serve_next.new.requests _ c.session.invariant.so step)
 
@@ -24,7 +24,7 @@ pub session-preserved-in-Ok-Served : goal.session-preserved-in-Ok-Served
 session-preserved-in-Ok-Served g c =
     let step = stepped _ _ _ _ _ (station c.serve_next.new.clock c.serve_next.new.node (g.W.Sink.told c.serve_next.new.writer)) _ c.serve_next.new.requests _ c.session.invariant.so
     c.serve_next.result (Ok Served)
-    (c.in-Ok-Served.is ∙ ap (λ (s : Step). Ok s) c.in-Ok-Served.field-0-is)
+    (c.in-Ok-Served.is ∙ ap (λ (s : SessionStep). Ok s) c.in-Ok-Served.field-0-is)
     (c.serve_next.ensures c.session.invariant.so.rest c.session.invariant.so.becomes.stands) in
     record { so = goes_on _ _ _ _ _ (station c.serve_next.new.clock c.serve_next.new.node (g.W.Sink.told c.serve_next.new.writer)) _ c.serve_next.new.requests _ c.session.invariant.so step; read = c.session.invariant.read }
 
@@ -32,7 +32,7 @@ pub returns-in-Ok-Ends-clause-session : goal.returns-in-Ok-Ends-clause-session
 returns-in-Ok-Ends-clause-session g c =
     let step = stepped _ _ _ _ _ (station c.serve_next.new.clock c.serve_next.new.node (g.W.Sink.told c.serve_next.new.writer)) _ c.serve_next.new.requests _ c.session.invariant.so
     c.serve_next.result (Ok (Ends c.in-Ok-Ends.how))
-    (c.in-Ok-Ends.is ∙ ap (λ (s : Step). Ok s) c.in-Ok-Ends.field-0-is)
+    (c.in-Ok-Ends.is ∙ ap (λ (s : SessionStep). Ok s) c.in-Ok-Ends.field-0-is)
     (c.serve_next.ensures c.session.invariant.so.rest c.session.invariant.so.becomes.stands) in
     ends _ _ _ _ _ (station c.serve_next.new.clock c.serve_next.new.node (g.W.Sink.told c.serve_next.new.writer)) _ c.serve_next.new.requests _ c.session.invariant.so c.in-Ok-Ends.how step
 
@@ -43,7 +43,7 @@ pub returns-then-ended-clause-session : goal.returns-then-ended-clause-session
 returns-then-ended-clause-session g c =
     let step = stepped _ _ _ _ _ (station c.serve_next.new.clock c.serve_next.new.node (g.W.Sink.told c.serve_next.new.writer)) _ c.serve_next.new.requests _ c.session.invariant.so
     c.serve_next.result (Ok Waits)
-    (c.in-Ok-Waits.is ∙ ap (λ (s : Step). Ok s) c.in-Ok-Waits.field-0-is)
+    (c.in-Ok-Waits.is ∙ ap (λ (s : SessionStep). Ok s) c.in-Ok-Waits.field-0-is)
     (c.serve_next.ensures c.session.invariant.so.rest c.session.invariant.so.becomes.stands) in
     all_read _ _ _ _ _ (station c.serve_next.new.clock c.serve_next.new.node (g.W.Sink.told c.serve_next.new.writer)) _ c.serve_next.new.requests _ c.session.invariant.so step c.if-ended.true
 
@@ -54,7 +54,7 @@ pub returns-then-turns_left-eq0-clause-session : goal.returns-then-turns_left-eq
 returns-then-turns_left-eq0-clause-session g c =
     let step = stepped _ _ _ _ _ (station c.serve_next.new.clock c.serve_next.new.node (g.W.Sink.told c.serve_next.new.writer)) _ c.serve_next.new.requests _ c.session.invariant.so
     c.serve_next.result (Ok Waits)
-    (c.in-Ok-Waits.is ∙ ap (λ (s : Step). Ok s) c.in-Ok-Waits.field-0-is)
+    (c.in-Ok-Waits.is ∙ ap (λ (s : SessionStep). Ok s) c.in-Ok-Waits.field-0-is)
     (c.serve_next.ensures c.session.invariant.so.rest c.session.invariant.so.becomes.stands) in
     spent _ _ _ _ _ (station c.serve_next.new.clock c.serve_next.new.node (g.W.Sink.told c.serve_next.new.writer)) _ c.serve_next.new.requests _ c.session.invariant.so step
 
@@ -83,7 +83,7 @@ pub returns-in-Err-read_piece-clause-session : goal.returns-in-Err-read_piece-cl
 returns-in-Err-read_piece-clause-session g c =
     let step = stepped _ _ _ _ _ (station c.serve_next.new.clock c.serve_next.new.node (g.W.Sink.told c.serve_next.new.writer)) _ c.serve_next.new.requests _ c.session.invariant.so
     c.serve_next.result (Ok Waits)
-    (c.in-Ok-Waits.is ∙ ap (λ (s : Step). Ok s) c.in-Ok-Waits.field-0-is)
+    (c.in-Ok-Waits.is ∙ ap (λ (s : SessionStep). Ok s) c.in-Ok-Waits.field-0-is)
     (c.serve_next.ensures c.session.invariant.so.rest c.session.invariant.so.becomes.stands) in
     read_fails _ _ _ _ _ (station c.serve_next.new.clock c.serve_next.new.node (g.W.Sink.told c.serve_next.new.writer)) _ c.serve_next.new.requests _ c.session.invariant.so (length c.session.buffer) (g.S.Source.told c.read_piece.new.reader) c.read_piece.new.requests c.in-Err-read_piece.fault step
     (subst (λ (r : Result Bool SessionFault). PieceIs (length c.session.buffer) c.session.invariant.so.rest c.read_piece.new.requests (g.S.Source.told c.session.reader) r (g.S.Source.told c.read_piece.new.reader))
@@ -93,7 +93,7 @@ pub returns-in-Err-read_piece-clause-counts : goal.returns-in-Err-read_piece-cla
 returns-in-Err-read_piece-clause-counts g c =
     let step = stepped _ _ _ _ _ (station c.serve_next.new.clock c.serve_next.new.node (g.W.Sink.told c.serve_next.new.writer)) _ c.serve_next.new.requests _ c.session.invariant.so
     c.serve_next.result (Ok Waits)
-    (c.in-Ok-Waits.is ∙ ap (λ (s : Step). Ok s) c.in-Ok-Waits.field-0-is)
+    (c.in-Ok-Waits.is ∙ ap (λ (s : SessionStep). Ok s) c.in-Ok-Waits.field-0-is)
     (c.serve_next.ensures c.session.invariant.so.rest c.session.invariant.so.becomes.stands) in
     read_failed _ _ _ _ _ c.session.invariant.read (length c.session.buffer) _ c.session.invariant.so.rest c.read_piece.new.requests (omega arith) (omega arith) c.if-ended.false c.read_piece.ensures.once c.read_piece.ensures.offered c.in-Err-read_piece.fault
     (subst (λ (r : Result Bool SessionFault). PieceIs (length c.session.buffer) c.session.invariant.so.rest c.read_piece.new.requests (g.S.Source.told c.session.reader) r (g.S.Source.told c.read_piece.new.reader))
@@ -103,7 +103,7 @@ pub session-smaller : goal.session-smaller
 session-smaller g c =
     let step = stepped _ _ _ _ _ (station c.serve_next.new.clock c.serve_next.new.node (g.W.Sink.told c.serve_next.new.writer)) _ c.serve_next.new.requests _ c.session.invariant.so
     c.serve_next.result (Ok Waits)
-    (c.in-Ok-Waits.is ∙ ap (λ (s : Step). Ok s) c.in-Ok-Waits.field-0-is)
+    (c.in-Ok-Waits.is ∙ ap (λ (s : SessionStep). Ok s) c.in-Ok-Waits.field-0-is)
     (c.serve_next.ensures c.session.invariant.so.rest c.session.invariant.so.becomes.stands) in
     let piece = (subst (λ (r : Result Bool SessionFault). PieceIs (length c.session.buffer) c.session.invariant.so.rest c.read_piece.new.requests (g.S.Source.told c.session.reader) r (g.S.Source.told c.read_piece.new.reader))
     c.in-Ok.is (c.read_piece.ensures.piece c.session.invariant.so.rest (waits_for _ _ _ _ _ (station c.serve_next.new.clock c.serve_next.new.node (g.W.Sink.told c.serve_next.new.writer)) _ c.serve_next.new.requests _ c.session.invariant.so step).stands)) in
@@ -116,7 +116,7 @@ pub session-preserved : goal.session-preserved
 session-preserved g c =
     let step = stepped _ _ _ _ _ (station c.serve_next.new.clock c.serve_next.new.node (g.W.Sink.told c.serve_next.new.writer)) _ c.serve_next.new.requests _ c.session.invariant.so
     c.serve_next.result (Ok Waits)
-    (c.in-Ok-Waits.is ∙ ap (λ (s : Step). Ok s) c.in-Ok-Waits.field-0-is)
+    (c.in-Ok-Waits.is ∙ ap (λ (s : SessionStep). Ok s) c.in-Ok-Waits.field-0-is)
     (c.serve_next.ensures c.session.invariant.so.rest c.session.invariant.so.becomes.stands) in
     let piece = (subst (λ (r : Result Bool SessionFault). PieceIs (length c.session.buffer) c.session.invariant.so.rest c.read_piece.new.requests (g.S.Source.told c.session.reader) r (g.S.Source.told c.read_piece.new.reader))
     c.in-Ok.is (c.read_piece.ensures.piece c.session.invariant.so.rest (waits_for _ _ _ _ _ (station c.serve_next.new.clock c.serve_next.new.node (g.W.Sink.told c.serve_next.new.writer)) _ c.serve_next.new.requests _ c.session.invariant.so step).stands)) in

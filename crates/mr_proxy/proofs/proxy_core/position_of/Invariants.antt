@@ -1,5 +1,6 @@
 use Rattle.std.proofs.Common.{◌≡◌, ℕ, ◌<◌, false, get_or}
-use Rattle.mr_proxy.specs.Pending.{PendingView, is_same_op}
+use Rattle.mr_history.specs.OpIds.{is_same_op}
+use Rattle.mr_proxy.specs.Pending.{PendingView}
 use Rattle.mr_proxy.proofs.proxy_core.position_of.Given as goal
 
 -- no request so far has the name

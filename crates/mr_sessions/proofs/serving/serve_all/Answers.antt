@@ -1,7 +1,7 @@
 use Rattle.std.proofs.Common.{◌∙◌, ℕ, List, length, length-append, Ok, Err, refl, sym, ap, subst, arith}
 use Rattle.std.proofs.lemmas.Result.{err_from_is_err_and}
-use Rattle.mr_node.specs.declared.session.Step.{Step}
-use Rattle.mr_node.specs.declared.session.Step.TheVariants.{Served, Waits, Ends}
+use Rattle.mr_node.specs.declared.session.SessionStep.{SessionStep}
+use Rattle.mr_node.specs.declared.session.SessionStep.TheVariants.{Served, Waits, Ends}
 use Rattle.mr_node.specs.Session.{station, read_length}
 use Rattle.mr_node.proofs.ReadLemmas.{still_offered}
 use Rattle.mr_node.proofs.SessionLemmas.{begins_so, stepped, goes_on, waits_for, shrinks, ends, all_read, spent, fed, read_fails, failed_read_within}
@@ -34,12 +34,12 @@ session-smaller-in-Served g c =
     omega (
       arith,
       shrinks _ _ _ _ _ (station c.serve_next.new.clock (account c.serve_next.new.till.share c.serve_next.new.till.answers.items (g.L.Carriers.losses c.serve_next.new.carriers) (g.L.Carriers.brought c.serve_next.new.carriers)) (g.W.Sink.told c.serve_next.new.writer)) _ c.serve_next.new.requests _ c.session.invariant.so
-          (stepped _ _ _ _ _ (station c.serve_next.new.clock (account c.serve_next.new.till.share c.serve_next.new.till.answers.items (g.L.Carriers.losses c.serve_next.new.carriers) (g.L.Carriers.brought c.serve_next.new.carriers)) (g.W.Sink.told c.serve_next.new.writer)) _ c.serve_next.new.requests _ c.session.invariant.so (Ok c.in_ok-serve_next.field-0) (Ok Served) (ap (λ (s : Step). Ok s) c.in-Served.is) (c.in_ok-serve_next.ensures c.session.invariant.so.rest c.session.invariant.so.becomes.stands)),
+          (stepped _ _ _ _ _ (station c.serve_next.new.clock (account c.serve_next.new.till.share c.serve_next.new.till.answers.items (g.L.Carriers.losses c.serve_next.new.carriers) (g.L.Carriers.brought c.serve_next.new.carriers)) (g.W.Sink.told c.serve_next.new.writer)) _ c.serve_next.new.requests _ c.session.invariant.so (Ok c.in_ok-serve_next.field-0) (Ok Served) (ap (λ (s : SessionStep). Ok s) c.in-Served.is) (c.in_ok-serve_next.ensures c.session.invariant.so.rest c.session.invariant.so.becomes.stands)),
     )
 
 pub session-preserved-in-Served : goal.session-preserved-in-Served
 session-preserved-in-Served g c =
-    let step = stepped _ _ _ _ _ (station c.serve_next.new.clock (account c.serve_next.new.till.share c.serve_next.new.till.answers.items (g.L.Carriers.losses c.serve_next.new.carriers) (g.L.Carriers.brought c.serve_next.new.carriers)) (g.W.Sink.told c.serve_next.new.writer)) _ c.serve_next.new.requests _ c.session.invariant.so (Ok c.in_ok-serve_next.field-0) (Ok Served) (ap (λ (s : Step). Ok s) c.in-Served.is) (c.in_ok-serve_next.ensures c.session.invariant.so.rest c.session.invariant.so.becomes.stands) in
+    let step = stepped _ _ _ _ _ (station c.serve_next.new.clock (account c.serve_next.new.till.share c.serve_next.new.till.answers.items (g.L.Carriers.losses c.serve_next.new.carriers) (g.L.Carriers.brought c.serve_next.new.carriers)) (g.W.Sink.told c.serve_next.new.writer)) _ c.serve_next.new.requests _ c.session.invariant.so (Ok c.in_ok-serve_next.field-0) (Ok Served) (ap (λ (s : SessionStep). Ok s) c.in-Served.is) (c.in_ok-serve_next.ensures c.session.invariant.so.rest c.session.invariant.so.becomes.stands) in
     record {
       so = goes_on _ _ _ _ _ (station c.serve_next.new.clock (account c.serve_next.new.till.share c.serve_next.new.till.answers.items (g.L.Carriers.losses c.serve_next.new.carriers) (g.L.Carriers.brought c.serve_next.new.carriers)) (g.W.Sink.told c.serve_next.new.writer)) _ c.serve_next.new.requests _ c.session.invariant.so step;
       counted = c.session.invariant.counted;
@@ -53,21 +53,21 @@ session-preserved-in-Served g c =
 pub returns-in-Ends-clause-session : goal.returns-in-Ends-clause-session
 returns-in-Ends-clause-session g c =
     ends _ _ _ _ _ (station c.serve_next.new.clock (account c.serve_next.new.till.share c.serve_next.new.till.answers.items (g.L.Carriers.losses c.serve_next.new.carriers) (g.L.Carriers.brought c.serve_next.new.carriers)) (g.W.Sink.told c.serve_next.new.writer)) _ c.serve_next.new.requests _ c.session.invariant.so c.in-Ends.how
-    (stepped _ _ _ _ _ (station c.serve_next.new.clock (account c.serve_next.new.till.share c.serve_next.new.till.answers.items (g.L.Carriers.losses c.serve_next.new.carriers) (g.L.Carriers.brought c.serve_next.new.carriers)) (g.W.Sink.told c.serve_next.new.writer)) _ c.serve_next.new.requests _ c.session.invariant.so (Ok c.in_ok-serve_next.field-0) (Ok (Ends c.in-Ends.how)) (ap (λ (s : Step). Ok s) c.in-Ends.is) (c.in_ok-serve_next.ensures c.session.invariant.so.rest c.session.invariant.so.becomes.stands))
+    (stepped _ _ _ _ _ (station c.serve_next.new.clock (account c.serve_next.new.till.share c.serve_next.new.till.answers.items (g.L.Carriers.losses c.serve_next.new.carriers) (g.L.Carriers.brought c.serve_next.new.carriers)) (g.W.Sink.told c.serve_next.new.writer)) _ c.serve_next.new.requests _ c.session.invariant.so (Ok c.in_ok-serve_next.field-0) (Ok (Ends c.in-Ends.how)) (ap (λ (s : SessionStep). Ok s) c.in-Ends.is) (c.in_ok-serve_next.ensures c.session.invariant.so.rest c.session.invariant.so.becomes.stands))
 
 pub returns-then-ended-clause-session : goal.returns-then-ended-clause-session
 returns-then-ended-clause-session g c =
     all_read _ _ _ _ _ (station c.serve_next.new.clock (account c.serve_next.new.till.share c.serve_next.new.till.answers.items (g.L.Carriers.losses c.serve_next.new.carriers) (g.L.Carriers.brought c.serve_next.new.carriers)) (g.W.Sink.told c.serve_next.new.writer)) _ c.serve_next.new.requests _ c.session.invariant.so
-    (stepped _ _ _ _ _ (station c.serve_next.new.clock (account c.serve_next.new.till.share c.serve_next.new.till.answers.items (g.L.Carriers.losses c.serve_next.new.carriers) (g.L.Carriers.brought c.serve_next.new.carriers)) (g.W.Sink.told c.serve_next.new.writer)) _ c.serve_next.new.requests _ c.session.invariant.so (Ok c.in_ok-serve_next.field-0) (Ok Waits) (ap (λ (s : Step). Ok s) c.in-Waits.is) (c.in_ok-serve_next.ensures c.session.invariant.so.rest c.session.invariant.so.becomes.stands)) c.if-ended.true
+    (stepped _ _ _ _ _ (station c.serve_next.new.clock (account c.serve_next.new.till.share c.serve_next.new.till.answers.items (g.L.Carriers.losses c.serve_next.new.carriers) (g.L.Carriers.brought c.serve_next.new.carriers)) (g.W.Sink.told c.serve_next.new.writer)) _ c.serve_next.new.requests _ c.session.invariant.so (Ok c.in_ok-serve_next.field-0) (Ok Waits) (ap (λ (s : SessionStep). Ok s) c.in-Waits.is) (c.in_ok-serve_next.ensures c.session.invariant.so.rest c.session.invariant.so.becomes.stands)) c.if-ended.true
 
 pub returns-then-turns_left-eq0-clause-session : goal.returns-then-turns_left-eq0-clause-session
 returns-then-turns_left-eq0-clause-session g c =
     spent _ _ _ _ _ (station c.serve_next.new.clock (account c.serve_next.new.till.share c.serve_next.new.till.answers.items (g.L.Carriers.losses c.serve_next.new.carriers) (g.L.Carriers.brought c.serve_next.new.carriers)) (g.W.Sink.told c.serve_next.new.writer)) _ c.serve_next.new.requests _ c.session.invariant.so
-    (stepped _ _ _ _ _ (station c.serve_next.new.clock (account c.serve_next.new.till.share c.serve_next.new.till.answers.items (g.L.Carriers.losses c.serve_next.new.carriers) (g.L.Carriers.brought c.serve_next.new.carriers)) (g.W.Sink.told c.serve_next.new.writer)) _ c.serve_next.new.requests _ c.session.invariant.so (Ok c.in_ok-serve_next.field-0) (Ok Waits) (ap (λ (s : Step). Ok s) c.in-Waits.is) (c.in_ok-serve_next.ensures c.session.invariant.so.rest c.session.invariant.so.becomes.stands))
+    (stepped _ _ _ _ _ (station c.serve_next.new.clock (account c.serve_next.new.till.share c.serve_next.new.till.answers.items (g.L.Carriers.losses c.serve_next.new.carriers) (g.L.Carriers.brought c.serve_next.new.carriers)) (g.W.Sink.told c.serve_next.new.writer)) _ c.serve_next.new.requests _ c.session.invariant.so (Ok c.in_ok-serve_next.field-0) (Ok Waits) (ap (λ (s : SessionStep). Ok s) c.in-Waits.is) (c.in_ok-serve_next.ensures c.session.invariant.so.rest c.session.invariant.so.becomes.stands))
 
 pub returns-in-Err-clause-session : goal.returns-in-Err-clause-session
 returns-in-Err-clause-session g c =
-    let step = stepped _ _ _ _ _ (station c.serve_next.new.clock (account c.serve_next.new.till.share c.serve_next.new.till.answers.items (g.L.Carriers.losses c.serve_next.new.carriers) (g.L.Carriers.brought c.serve_next.new.carriers)) (g.W.Sink.told c.serve_next.new.writer)) _ c.serve_next.new.requests _ c.session.invariant.so (Ok c.in_ok-serve_next.field-0) (Ok Waits) (ap (λ (s : Step). Ok s) c.in-Waits.is) (c.in_ok-serve_next.ensures c.session.invariant.so.rest c.session.invariant.so.becomes.stands) in
+    let step = stepped _ _ _ _ _ (station c.serve_next.new.clock (account c.serve_next.new.till.share c.serve_next.new.till.answers.items (g.L.Carriers.losses c.serve_next.new.carriers) (g.L.Carriers.brought c.serve_next.new.carriers)) (g.W.Sink.told c.serve_next.new.writer)) _ c.serve_next.new.requests _ c.session.invariant.so (Ok c.in_ok-serve_next.field-0) (Ok Waits) (ap (λ (s : SessionStep). Ok s) c.in-Waits.is) (c.in_ok-serve_next.ensures c.session.invariant.so.rest c.session.invariant.so.becomes.stands) in
     subst (λ (e : WorkerError). ClientSessionIs (AsksDesk g.K.Clock.reads g.K.Clock.failures g.C.Carrier.gave g.D.Desk.recorded) (AsksInVain g.K.Clock.reads g.K.Clock.failures) (g.S.Source.told c.args.reader.now) (g.S.Source.told c.read_piece.new.reader)
     (station c.args.clock.now (account c.args.till.now.share c.args.till.now.answers.items (g.L.Carriers.losses c.args.carriers.now) (g.L.Carriers.brought c.args.carriers.now)) (g.W.Sink.told c.args.writer.now))
     (station c.serve_next.new.clock (account c.serve_next.new.till.share c.serve_next.new.till.answers.items (g.L.Carriers.losses c.serve_next.new.carriers) (g.L.Carriers.brought c.serve_next.new.carriers)) (g.W.Sink.told c.serve_next.new.writer))
@@ -80,7 +80,7 @@ returns-in-Err-clause-session g c =
 
 pub returns-in-Err-clause-bytes : goal.returns-in-Err-clause-bytes
 returns-in-Err-clause-bytes g c =
-    let step = stepped _ _ _ _ _ (station c.serve_next.new.clock (account c.serve_next.new.till.share c.serve_next.new.till.answers.items (g.L.Carriers.losses c.serve_next.new.carriers) (g.L.Carriers.brought c.serve_next.new.carriers)) (g.W.Sink.told c.serve_next.new.writer)) _ c.serve_next.new.requests _ c.session.invariant.so (Ok c.in_ok-serve_next.field-0) (Ok Waits) (ap (λ (s : Step). Ok s) c.in-Waits.is) (c.in_ok-serve_next.ensures c.session.invariant.so.rest c.session.invariant.so.becomes.stands) in
+    let step = stepped _ _ _ _ _ (station c.serve_next.new.clock (account c.serve_next.new.till.share c.serve_next.new.till.answers.items (g.L.Carriers.losses c.serve_next.new.carriers) (g.L.Carriers.brought c.serve_next.new.carriers)) (g.W.Sink.told c.serve_next.new.writer)) _ c.serve_next.new.requests _ c.session.invariant.so (Ok c.in_ok-serve_next.field-0) (Ok Waits) (ap (λ (s : SessionStep). Ok s) c.in-Waits.is) (c.in_ok-serve_next.ensures c.session.invariant.so.rest c.session.invariant.so.becomes.stands) in
     let few = failed_read_within (length c.session.buffer) c.session.invariant.so.rest c.read_piece.new.requests (g.S.Source.told c.session.reader) (g.S.Source.told c.read_piece.new.reader) c.in-Err.fault
     (c.in-Err.ensures.piece c.session.invariant.so.rest (waits_for _ _ _ _ _ (station c.serve_next.new.clock (account c.serve_next.new.till.share c.serve_next.new.till.answers.items (g.L.Carriers.losses c.serve_next.new.carriers) (g.L.Carriers.brought c.serve_next.new.carriers)) (g.W.Sink.told c.serve_next.new.writer)) _ c.serve_next.new.requests _ c.session.invariant.so step).stands) in
     let before = c.session.invariant.within in
@@ -88,7 +88,7 @@ returns-in-Err-clause-bytes g c =
 
 pub session-smaller : goal.session-smaller
 session-smaller g c =
-    let step = stepped _ _ _ _ _ (station c.serve_next.new.clock (account c.serve_next.new.till.share c.serve_next.new.till.answers.items (g.L.Carriers.losses c.serve_next.new.carriers) (g.L.Carriers.brought c.serve_next.new.carriers)) (g.W.Sink.told c.serve_next.new.writer)) _ c.serve_next.new.requests _ c.session.invariant.so (Ok c.in_ok-serve_next.field-0) (Ok Waits) (ap (λ (s : Step). Ok s) c.in-Waits.is) (c.in_ok-serve_next.ensures c.session.invariant.so.rest c.session.invariant.so.becomes.stands) in
+    let step = stepped _ _ _ _ _ (station c.serve_next.new.clock (account c.serve_next.new.till.share c.serve_next.new.till.answers.items (g.L.Carriers.losses c.serve_next.new.carriers) (g.L.Carriers.brought c.serve_next.new.carriers)) (g.W.Sink.told c.serve_next.new.writer)) _ c.serve_next.new.requests _ c.session.invariant.so (Ok c.in_ok-serve_next.field-0) (Ok Waits) (ap (λ (s : SessionStep). Ok s) c.in-Waits.is) (c.in_ok-serve_next.ensures c.session.invariant.so.rest c.session.invariant.so.becomes.stands) in
     let piece = c.in-Ok.ensures.piece c.session.invariant.so.rest (waits_for _ _ _ _ _ (station c.serve_next.new.clock (account c.serve_next.new.till.share c.serve_next.new.till.answers.items (g.L.Carriers.losses c.serve_next.new.carriers) (g.L.Carriers.brought c.serve_next.new.carriers)) (g.W.Sink.told c.serve_next.new.writer)) _ c.serve_next.new.requests _ c.session.invariant.so step).stands in
     let most = piece.3 in
     let was = ap (λ (l : List ℕ). length l) c.session.invariant.so.becomes.stands in
@@ -97,7 +97,7 @@ session-smaller g c =
 
 pub session-preserved : goal.session-preserved
 session-preserved g c =
-    let step = stepped _ _ _ _ _ (station c.serve_next.new.clock (account c.serve_next.new.till.share c.serve_next.new.till.answers.items (g.L.Carriers.losses c.serve_next.new.carriers) (g.L.Carriers.brought c.serve_next.new.carriers)) (g.W.Sink.told c.serve_next.new.writer)) _ c.serve_next.new.requests _ c.session.invariant.so (Ok c.in_ok-serve_next.field-0) (Ok Waits) (ap (λ (s : Step). Ok s) c.in-Waits.is) (c.in_ok-serve_next.ensures c.session.invariant.so.rest c.session.invariant.so.becomes.stands) in
+    let step = stepped _ _ _ _ _ (station c.serve_next.new.clock (account c.serve_next.new.till.share c.serve_next.new.till.answers.items (g.L.Carriers.losses c.serve_next.new.carriers) (g.L.Carriers.brought c.serve_next.new.carriers)) (g.W.Sink.told c.serve_next.new.writer)) _ c.serve_next.new.requests _ c.session.invariant.so (Ok c.in_ok-serve_next.field-0) (Ok Waits) (ap (λ (s : SessionStep). Ok s) c.in-Waits.is) (c.in_ok-serve_next.ensures c.session.invariant.so.rest c.session.invariant.so.becomes.stands) in
     let piece = c.in-Ok.ensures.piece c.session.invariant.so.rest (waits_for _ _ _ _ _ (station c.serve_next.new.clock (account c.serve_next.new.till.share c.serve_next.new.till.answers.items (g.L.Carriers.losses c.serve_next.new.carriers) (g.L.Carriers.brought c.serve_next.new.carriers)) (g.W.Sink.told c.serve_next.new.writer)) _ c.serve_next.new.requests _ c.session.invariant.so step).stands in
     record {
       so = fed _ _ _ _ _ (station c.serve_next.new.clock (account c.serve_next.new.till.share c.serve_next.new.till.answers.items (g.L.Carriers.losses c.serve_next.new.carriers) (g.L.Carriers.brought c.serve_next.new.carriers)) (g.W.Sink.told c.serve_next.new.writer)) _ c.serve_next.new.requests _ c.session.invariant.so (length c.session.buffer) (g.S.Source.told c.read_piece.new.reader) c.read_piece.new.requests c.in-Ok.at_end step piece;

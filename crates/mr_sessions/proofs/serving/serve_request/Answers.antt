@@ -1,7 +1,7 @@
 use Rattle.std.proofs.Common.{List, Ok, subst}
 use Rattle.mr_node.proofs.ServiceLemmas.{served_unless_quit}
 use Rattle.mr_node.specs.Session.{station}
-use Rattle.mr_node.specs.declared.session.Step.TheVariants.{Served}
+use Rattle.mr_node.specs.declared.session.SessionStep.TheVariants.{Served}
 use Rattle.mr_proxy.specs.Answer.{AnswerView}
 use Rattle.mr_sessions.specs.Account.{account}
 use Rattle.mr_sessions.specs.Asking.{AsksDesk, AsksInVain}

@@ -2,4 +2,4 @@ use Rattle.mr_text.proofs.Fitting.{good_result}
 use Rattle.mr_text.proofs.reading.commands.command_of.Goals as goal
 
 pub returns-clause-good : goal.returns-clause-good
-returns-clause-good c = good_result c.args.line.now c.said.result c.said.ensures c.requires
+returns-clause-good c = good_result c.args.line.now c.read_command.result c.read_command.ensures c.requires
