@@ -16,7 +16,7 @@ ghost use Rattle.mr_sessions.specs.steps.ClientStep.{AskedSo, AnsweredSo, Client
 use crate::carrying::carry_out;
 use crate::faults::error_of;
 use crate::served::Served;
-use crate::till::{Till, keep, make_room};
+use crate::session_log::SessionLog;
 use mr_clock::Clock;
 use mr_desks::{Carrier, Carriers, Desk, DeskError, WorkerError};
 use mr_history::{OpId, is_same_op};
@@ -106,25 +106,25 @@ fn ask<C: Carrier, D: Desk<C>, K: Clock, W: Sink, L: Carriers<C>, R: Wait>(
     clock: &mut K,
     writer: &mut W,
     carriers: &mut L,
-    till: &mut Till,
+    log: &mut SessionLog,
     request: &Request,
 ) -> Result<(), WorkerError>
     requires asks { request.now ≢ Request.Quit }
-    requires room { D.recorded ≡ true → length till.old.answers.items + 1 ≤ vec_capacity till.old.answers }
+    requires room { D.recorded ≡ true → length log.old.answers.items + 1 ≤ vec_capacity log.old.answers }
     ensures { AskedSo (AsksDesk K.reads K.failures C.gave D.recorded) (AsksInVain K.reads K.failures)
-        (station clock.old (account till.old.share till.old.answers.items (L.losses carriers.old) (L.brought carriers.old)) (W.told writer.old))
-        (station clock.new (account till.new.share till.new.answers.items (L.losses carriers.new) (L.brought carriers.new)) (W.told writer.new))
+        (station clock.old (account log.old.share log.old.answers.items (L.losses carriers.old) (L.brought carriers.old)) (W.told writer.old))
+        (station clock.new (account log.new.share log.new.answers.items (L.losses carriers.new) (L.brought carriers.new)) (W.told writer.new))
         request.now result }
 {
-    match desk.issue(rt, &mut till.share, clock, request) {
+    match desk.issue(rt, &mut log.share, clock, request) {
         Err(refusal) => write_refusal(request, refusal, writer),
         Ok(issued) => {
-            let Some(answer) = answer_to(rt, desk, carriers, &mut till.legs_out, request, issued)
+            let Some(answer) = answer_to(rt, desk, carriers, &mut log.legs_out, request, issued)
             else {
                 return Err(WorkerError::BookDiffers);
             };
             let written = write_unless_silent(request, &answer, writer);
-            keep(&mut till.answers, desk.is_recorded(), answer);
+            log.keep(desk.is_recorded(), answer);
             written
         }
     }
@@ -139,21 +139,21 @@ fn serve_request<C: Carrier, D: Desk<C>, K: Clock, W: Sink, L: Carriers<C>, R: W
     clock: &mut K,
     writer: &mut W,
     carriers: &mut L,
-    till: &mut Till,
+    log: &mut SessionLog,
     request: &Request,
 ) -> Result<SessionStep, WorkerError>
     ensures { ClientRequestIs (AsksDesk K.reads K.failures C.gave D.recorded) (AsksInVain K.reads K.failures)
-        (station clock.old (account till.old.share till.old.answers.items (L.losses carriers.old) (L.brought carriers.old)) (W.told writer.old))
-        (station clock.new (account till.new.share till.new.answers.items (L.losses carriers.new) (L.brought carriers.new)) (W.told writer.new))
+        (station clock.old (account log.old.share log.old.answers.items (L.losses carriers.old) (L.brought carriers.old)) (W.told writer.old))
+        (station clock.new (account log.new.share log.new.answers.items (L.losses carriers.new) (L.brought carriers.new)) (W.told writer.new))
         request.now result }
 {
     if let Request::Quit = request {
         return Ok(SessionStep::Ends(Ended::Quit));
     }
-    if make_room(&mut till.answers, desk.is_recorded()).is_err() {
+    if log.make_room(desk.is_recorded()).is_err() {
         return Err(WorkerError::OutOfMemory);
     }
-    ask(rt, desk, clock, writer, carriers, till, request)?;
+    ask(rt, desk, clock, writer, carriers, log, request)?;
     Ok(SessionStep::Served)
 }
 
@@ -176,23 +176,23 @@ fn serve_next<C: Carrier, D: Desk<C>, K: Clock, W: Sink, L: Carriers<C>, R: Wait
     requests: &mut RequestReader,
     writer: &mut W,
     carriers: &mut L,
-    till: &mut Till,
+    log: &mut SessionLog,
 ) -> Result<SessionStep, WorkerError>
     requires { requests.old.closed ≡ false }
     ensures { (rest : List ℕ) → StandsFor requests.old rest
         → ClientStepIs (AsksDesk K.reads K.failures C.gave D.recorded) (AsksInVain K.reads K.failures)
-        (station clock.old (account till.old.share till.old.answers.items (L.losses carriers.old) (L.brought carriers.old)) (W.told writer.old))
-        (station clock.new (account till.new.share till.new.answers.items (L.losses carriers.new) (L.brought carriers.new)) (W.told writer.new))
+        (station clock.old (account log.old.share log.old.answers.items (L.losses carriers.old) (L.brought carriers.old)) (W.told writer.old))
+        (station clock.new (account log.new.share log.new.answers.items (L.losses carriers.new) (L.brought carriers.new)) (W.told writer.new))
         requests.old.ended rest requests.new result }
 {
     match requests.next() {
         Ok(None) => Ok(SessionStep::Waits),
-        Ok(Some(request)) => serve_request(rt, desk, clock, writer, carriers, till, &request),
+        Ok(Some(request)) => serve_request(rt, desk, clock, writer, carriers, log, &request),
         Err(refusal) => refuse(refusal, writer),
     }
 }
 
-/// Serves what the reader gives, as `serve_client` does, and notes in the till what was issued and taken.
+/// Serves what the reader gives, as `serve_client` does, and notes in its log what was issued and taken.
 fn serve_all<C: Carrier, D: Desk<C>, K: Clock, S: Source, W: Sink, L: Carriers<C>, R: Wait>(
     rt: &R,
     alloc: Global,
@@ -201,12 +201,12 @@ fn serve_all<C: Carrier, D: Desk<C>, K: Clock, S: Source, W: Sink, L: Carriers<C
     reader: &mut S,
     writer: &mut W,
     carriers: &mut L,
-    till: &mut Till,
+    log: &mut SessionLog,
     turns: u64,
 ) -> Result<Ended, WorkerError>
     ensures session { ClientSessionIs (AsksDesk K.reads K.failures C.gave D.recorded) (AsksInVain K.reads K.failures) (S.told reader.old) (S.told reader.new)
-        (station clock.old (account till.old.share till.old.answers.items (L.losses carriers.old) (L.brought carriers.old)) (W.told writer.old))
-        (station clock.new (account till.new.share till.new.answers.items (L.losses carriers.new) (L.brought carriers.new)) (W.told writer.new)) result }
+        (station clock.old (account log.old.share log.old.answers.items (L.losses carriers.old) (L.brought carriers.old)) (W.told writer.old))
+        (station clock.new (account log.new.share log.new.answers.items (L.losses carriers.new) (L.brought carriers.new)) (W.told writer.new)) result }
     ensures reads { (S.told reader.new).reads ≤ (S.told reader.old).reads + turns }
     ensures brought { (S.told reader.new).reads + length (S.told reader.old).taken ≤ (S.told reader.old).reads + length (S.told reader.new).taken + 1 }
     ensures spent { result ≡ Err WorkerError.TurnsSpent → (S.told reader.new).reads ≡ (S.told reader.old).reads + turns }
@@ -221,7 +221,7 @@ fn serve_all<C: Carrier, D: Desk<C>, K: Clock, S: Source, W: Sink, L: Carriers<C
     let mut ended = false;
     let mut turns_left = turns;
     'session: loop {
-        match serve_next(rt, desk, clock, &mut requests, writer, carriers, till)? {
+        match serve_next(rt, desk, clock, &mut requests, writer, carriers, log)? {
             SessionStep::Served => {}
             SessionStep::Ends(how) => return Ok(how),
             SessionStep::Waits => {
@@ -290,19 +290,19 @@ pub fn serve_client<C: Carrier, D: Desk<C>, K: Clock, S: Source, W: Sink, L: Car
     ensures no_write_fault { result.ended ≢ Err WorkerError.WriteFault → (W.told writer.new).failures ≡ (W.told writer.old).failures }
     ensures last_failed { result.ended ≡ Err WorkerError.WriteFault → (W.told writer.new).last_failed ≡ true }
 {
-    let mut till = Till {
+    let mut log = SessionLog {
         share: desk.share(),
         answers: Vec::new(alloc),
         legs_out: 0,
     };
     let ended = serve_all(
-        rt, alloc, desk, clock, reader, writer, carriers, &mut till, turns,
+        rt, alloc, desk, clock, reader, writer, carriers, &mut log, turns,
     );
-    let Till {
+    let SessionLog {
         share,
         answers,
         legs_out: _,
-    } = till;
+    } = log;
     Served {
         ended,
         share,

@@ -26,22 +26,22 @@ session-init g c = record {
 pub returns-in_err-serve_next-clause-session : goal.returns-in_err-serve_next-clause-session
 returns-in_err-serve_next-clause-session g c =
     let p = err_from_is_err_and c.from_residual.result c.from_residual.ensures.1 in
-    rw (p.1, p.2) (fails_so (AsksDesk g.K.Clock.reads g.K.Clock.failures g.C.Carrier.gave g.D.Desk.recorded) (AsksInVain g.K.Clock.reads g.K.Clock.failures) _ _ _ _ (station c.serve_next.new.clock (account c.serve_next.new.till.share c.serve_next.new.till.answers.items (g.L.Carriers.losses c.serve_next.new.carriers) (g.L.Carriers.brought c.serve_next.new.carriers)) (g.W.Sink.told c.serve_next.new.writer)) _ c.serve_next.new.requests _ c.session.invariant.so c.in_err-serve_next.field-0.0
+    rw (p.1, p.2) (fails_so (AsksDesk g.K.Clock.reads g.K.Clock.failures g.C.Carrier.gave g.D.Desk.recorded) (AsksInVain g.K.Clock.reads g.K.Clock.failures) _ _ _ _ (station c.serve_next.new.clock (account c.serve_next.new.log.share c.serve_next.new.log.answers.items (g.L.Carriers.losses c.serve_next.new.carriers) (g.L.Carriers.brought c.serve_next.new.carriers)) (g.W.Sink.told c.serve_next.new.writer)) _ c.serve_next.new.requests _ c.session.invariant.so c.in_err-serve_next.field-0.0
     (c.in_err-serve_next.ensures c.session.invariant.so.rest c.session.invariant.so.becomes.stands))
 
 pub session-smaller-in-Served : goal.session-smaller-in-Served
 session-smaller-in-Served g c =
     omega (
       arith,
-      shrinks _ _ _ _ _ (station c.serve_next.new.clock (account c.serve_next.new.till.share c.serve_next.new.till.answers.items (g.L.Carriers.losses c.serve_next.new.carriers) (g.L.Carriers.brought c.serve_next.new.carriers)) (g.W.Sink.told c.serve_next.new.writer)) _ c.serve_next.new.requests _ c.session.invariant.so
-          (stepped _ _ _ _ _ (station c.serve_next.new.clock (account c.serve_next.new.till.share c.serve_next.new.till.answers.items (g.L.Carriers.losses c.serve_next.new.carriers) (g.L.Carriers.brought c.serve_next.new.carriers)) (g.W.Sink.told c.serve_next.new.writer)) _ c.serve_next.new.requests _ c.session.invariant.so (Ok c.in_ok-serve_next.field-0) (Ok Served) (ap (λ (s : SessionStep). Ok s) c.in-Served.is) (c.in_ok-serve_next.ensures c.session.invariant.so.rest c.session.invariant.so.becomes.stands)),
+      shrinks _ _ _ _ _ (station c.serve_next.new.clock (account c.serve_next.new.log.share c.serve_next.new.log.answers.items (g.L.Carriers.losses c.serve_next.new.carriers) (g.L.Carriers.brought c.serve_next.new.carriers)) (g.W.Sink.told c.serve_next.new.writer)) _ c.serve_next.new.requests _ c.session.invariant.so
+          (stepped _ _ _ _ _ (station c.serve_next.new.clock (account c.serve_next.new.log.share c.serve_next.new.log.answers.items (g.L.Carriers.losses c.serve_next.new.carriers) (g.L.Carriers.brought c.serve_next.new.carriers)) (g.W.Sink.told c.serve_next.new.writer)) _ c.serve_next.new.requests _ c.session.invariant.so (Ok c.in_ok-serve_next.field-0) (Ok Served) (ap (λ (s : SessionStep). Ok s) c.in-Served.is) (c.in_ok-serve_next.ensures c.session.invariant.so.rest c.session.invariant.so.becomes.stands)),
     )
 
 pub session-preserved-in-Served : goal.session-preserved-in-Served
 session-preserved-in-Served g c =
-    let step = stepped _ _ _ _ _ (station c.serve_next.new.clock (account c.serve_next.new.till.share c.serve_next.new.till.answers.items (g.L.Carriers.losses c.serve_next.new.carriers) (g.L.Carriers.brought c.serve_next.new.carriers)) (g.W.Sink.told c.serve_next.new.writer)) _ c.serve_next.new.requests _ c.session.invariant.so (Ok c.in_ok-serve_next.field-0) (Ok Served) (ap (λ (s : SessionStep). Ok s) c.in-Served.is) (c.in_ok-serve_next.ensures c.session.invariant.so.rest c.session.invariant.so.becomes.stands) in
+    let step = stepped _ _ _ _ _ (station c.serve_next.new.clock (account c.serve_next.new.log.share c.serve_next.new.log.answers.items (g.L.Carriers.losses c.serve_next.new.carriers) (g.L.Carriers.brought c.serve_next.new.carriers)) (g.W.Sink.told c.serve_next.new.writer)) _ c.serve_next.new.requests _ c.session.invariant.so (Ok c.in_ok-serve_next.field-0) (Ok Served) (ap (λ (s : SessionStep). Ok s) c.in-Served.is) (c.in_ok-serve_next.ensures c.session.invariant.so.rest c.session.invariant.so.becomes.stands) in
     record {
-      so = goes_on _ _ _ _ _ (station c.serve_next.new.clock (account c.serve_next.new.till.share c.serve_next.new.till.answers.items (g.L.Carriers.losses c.serve_next.new.carriers) (g.L.Carriers.brought c.serve_next.new.carriers)) (g.W.Sink.told c.serve_next.new.writer)) _ c.serve_next.new.requests _ c.session.invariant.so step;
+      so = goes_on _ _ _ _ _ (station c.serve_next.new.clock (account c.serve_next.new.log.share c.serve_next.new.log.answers.items (g.L.Carriers.losses c.serve_next.new.carriers) (g.L.Carriers.brought c.serve_next.new.carriers)) (g.W.Sink.told c.serve_next.new.writer)) _ c.serve_next.new.requests _ c.session.invariant.so step;
       counted = c.session.invariant.counted;
       brought = c.session.invariant.brought;
       idle = c.session.invariant.idle;
@@ -52,44 +52,44 @@ session-preserved-in-Served g c =
 
 pub returns-in-Ends-clause-session : goal.returns-in-Ends-clause-session
 returns-in-Ends-clause-session g c =
-    ends _ _ _ _ _ (station c.serve_next.new.clock (account c.serve_next.new.till.share c.serve_next.new.till.answers.items (g.L.Carriers.losses c.serve_next.new.carriers) (g.L.Carriers.brought c.serve_next.new.carriers)) (g.W.Sink.told c.serve_next.new.writer)) _ c.serve_next.new.requests _ c.session.invariant.so c.in-Ends.how
-    (stepped _ _ _ _ _ (station c.serve_next.new.clock (account c.serve_next.new.till.share c.serve_next.new.till.answers.items (g.L.Carriers.losses c.serve_next.new.carriers) (g.L.Carriers.brought c.serve_next.new.carriers)) (g.W.Sink.told c.serve_next.new.writer)) _ c.serve_next.new.requests _ c.session.invariant.so (Ok c.in_ok-serve_next.field-0) (Ok (Ends c.in-Ends.how)) (ap (λ (s : SessionStep). Ok s) c.in-Ends.is) (c.in_ok-serve_next.ensures c.session.invariant.so.rest c.session.invariant.so.becomes.stands))
+    ends _ _ _ _ _ (station c.serve_next.new.clock (account c.serve_next.new.log.share c.serve_next.new.log.answers.items (g.L.Carriers.losses c.serve_next.new.carriers) (g.L.Carriers.brought c.serve_next.new.carriers)) (g.W.Sink.told c.serve_next.new.writer)) _ c.serve_next.new.requests _ c.session.invariant.so c.in-Ends.how
+    (stepped _ _ _ _ _ (station c.serve_next.new.clock (account c.serve_next.new.log.share c.serve_next.new.log.answers.items (g.L.Carriers.losses c.serve_next.new.carriers) (g.L.Carriers.brought c.serve_next.new.carriers)) (g.W.Sink.told c.serve_next.new.writer)) _ c.serve_next.new.requests _ c.session.invariant.so (Ok c.in_ok-serve_next.field-0) (Ok (Ends c.in-Ends.how)) (ap (λ (s : SessionStep). Ok s) c.in-Ends.is) (c.in_ok-serve_next.ensures c.session.invariant.so.rest c.session.invariant.so.becomes.stands))
 
 pub returns-then-ended-clause-session : goal.returns-then-ended-clause-session
 returns-then-ended-clause-session g c =
-    all_read _ _ _ _ _ (station c.serve_next.new.clock (account c.serve_next.new.till.share c.serve_next.new.till.answers.items (g.L.Carriers.losses c.serve_next.new.carriers) (g.L.Carriers.brought c.serve_next.new.carriers)) (g.W.Sink.told c.serve_next.new.writer)) _ c.serve_next.new.requests _ c.session.invariant.so
-    (stepped _ _ _ _ _ (station c.serve_next.new.clock (account c.serve_next.new.till.share c.serve_next.new.till.answers.items (g.L.Carriers.losses c.serve_next.new.carriers) (g.L.Carriers.brought c.serve_next.new.carriers)) (g.W.Sink.told c.serve_next.new.writer)) _ c.serve_next.new.requests _ c.session.invariant.so (Ok c.in_ok-serve_next.field-0) (Ok Waits) (ap (λ (s : SessionStep). Ok s) c.in-Waits.is) (c.in_ok-serve_next.ensures c.session.invariant.so.rest c.session.invariant.so.becomes.stands)) c.if-ended.true
+    all_read _ _ _ _ _ (station c.serve_next.new.clock (account c.serve_next.new.log.share c.serve_next.new.log.answers.items (g.L.Carriers.losses c.serve_next.new.carriers) (g.L.Carriers.brought c.serve_next.new.carriers)) (g.W.Sink.told c.serve_next.new.writer)) _ c.serve_next.new.requests _ c.session.invariant.so
+    (stepped _ _ _ _ _ (station c.serve_next.new.clock (account c.serve_next.new.log.share c.serve_next.new.log.answers.items (g.L.Carriers.losses c.serve_next.new.carriers) (g.L.Carriers.brought c.serve_next.new.carriers)) (g.W.Sink.told c.serve_next.new.writer)) _ c.serve_next.new.requests _ c.session.invariant.so (Ok c.in_ok-serve_next.field-0) (Ok Waits) (ap (λ (s : SessionStep). Ok s) c.in-Waits.is) (c.in_ok-serve_next.ensures c.session.invariant.so.rest c.session.invariant.so.becomes.stands)) c.if-ended.true
 
 pub returns-then-turns_left-eq0-clause-session : goal.returns-then-turns_left-eq0-clause-session
 returns-then-turns_left-eq0-clause-session g c =
-    spent _ _ _ _ _ (station c.serve_next.new.clock (account c.serve_next.new.till.share c.serve_next.new.till.answers.items (g.L.Carriers.losses c.serve_next.new.carriers) (g.L.Carriers.brought c.serve_next.new.carriers)) (g.W.Sink.told c.serve_next.new.writer)) _ c.serve_next.new.requests _ c.session.invariant.so
-    (stepped _ _ _ _ _ (station c.serve_next.new.clock (account c.serve_next.new.till.share c.serve_next.new.till.answers.items (g.L.Carriers.losses c.serve_next.new.carriers) (g.L.Carriers.brought c.serve_next.new.carriers)) (g.W.Sink.told c.serve_next.new.writer)) _ c.serve_next.new.requests _ c.session.invariant.so (Ok c.in_ok-serve_next.field-0) (Ok Waits) (ap (λ (s : SessionStep). Ok s) c.in-Waits.is) (c.in_ok-serve_next.ensures c.session.invariant.so.rest c.session.invariant.so.becomes.stands))
+    spent _ _ _ _ _ (station c.serve_next.new.clock (account c.serve_next.new.log.share c.serve_next.new.log.answers.items (g.L.Carriers.losses c.serve_next.new.carriers) (g.L.Carriers.brought c.serve_next.new.carriers)) (g.W.Sink.told c.serve_next.new.writer)) _ c.serve_next.new.requests _ c.session.invariant.so
+    (stepped _ _ _ _ _ (station c.serve_next.new.clock (account c.serve_next.new.log.share c.serve_next.new.log.answers.items (g.L.Carriers.losses c.serve_next.new.carriers) (g.L.Carriers.brought c.serve_next.new.carriers)) (g.W.Sink.told c.serve_next.new.writer)) _ c.serve_next.new.requests _ c.session.invariant.so (Ok c.in_ok-serve_next.field-0) (Ok Waits) (ap (λ (s : SessionStep). Ok s) c.in-Waits.is) (c.in_ok-serve_next.ensures c.session.invariant.so.rest c.session.invariant.so.becomes.stands))
 
 pub returns-in-Err-clause-session : goal.returns-in-Err-clause-session
 returns-in-Err-clause-session g c =
-    let step = stepped _ _ _ _ _ (station c.serve_next.new.clock (account c.serve_next.new.till.share c.serve_next.new.till.answers.items (g.L.Carriers.losses c.serve_next.new.carriers) (g.L.Carriers.brought c.serve_next.new.carriers)) (g.W.Sink.told c.serve_next.new.writer)) _ c.serve_next.new.requests _ c.session.invariant.so (Ok c.in_ok-serve_next.field-0) (Ok Waits) (ap (λ (s : SessionStep). Ok s) c.in-Waits.is) (c.in_ok-serve_next.ensures c.session.invariant.so.rest c.session.invariant.so.becomes.stands) in
+    let step = stepped _ _ _ _ _ (station c.serve_next.new.clock (account c.serve_next.new.log.share c.serve_next.new.log.answers.items (g.L.Carriers.losses c.serve_next.new.carriers) (g.L.Carriers.brought c.serve_next.new.carriers)) (g.W.Sink.told c.serve_next.new.writer)) _ c.serve_next.new.requests _ c.session.invariant.so (Ok c.in_ok-serve_next.field-0) (Ok Waits) (ap (λ (s : SessionStep). Ok s) c.in-Waits.is) (c.in_ok-serve_next.ensures c.session.invariant.so.rest c.session.invariant.so.becomes.stands) in
     subst (λ (e : WorkerError). ClientSessionIs (AsksDesk g.K.Clock.reads g.K.Clock.failures g.C.Carrier.gave g.D.Desk.recorded) (AsksInVain g.K.Clock.reads g.K.Clock.failures) (g.S.Source.told c.args.reader.now) (g.S.Source.told c.read_piece.new.reader)
-    (station c.args.clock.now (account c.args.till.now.share c.args.till.now.answers.items (g.L.Carriers.losses c.args.carriers.now) (g.L.Carriers.brought c.args.carriers.now)) (g.W.Sink.told c.args.writer.now))
-    (station c.serve_next.new.clock (account c.serve_next.new.till.share c.serve_next.new.till.answers.items (g.L.Carriers.losses c.serve_next.new.carriers) (g.L.Carriers.brought c.serve_next.new.carriers)) (g.W.Sink.told c.serve_next.new.writer))
+    (station c.args.clock.now (account c.args.log.now.share c.args.log.now.answers.items (g.L.Carriers.losses c.args.carriers.now) (g.L.Carriers.brought c.args.carriers.now)) (g.W.Sink.told c.args.writer.now))
+    (station c.serve_next.new.clock (account c.serve_next.new.log.share c.serve_next.new.log.answers.items (g.L.Carriers.losses c.serve_next.new.carriers) (g.L.Carriers.brought c.serve_next.new.carriers)) (g.W.Sink.told c.serve_next.new.writer))
     (Err e)) (sym c.error_of.ensures)
     (client_told (AsksDesk g.K.Clock.reads g.K.Clock.failures g.C.Carrier.gave g.D.Desk.recorded) (AsksInVain g.K.Clock.reads g.K.Clock.failures) (g.S.Source.told c.args.reader.now) (g.S.Source.told c.read_piece.new.reader)
-    (station c.args.clock.now (account c.args.till.now.share c.args.till.now.answers.items (g.L.Carriers.losses c.args.carriers.now) (g.L.Carriers.brought c.args.carriers.now)) (g.W.Sink.told c.args.writer.now))
-    (station c.serve_next.new.clock (account c.serve_next.new.till.share c.serve_next.new.till.answers.items (g.L.Carriers.losses c.serve_next.new.carriers) (g.L.Carriers.brought c.serve_next.new.carriers)) (g.W.Sink.told c.serve_next.new.writer)) c.in-Err.fault
-    (read_fails _ _ _ _ _ (station c.serve_next.new.clock (account c.serve_next.new.till.share c.serve_next.new.till.answers.items (g.L.Carriers.losses c.serve_next.new.carriers) (g.L.Carriers.brought c.serve_next.new.carriers)) (g.W.Sink.told c.serve_next.new.writer)) _ c.serve_next.new.requests _ c.session.invariant.so (length c.session.buffer) (g.S.Source.told c.read_piece.new.reader) c.read_piece.new.requests c.in-Err.fault step
-    (c.in-Err.ensures.piece c.session.invariant.so.rest (waits_for _ _ _ _ _ (station c.serve_next.new.clock (account c.serve_next.new.till.share c.serve_next.new.till.answers.items (g.L.Carriers.losses c.serve_next.new.carriers) (g.L.Carriers.brought c.serve_next.new.carriers)) (g.W.Sink.told c.serve_next.new.writer)) _ c.serve_next.new.requests _ c.session.invariant.so step).stands)))
+    (station c.args.clock.now (account c.args.log.now.share c.args.log.now.answers.items (g.L.Carriers.losses c.args.carriers.now) (g.L.Carriers.brought c.args.carriers.now)) (g.W.Sink.told c.args.writer.now))
+    (station c.serve_next.new.clock (account c.serve_next.new.log.share c.serve_next.new.log.answers.items (g.L.Carriers.losses c.serve_next.new.carriers) (g.L.Carriers.brought c.serve_next.new.carriers)) (g.W.Sink.told c.serve_next.new.writer)) c.in-Err.fault
+    (read_fails _ _ _ _ _ (station c.serve_next.new.clock (account c.serve_next.new.log.share c.serve_next.new.log.answers.items (g.L.Carriers.losses c.serve_next.new.carriers) (g.L.Carriers.brought c.serve_next.new.carriers)) (g.W.Sink.told c.serve_next.new.writer)) _ c.serve_next.new.requests _ c.session.invariant.so (length c.session.buffer) (g.S.Source.told c.read_piece.new.reader) c.read_piece.new.requests c.in-Err.fault step
+    (c.in-Err.ensures.piece c.session.invariant.so.rest (waits_for _ _ _ _ _ (station c.serve_next.new.clock (account c.serve_next.new.log.share c.serve_next.new.log.answers.items (g.L.Carriers.losses c.serve_next.new.carriers) (g.L.Carriers.brought c.serve_next.new.carriers)) (g.W.Sink.told c.serve_next.new.writer)) _ c.serve_next.new.requests _ c.session.invariant.so step).stands)))
 
 pub returns-in-Err-clause-bytes : goal.returns-in-Err-clause-bytes
 returns-in-Err-clause-bytes g c =
-    let step = stepped _ _ _ _ _ (station c.serve_next.new.clock (account c.serve_next.new.till.share c.serve_next.new.till.answers.items (g.L.Carriers.losses c.serve_next.new.carriers) (g.L.Carriers.brought c.serve_next.new.carriers)) (g.W.Sink.told c.serve_next.new.writer)) _ c.serve_next.new.requests _ c.session.invariant.so (Ok c.in_ok-serve_next.field-0) (Ok Waits) (ap (λ (s : SessionStep). Ok s) c.in-Waits.is) (c.in_ok-serve_next.ensures c.session.invariant.so.rest c.session.invariant.so.becomes.stands) in
+    let step = stepped _ _ _ _ _ (station c.serve_next.new.clock (account c.serve_next.new.log.share c.serve_next.new.log.answers.items (g.L.Carriers.losses c.serve_next.new.carriers) (g.L.Carriers.brought c.serve_next.new.carriers)) (g.W.Sink.told c.serve_next.new.writer)) _ c.serve_next.new.requests _ c.session.invariant.so (Ok c.in_ok-serve_next.field-0) (Ok Waits) (ap (λ (s : SessionStep). Ok s) c.in-Waits.is) (c.in_ok-serve_next.ensures c.session.invariant.so.rest c.session.invariant.so.becomes.stands) in
     let few = failed_read_within (length c.session.buffer) c.session.invariant.so.rest c.read_piece.new.requests (g.S.Source.told c.session.reader) (g.S.Source.told c.read_piece.new.reader) c.in-Err.fault
-    (c.in-Err.ensures.piece c.session.invariant.so.rest (waits_for _ _ _ _ _ (station c.serve_next.new.clock (account c.serve_next.new.till.share c.serve_next.new.till.answers.items (g.L.Carriers.losses c.serve_next.new.carriers) (g.L.Carriers.brought c.serve_next.new.carriers)) (g.W.Sink.told c.serve_next.new.writer)) _ c.serve_next.new.requests _ c.session.invariant.so step).stands) in
+    (c.in-Err.ensures.piece c.session.invariant.so.rest (waits_for _ _ _ _ _ (station c.serve_next.new.clock (account c.serve_next.new.log.share c.serve_next.new.log.answers.items (g.L.Carriers.losses c.serve_next.new.carriers) (g.L.Carriers.brought c.serve_next.new.carriers)) (g.W.Sink.told c.serve_next.new.writer)) _ c.serve_next.new.requests _ c.session.invariant.so step).stands) in
     let before = c.session.invariant.within in
     omega arith
 
 pub session-smaller : goal.session-smaller
 session-smaller g c =
-    let step = stepped _ _ _ _ _ (station c.serve_next.new.clock (account c.serve_next.new.till.share c.serve_next.new.till.answers.items (g.L.Carriers.losses c.serve_next.new.carriers) (g.L.Carriers.brought c.serve_next.new.carriers)) (g.W.Sink.told c.serve_next.new.writer)) _ c.serve_next.new.requests _ c.session.invariant.so (Ok c.in_ok-serve_next.field-0) (Ok Waits) (ap (λ (s : SessionStep). Ok s) c.in-Waits.is) (c.in_ok-serve_next.ensures c.session.invariant.so.rest c.session.invariant.so.becomes.stands) in
-    let piece = c.in-Ok.ensures.piece c.session.invariant.so.rest (waits_for _ _ _ _ _ (station c.serve_next.new.clock (account c.serve_next.new.till.share c.serve_next.new.till.answers.items (g.L.Carriers.losses c.serve_next.new.carriers) (g.L.Carriers.brought c.serve_next.new.carriers)) (g.W.Sink.told c.serve_next.new.writer)) _ c.serve_next.new.requests _ c.session.invariant.so step).stands in
+    let step = stepped _ _ _ _ _ (station c.serve_next.new.clock (account c.serve_next.new.log.share c.serve_next.new.log.answers.items (g.L.Carriers.losses c.serve_next.new.carriers) (g.L.Carriers.brought c.serve_next.new.carriers)) (g.W.Sink.told c.serve_next.new.writer)) _ c.serve_next.new.requests _ c.session.invariant.so (Ok c.in_ok-serve_next.field-0) (Ok Waits) (ap (λ (s : SessionStep). Ok s) c.in-Waits.is) (c.in_ok-serve_next.ensures c.session.invariant.so.rest c.session.invariant.so.becomes.stands) in
+    let piece = c.in-Ok.ensures.piece c.session.invariant.so.rest (waits_for _ _ _ _ _ (station c.serve_next.new.clock (account c.serve_next.new.log.share c.serve_next.new.log.answers.items (g.L.Carriers.losses c.serve_next.new.carriers) (g.L.Carriers.brought c.serve_next.new.carriers)) (g.W.Sink.told c.serve_next.new.writer)) _ c.serve_next.new.requests _ c.session.invariant.so step).stands in
     let most = piece.3 in
     let was = ap (λ (l : List ℕ). length l) c.session.invariant.so.becomes.stands in
     let is = ap (λ (l : List ℕ). length l) piece.6.stands in
@@ -97,10 +97,10 @@ session-smaller g c =
 
 pub session-preserved : goal.session-preserved
 session-preserved g c =
-    let step = stepped _ _ _ _ _ (station c.serve_next.new.clock (account c.serve_next.new.till.share c.serve_next.new.till.answers.items (g.L.Carriers.losses c.serve_next.new.carriers) (g.L.Carriers.brought c.serve_next.new.carriers)) (g.W.Sink.told c.serve_next.new.writer)) _ c.serve_next.new.requests _ c.session.invariant.so (Ok c.in_ok-serve_next.field-0) (Ok Waits) (ap (λ (s : SessionStep). Ok s) c.in-Waits.is) (c.in_ok-serve_next.ensures c.session.invariant.so.rest c.session.invariant.so.becomes.stands) in
-    let piece = c.in-Ok.ensures.piece c.session.invariant.so.rest (waits_for _ _ _ _ _ (station c.serve_next.new.clock (account c.serve_next.new.till.share c.serve_next.new.till.answers.items (g.L.Carriers.losses c.serve_next.new.carriers) (g.L.Carriers.brought c.serve_next.new.carriers)) (g.W.Sink.told c.serve_next.new.writer)) _ c.serve_next.new.requests _ c.session.invariant.so step).stands in
+    let step = stepped _ _ _ _ _ (station c.serve_next.new.clock (account c.serve_next.new.log.share c.serve_next.new.log.answers.items (g.L.Carriers.losses c.serve_next.new.carriers) (g.L.Carriers.brought c.serve_next.new.carriers)) (g.W.Sink.told c.serve_next.new.writer)) _ c.serve_next.new.requests _ c.session.invariant.so (Ok c.in_ok-serve_next.field-0) (Ok Waits) (ap (λ (s : SessionStep). Ok s) c.in-Waits.is) (c.in_ok-serve_next.ensures c.session.invariant.so.rest c.session.invariant.so.becomes.stands) in
+    let piece = c.in-Ok.ensures.piece c.session.invariant.so.rest (waits_for _ _ _ _ _ (station c.serve_next.new.clock (account c.serve_next.new.log.share c.serve_next.new.log.answers.items (g.L.Carriers.losses c.serve_next.new.carriers) (g.L.Carriers.brought c.serve_next.new.carriers)) (g.W.Sink.told c.serve_next.new.writer)) _ c.serve_next.new.requests _ c.session.invariant.so step).stands in
     record {
-      so = fed _ _ _ _ _ (station c.serve_next.new.clock (account c.serve_next.new.till.share c.serve_next.new.till.answers.items (g.L.Carriers.losses c.serve_next.new.carriers) (g.L.Carriers.brought c.serve_next.new.carriers)) (g.W.Sink.told c.serve_next.new.writer)) _ c.serve_next.new.requests _ c.session.invariant.so (length c.session.buffer) (g.S.Source.told c.read_piece.new.reader) c.read_piece.new.requests c.in-Ok.at_end step piece;
+      so = fed _ _ _ _ _ (station c.serve_next.new.clock (account c.serve_next.new.log.share c.serve_next.new.log.answers.items (g.L.Carriers.losses c.serve_next.new.carriers) (g.L.Carriers.brought c.serve_next.new.carriers)) (g.W.Sink.told c.serve_next.new.writer)) _ c.serve_next.new.requests _ c.session.invariant.so (length c.session.buffer) (g.S.Source.told c.read_piece.new.reader) c.read_piece.new.requests c.in-Ok.at_end step piece;
       counted = (let before = c.session.invariant.counted in let one = c.read_piece.ensures.once in omega arith);
       brought = λ e.
           let some = piece.4 e in
