@@ -14,7 +14,7 @@ ghost use Rattle.mr_sessions.specs.ClientSession.{ClientSessionIs, unanswered_co
 ghost use Rattle.mr_sessions.specs.steps.ClientStep.{AskedSo, AnsweredSo, ClientRefusalIs, ClientRequestIs, ClientStepIs};
 
 use crate::carrying::carry_out;
-use crate::faults::error_of;
+use crate::faults::worker_error_of;
 use crate::served::Served;
 use crate::session_log::SessionLog;
 use mr_clock::Clock;
@@ -35,7 +35,7 @@ fn is_answer_to(answer: &Answer, op: OpId, request: &Request) -> bool
 }
 
 /// Carries the legs of a request, and gives its answer. None where there is none, or what there is isn't its own.
-fn answer_to<C: Carrier, D: Desk<C>, L: Carriers<C>, R: Wait>(
+fn carry_request<C: Carrier, D: Desk<C>, L: Carriers<C>, R: Wait>(
     rt: &R,
     desk: &D,
     carriers: &mut L,
@@ -93,7 +93,7 @@ fn write_refusal<W: Sink>(
     };
     match write_answer(answer, writer) {
         Ok(()) => Ok(()),
-        Err(fault) => Err(error_of(fault)),
+        Err(fault) => Err(worker_error_of(fault)),
     }
 }
 
@@ -119,7 +119,7 @@ fn ask<C: Carrier, D: Desk<C>, K: Clock, W: Sink, L: Carriers<C>, R: Wait>(
     match desk.issue(rt, &mut log.share, clock, request) {
         Err(refusal) => write_refusal(request, refusal, writer),
         Ok(issued) => {
-            let Some(answer) = answer_to(rt, desk, carriers, &mut log.legs_out, request, issued)
+            let Some(answer) = carry_request(rt, desk, carriers, &mut log.legs_out, request, issued)
             else {
                 return Err(WorkerError::BookDiffers);
             };
@@ -133,7 +133,7 @@ fn ask<C: Carrier, D: Desk<C>, K: Clock, W: Sink, L: Carriers<C>, R: Wait>(
 /// Serves a request and writes its answer, unless the client wants none. A quit ends the session. The room for the answer is
 /// made before the request is issued; where it is refused, nothing is done.
 #[tactic(auto, using(crate::proofs::StepLemmas::asked, crate::proofs::StepLemmas::asked_well, mr_node::proofs::ServiceLemmas::served_unless_quit))]
-fn serve_request<C: Carrier, D: Desk<C>, K: Clock, W: Sink, L: Carriers<C>, R: Wait>(
+fn answer_request<C: Carrier, D: Desk<C>, K: Clock, W: Sink, L: Carriers<C>, R: Wait>(
     rt: &R,
     desk: &D,
     clock: &mut K,
@@ -164,12 +164,12 @@ fn refuse<W: Sink>(refusal: TextError, writer: &mut W) -> Result<SessionStep, Wo
 {
     match answer_refusal(refusal, writer) {
         Ok(step) => Ok(step),
-        Err(fault) => Err(error_of(fault)),
+        Err(fault) => Err(worker_error_of(fault)),
     }
 }
 
 /// Serves the next request that is whole.
-fn serve_next<C: Carrier, D: Desk<C>, K: Clock, W: Sink, L: Carriers<C>, R: Wait>(
+fn answer_next<C: Carrier, D: Desk<C>, K: Clock, W: Sink, L: Carriers<C>, R: Wait>(
     rt: &R,
     desk: &D,
     clock: &mut K,
@@ -187,13 +187,13 @@ fn serve_next<C: Carrier, D: Desk<C>, K: Clock, W: Sink, L: Carriers<C>, R: Wait
 {
     match requests.next() {
         Ok(None) => Ok(SessionStep::Waits),
-        Ok(Some(request)) => serve_request(rt, desk, clock, writer, carriers, log, &request),
+        Ok(Some(request)) => answer_request(rt, desk, clock, writer, carriers, log, &request),
         Err(refusal) => refuse(refusal, writer),
     }
 }
 
 /// Serves what the reader gives, as `serve_client` does, and notes in its log what was issued and taken.
-fn serve_all<C: Carrier, D: Desk<C>, K: Clock, S: Source, W: Sink, L: Carriers<C>, R: Wait>(
+fn serve_until_end<C: Carrier, D: Desk<C>, K: Clock, S: Source, W: Sink, L: Carriers<C>, R: Wait>(
     rt: &R,
     alloc: Global,
     desk: &D,
@@ -221,7 +221,7 @@ fn serve_all<C: Carrier, D: Desk<C>, K: Clock, S: Source, W: Sink, L: Carriers<C
     let mut ended = false;
     let mut turns_left = turns;
     'session: loop {
-        match serve_next(rt, desk, clock, &mut requests, writer, carriers, log)? {
+        match answer_next(rt, desk, clock, &mut requests, writer, carriers, log)? {
             SessionStep::Served => {}
             SessionStep::Ends(how) => return Ok(how),
             SessionStep::Waits => {
@@ -234,7 +234,7 @@ fn serve_all<C: Carrier, D: Desk<C>, K: Clock, S: Source, W: Sink, L: Carriers<C
                 turns_left -= 1;
                 match read_piece(reader, &mut requests, &mut buffer) {
                     Ok(at_end) => ended = at_end,
-                    Err(fault) => return Err(error_of(fault)),
+                    Err(fault) => return Err(worker_error_of(fault)),
                 }
             }
         }
@@ -295,7 +295,7 @@ pub fn serve_client<C: Carrier, D: Desk<C>, K: Clock, S: Source, W: Sink, L: Car
         answers: Vec::new(alloc),
         legs_out: 0,
     };
-    let ended = serve_all(
+    let ended = serve_until_end(
         rt, alloc, desk, clock, reader, writer, carriers, &mut log, turns,
     );
     let SessionLog {

@@ -6,7 +6,7 @@ use Rattle.mr_sessions.specs.Account.{Account, account}
 use Rattle.mr_sessions.specs.Asking.{AsksDesk, AsksInVain}
 use Rattle.mr_sessions.specs.steps.ClientStep.{ClientRequestIs}
 use Rattle.mr_sessions.proofs.StepLemmas.{asked_well}
-use Rattle.mr_sessions.proofs.serving.serve_request.Goals as goal
+use Rattle.mr_sessions.proofs.serving.answer_request.Goals as goal
 
 pub returns : goal.returns
 returns g c =

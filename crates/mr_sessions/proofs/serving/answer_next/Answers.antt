@@ -7,7 +7,7 @@ use Rattle.mr_node.specs.Session.{station}
 use Rattle.mr_sessions.specs.Account.{account}
 use Rattle.mr_sessions.specs.Asking.{AsksDesk, AsksInVain}
 use Rattle.mr_sessions.proofs.StepLemmas.{client_step, client_refusal}
-use Rattle.mr_sessions.proofs.serving.serve_next.Goals as goal
+use Rattle.mr_sessions.proofs.serving.answer_next.Goals as goal
 
 pub returns-in-Ok-None : goal.returns-in-Ok-None
 returns-in-Ok-None g c rest stands =
@@ -24,8 +24,8 @@ returns-in-Ok-Some g c rest stands =
     client_step (AsksDesk g.K.Clock.reads g.K.Clock.failures g.C.Carrier.gave g.D.Desk.recorded) (AsksInVain g.K.Clock.reads g.K.Clock.failures)
     rest c.args.requests.now c.next.new.self
     (station c.args.clock.now (account c.args.log.now.share c.args.log.now.answers.items (g.L.Carriers.losses c.args.carriers.now) (g.L.Carriers.brought c.args.carriers.now)) (g.W.Sink.told c.args.writer.now))
-    (station c.serve_request.new.clock (account c.serve_request.new.log.share c.serve_request.new.log.answers.items (g.L.Carriers.losses c.serve_request.new.carriers) (g.L.Carriers.brought c.serve_request.new.carriers)) (g.W.Sink.told c.serve_request.new.writer))
-    c.in-Ok-Some.request c.serve_request.result next c.serve_request.ensures
+    (station c.answer_request.new.clock (account c.answer_request.new.log.share c.answer_request.new.log.answers.items (g.L.Carriers.losses c.answer_request.new.carriers) (g.L.Carriers.brought c.answer_request.new.carriers)) (g.W.Sink.told c.answer_request.new.writer))
+    c.in-Ok-Some.request c.answer_request.result next c.answer_request.ensures
 
 pub returns-in-Err : goal.returns-in-Err
 returns-in-Err g c rest stands =

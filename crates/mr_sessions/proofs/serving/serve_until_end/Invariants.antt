@@ -4,7 +4,7 @@ use Rattle.mr_node.specs.Session.{station, read_length}
 use Rattle.mr_node.proofs.SessionLemmas.{UnderWay}
 use Rattle.mr_sessions.specs.Account.{account}
 use Rattle.mr_sessions.specs.Asking.{AsksDesk}
-use Rattle.mr_sessions.proofs.serving.serve_all.Given as goal
+use Rattle.mr_sessions.proofs.serving.serve_until_end.Given as goal
 
 -- what was read so far was served, and the reader didn't fail
 abbrev pub invariant-session : goal.invariant-session
