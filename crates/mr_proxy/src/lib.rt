@@ -2,12 +2,12 @@
 #![tactic(auto)]
 
 mod answer;
-mod draft;
 mod error;
 mod issued;
 mod join;
 pub mod laws;
 mod leg;
+mod legs_draft;
 mod pending;
 mod proxy_core;
 mod room;
