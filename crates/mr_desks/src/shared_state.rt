@@ -13,11 +13,10 @@ use crate::awaiting::awaits;
 use crate::carried::Carried;
 use crate::carrier::Carrier;
 use crate::desk_error::DeskError;
-use crate::issuing::issue_copy;
 use crate::share::Share;
 use mr_clock::Clock;
 use mr_history::OpId;
-use mr_proxy::{Answer, Issued, ProxyCore, ProxyError, Taken};
+use mr_proxy::{Answer, Issued, ProxyCore, ProxyError, Taken, issue_copy};
 use mr_text::Request;
 use std::marker::{Model, PhantomData};
 

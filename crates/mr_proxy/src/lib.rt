@@ -4,6 +4,7 @@
 mod answer;
 mod error;
 mod issued;
+mod issuing;
 mod join;
 pub mod laws;
 mod leg;
@@ -19,6 +20,7 @@ mod writing;
 pub use answer::Answer;
 pub use error::ProxyError;
 pub use issued::Issued;
+pub use issuing::issue_copy;
 pub use leg::Leg;
 pub use proxy_core::ProxyCore;
 pub use sheet::{LegBack, LegId, LegSheet};
