@@ -132,8 +132,9 @@ impl ProxyCore {
         }
     }
 
-    /// Why the next request is refused, memory aside.
-    fn refusal(&self) -> Option<ProxyError>
+    /// Why the next request would be refused, memory aside: NumbersSpent where no number is left for it, or else NoRoom
+    /// where as many requests are under way as there is room for. None where it would be accepted.
+    pub fn refusal(&self) -> Option<ProxyError>
         ensures { result ≡ refusal_of self.now }
     {
         if self.next == u64::MAX {
