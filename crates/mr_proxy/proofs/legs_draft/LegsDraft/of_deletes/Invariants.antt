@@ -1,7 +1,7 @@
 use Rattle.std.proofs.Common.{◌≡◌, ◌∷◌, [], take}
 use Rattle.mr_node.specs.declared.command.NodeCommand.TheVariants.{Delete}
 use Rattle.mr_proxy.specs.Sheets.{sheets_from, targets_of}
-use Rattle.mr_proxy.proofs.draft.Draft.of_deletes.Given as goal
+use Rattle.mr_proxy.proofs.legs_draft.LegsDraft.of_deletes.Given as goal
 
 -- the sides so far have their legs
 abbrev pub invariant-loop-side : goal.invariant-loop-side

@@ -3,7 +3,7 @@ use Rattle.mr_phases.specs.declared.side.Side.TheVariants.{Old}
 use Rattle.mr_node.specs.declared.command.NodeCommand.TheVariants.{Delete}
 use Rattle.mr_proxy.specs.Sheets.{sheet_at}
 use Rattle.mr_proxy.proofs.DraftLemmas.{delete_added}
-use Rattle.mr_proxy.proofs.draft.Draft.of_deletes.Goals as goal
+use Rattle.mr_proxy.proofs.legs_draft.LegsDraft.of_deletes.Goals as goal
 
 pub loop-side-preserved : goal.loop-side-preserved
 loop-side-preserved c =

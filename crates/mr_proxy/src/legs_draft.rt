@@ -36,12 +36,12 @@ fn set_command(
 
 /// The legs of a request, each beside the slot in which its reply will be noted.
 #[derive(Drop)]
-pub(crate) struct Draft {
+pub(crate) struct LegsDraft {
     slots: Vec<Slot>,
     legs: Vec<Leg>,
 }
 
-impl Model for Draft {
+impl Model for LegsDraft {
     ghost use Rattle.std.specs.Prelude.{◌≡◌, map};
     ghost use Rattle.mr_proxy.specs.Slots.{open_slot};
     ghost use Rattle.std.specs.Prelude.{List};
@@ -54,12 +54,12 @@ impl Model for Draft {
     ghost invariant = { λ d. d.slots.items ≡ map open_slot d.legs.items };
 }
 
-impl Draft {
+impl LegsDraft {
     /// No legs yet, and room for so many.
-    fn new(alloc: Global, legs: usize) -> Result<Draft, AllocError>
+    fn new(alloc: Global, legs: usize) -> Result<LegsDraft, AllocError>
         ensures { IfOk result (λ draft. draft ≡ []) }
     {
-        Ok(Draft {
+        Ok(LegsDraft {
             slots: Vec::with_capacity(alloc, legs)?,
             legs: Vec::with_capacity(alloc, legs)?,
         })
@@ -80,7 +80,7 @@ impl Draft {
         self.legs.reserve(1)?;
         self.slots.reserve(1)?;
         let place = self.legs.len() as u32;
-        let sheet = LegSheet::placed(routing, LegId { op, place }, side, command);
+        let sheet = LegSheet::for_leg(routing, LegId { op, place }, side, command);
         let leg = Leg::of(sheet.copy()?);
         self.legs.push_reserved(leg);
         self.slots.push_reserved(Slot::open(sheet));
@@ -95,11 +95,11 @@ impl Draft {
         op: OpId,
         side: Side,
         keys: &[Key],
-    ) -> Result<Draft, AllocError>
+    ) -> Result<LegsDraft, AllocError>
         requires { length keys.now < 2 ^ 32 }
         ensures { IfOk result (λ draft. draft ≡ sheets_from routing.now op 0 (targets_of (side ∷ []) (map Get keys.now))) }
     {
-        let mut draft = Draft::new(alloc, keys.len())?;
+        let mut draft = LegsDraft::new(alloc, keys.len())?;
         for key in keys {
             draft.add(routing, op, side, NodeCommand::Get(key.copy()?))?;
         }
@@ -113,10 +113,10 @@ impl Draft {
         op: OpId,
         side: Side,
         command: NodeCommand,
-    ) -> Result<Draft, AllocError>
+    ) -> Result<LegsDraft, AllocError>
         ensures { IfOk result (λ draft. draft ≡ sheets_from routing.now op 0 (targets_of (side ∷ []) (command ∷ []))) }
     {
-        let mut draft = Draft::new(alloc, 1)?;
+        let mut draft = LegsDraft::new(alloc, 1)?;
         draft.add(routing, op, side, command)?;
         Ok(draft)
     }
@@ -129,11 +129,11 @@ impl Draft {
         op: OpId,
         sides: &[Side],
         key: &Key,
-    ) -> Result<Draft, AllocError>
+    ) -> Result<LegsDraft, AllocError>
         requires { length sides.now < 2 ^ 32 }
         ensures { IfOk result (λ draft. draft ≡ sheets_from routing.now op 0 (targets_of sides.now (Delete key.now ∷ []))) }
     {
-        let mut draft = Draft::new(alloc, sides.len())?;
+        let mut draft = LegsDraft::new(alloc, sides.len())?;
         for side in sides {
             draft.add(routing, op, *side, NodeCommand::Delete(key.copy()?))?;
         }
@@ -149,14 +149,14 @@ impl Draft {
         op: OpId,
         reading: u64,
         request: &Request,
-    ) -> Result<Draft, AllocError>
+    ) -> Result<LegsDraft, AllocError>
         ensures sheets { IfOk result (λ draft. draft ≡ sheets_by routing.now schedule op reading request.now) }
         ensures legs { OnOk result (request.now ≢ Request.Quit → HasLegs request.now) }
     {
         let judged = judge(schedule, reading);
         match request {
             Request::Get { keys } => {
-                Draft::of_gets(alloc, routing, op, judged.read_side(), keys.as_slice())
+                LegsDraft::of_gets(alloc, routing, op, judged.read_side(), keys.as_slice())
             }
             Request::Set {
                 key,
@@ -166,13 +166,13 @@ impl Draft {
                 noreply: _,
             } => {
                 let command = set_command(key, *flags, *exptime, block)?;
-                Draft::of_one(alloc, routing, op, judged.read_side(), command)
+                LegsDraft::of_one(alloc, routing, op, judged.read_side(), command)
             }
             Request::Delete { key, noreply: _ } => {
                 let sides = judged.sides(RequestKind::Delete);
-                Draft::of_deletes(alloc, routing, op, sides.as_slice(), key)
+                LegsDraft::of_deletes(alloc, routing, op, sides.as_slice(), key)
             }
-            Request::Quit => Draft::new(alloc, 0),
+            Request::Quit => LegsDraft::new(alloc, 0),
         }
     }
 

@@ -2,7 +2,7 @@ use Rattle.std.proofs.Common.{◌∷◌, [], ◌++◌, length, ap, ◌∙◌, ar
 use Rattle.mr_node.specs.declared.command.NodeCommand.TheVariants.{Get}
 use Rattle.mr_proxy.specs.Sheets.{sheet_at}
 use Rattle.mr_proxy.proofs.DraftLemmas.{get_added}
-use Rattle.mr_proxy.proofs.draft.Draft.of_gets.Goals as goal
+use Rattle.mr_proxy.proofs.legs_draft.LegsDraft.of_gets.Goals as goal
 
 pub loop-key-preserved : goal.loop-key-preserved
 loop-key-preserved c =
