@@ -7,7 +7,7 @@ use Rattle.mr_node.specs.Session.{station}
 use Rattle.mr_sessions.specs.Account.{account}
 use Rattle.mr_sessions.specs.Asking.{AsksDesk, AsksInVain}
 use Rattle.mr_sessions.proofs.StepLemmas.{client_step, client_refusal}
-use Rattle.mr_sessions.proofs.serving.serve_next.Goals as goal
+use Rattle.mr_sessions.proofs.serving.answer_next.Goals as goal
 
 pub returns-in-Ok-None : goal.returns-in-Ok-None
 returns-in-Ok-None g c rest stands =
@@ -23,9 +23,9 @@ returns-in-Ok-Some g c rest stands =
     (c.in-Ok-Some.is ∙ ap (λ (o : Option Request). Ok o) c.in-Ok-Some.field-0-is) (c.next.ensures rest stands) in
     client_step (AsksDesk g.K.Clock.reads g.K.Clock.failures g.C.Carrier.gave g.D.Desk.recorded) (AsksInVain g.K.Clock.reads g.K.Clock.failures)
     rest c.args.requests.now c.next.new.self
-    (station c.args.clock.now (account c.args.till.now.share c.args.till.now.answers.items (g.L.Carriers.losses c.args.carriers.now) (g.L.Carriers.brought c.args.carriers.now)) (g.W.Sink.told c.args.writer.now))
-    (station c.serve_request.new.clock (account c.serve_request.new.till.share c.serve_request.new.till.answers.items (g.L.Carriers.losses c.serve_request.new.carriers) (g.L.Carriers.brought c.serve_request.new.carriers)) (g.W.Sink.told c.serve_request.new.writer))
-    c.in-Ok-Some.request c.serve_request.result next c.serve_request.ensures
+    (station c.args.clock.now (account c.args.log.now.share c.args.log.now.answers.items (g.L.Carriers.losses c.args.carriers.now) (g.L.Carriers.brought c.args.carriers.now)) (g.W.Sink.told c.args.writer.now))
+    (station c.answer_request.new.clock (account c.answer_request.new.log.share c.answer_request.new.log.answers.items (g.L.Carriers.losses c.answer_request.new.carriers) (g.L.Carriers.brought c.answer_request.new.carriers)) (g.W.Sink.told c.answer_request.new.writer))
+    c.in-Ok-Some.request c.answer_request.result next c.answer_request.ensures
 
 pub returns-in-Err : goal.returns-in-Err
 returns-in-Err g c rest stands =
@@ -34,5 +34,5 @@ returns-in-Err g c rest stands =
     c.in-Err.is (c.next.ensures rest stands) in
     client_refusal (AsksDesk g.K.Clock.reads g.K.Clock.failures g.C.Carrier.gave g.D.Desk.recorded) (AsksInVain g.K.Clock.reads g.K.Clock.failures)
     rest c.args.requests.now c.next.new.self c.args.clock.now
-    (account c.args.till.now.share c.args.till.now.answers.items (g.L.Carriers.losses c.args.carriers.now) (g.L.Carriers.brought c.args.carriers.now))
+    (account c.args.log.now.share c.args.log.now.answers.items (g.L.Carriers.losses c.args.carriers.now) (g.L.Carriers.brought c.args.carriers.now))
     (g.W.Sink.told c.args.writer.now) (g.W.Sink.told c.refuse.new.writer) c.in-Err.refusal c.refuse.result c.requires next c.refuse.ensures

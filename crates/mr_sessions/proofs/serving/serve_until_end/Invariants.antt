@@ -4,7 +4,7 @@ use Rattle.mr_node.specs.Session.{station, read_length}
 use Rattle.mr_node.proofs.SessionLemmas.{UnderWay}
 use Rattle.mr_sessions.specs.Account.{account}
 use Rattle.mr_sessions.specs.Asking.{AsksDesk}
-use Rattle.mr_sessions.proofs.serving.serve_all.Given as goal
+use Rattle.mr_sessions.proofs.serving.serve_until_end.Given as goal
 
 -- what was read so far was served, and the reader didn't fail
 abbrev pub invariant-session : goal.invariant-session
@@ -12,10 +12,10 @@ invariant-session g l = record {
   so : UnderWay (AsksDesk g.K.Clock.reads g.K.Clock.failures g.C.Carrier.gave g.D.Desk.recorded)
       (g.S.Source.told l.initial.reader)
       (station l.initial.clock
-      (account l.initial.till.share l.initial.till.answers.items (g.L.Carriers.losses l.initial.carriers) (g.L.Carriers.brought l.initial.carriers))
+      (account l.initial.log.share l.initial.log.answers.items (g.L.Carriers.losses l.initial.carriers) (g.L.Carriers.brought l.initial.carriers))
       (g.W.Sink.told l.initial.writer))
       (g.S.Source.told l.reader)
-      (station l.clock (account l.till.share l.till.answers.items (g.L.Carriers.losses l.carriers) (g.L.Carriers.brought l.carriers)) (g.W.Sink.told l.writer))
+      (station l.clock (account l.log.share l.log.answers.items (g.L.Carriers.losses l.carriers) (g.L.Carriers.brought l.carriers)) (g.W.Sink.told l.writer))
       l.requests l.ended;
   -- each turn is one read
   counted : (g.S.Source.told l.reader).reads + l.turns_left ≡ (g.S.Source.told l.initial.reader).reads + l.fn.turns;
