@@ -8,9 +8,9 @@ ghost use Rattle.mr_tool.specs.Fault.{IsNetFault};
 ghost use Rattle.mr_tool.specs.Services.{served_line, EndsService, NodeGives, ProxyGives};
 ghost use Rattle.mr_tool.specs.Sources.{SourcesView};
 
-use crate::config_file::load_config;
 use crate::ended::Ended;
 use crate::fault::Fault;
+use crate::input::load_config;
 use crate::line::push_number;
 use crate::printing::{PrintFault, write_at_once};
 use crate::sources::Sources;

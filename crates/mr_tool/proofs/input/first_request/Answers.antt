@@ -1,6 +1,6 @@
 use Rattle.std.proofs.Common.{Ok, Err, arith}
 use Rattle.mr_tool.proofs.RequestLemmas.{fed_nothing, fed_more, fed_completes, fed_spent}
-use Rattle.mr_tool.proofs.first_request.first_request.Goals as goal
+use Rattle.mr_tool.proofs.input.first_request.Goals as goal
 
 pub loop-turn-init : goal.loop-turn-init
 loop-turn-init g c = fed_nothing (g.I.Source.told c.args.input.now) c.new-reader.result c.new-reader.ensures
