@@ -26,7 +26,7 @@ use std::thread::Threads;
 use std::time;
 
 /// The fault of an address at which no socket can be opened.
-fn unopened(alloc: Global, address: &str) -> Fault
+fn net_fault(alloc: Global, address: &str) -> Fault
     ensures { IsNetFault address.now result }
 {
     match format!(in alloc; "migctl: net {address}\n") {
@@ -58,7 +58,7 @@ fn end_service<O: Sink>(
 {
     let served = match served {
         Ok(served) => served,
-        Err(OpenFault::Net) => return Err(unopened(alloc, listen)),
+        Err(OpenFault::Net) => return Err(net_fault(alloc, listen)),
     };
     let Ok(line) = line_of(alloc, served) else {
         return Err(Fault::Memory);
