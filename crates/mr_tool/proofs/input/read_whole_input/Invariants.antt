@@ -1,6 +1,6 @@
 use Rattle.std.proofs.Common.{◌≡◌, ◌-◌, vec_len}
-use Rattle.mr_tool.specs.WholeInput.{Takes, most_taken}
-use Rattle.mr_tool.proofs.whole_input.read_whole_input.Given as goal
+use Rattle.mr_tool.specs.Input.{Takes, most_taken}
+use Rattle.mr_tool.proofs.input.read_whole_input.Given as goal
 
 -- all that was taken is kept, each read brought a byte, and none failed
 abbrev pub invariant-loop-bytes : goal.invariant-loop-bytes

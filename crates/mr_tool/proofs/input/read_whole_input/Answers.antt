@@ -1,7 +1,7 @@
 use Rattle.std.proofs.Common.{arith, ◌<◌, length}
 use Rattle.mr_tool.proofs.InputLemmas.{input_added, input_ended, input_failed}
-use Rattle.mr_tool.specs.WholeInput.{most_taken}
-use Rattle.mr_tool.proofs.whole_input.read_whole_input.Goals as goal
+use Rattle.mr_tool.specs.Input.{most_taken}
+use Rattle.mr_tool.proofs.input.read_whole_input.Goals as goal
 
 pub returns-in_err-add_piece-clause-fails : goal.returns-in_err-add_piece-clause-fails
 returns-in_err-add_piece-clause-fails g c =

@@ -1,5 +1,5 @@
 use Rattle.mr_tool.proofs.RequestLemmas.{next_refusal, next_found}
-use Rattle.mr_tool.proofs.first_request.next_with.Goals as goal
+use Rattle.mr_tool.proofs.input.next_with.Goals as goal
 
 pub returns-in-Ok : goal.returns-in-Ok
 returns-in-Ok c = λ fed is.
