@@ -72,7 +72,7 @@ fn carriers_to<'x, R: Wait>(
 }
 
 /// A proxy with a book of at most two steps.
-fn recorded<C: Carrier>(alloc: Global) -> Result<RecordedProxy<C>, Fail> {
+fn recorded_proxy<C: Carrier>(alloc: Global) -> Result<RecordedProxy<C>, Fail> {
     match RecordedProxy::new(alloc, core(alloc)?, 2) {
         Ok(desk) => Ok(desk),
         Err(_) => Err(Fail::from("no memory")),
@@ -96,7 +96,7 @@ fn book_of<C: Carrier>(
 #[test]
 fn a_session_is_served_and_its_book_is_closed(rt: HostRuntime) -> Result<(), Fail> {
     let node = SharedNode::new(CacheNode::new(rt.alloc(), 1)?);
-    let desk = recorded(rt.alloc())?;
+    let desk = recorded_proxy(rt.alloc())?;
     let mut carriers = carriers_to(&rt, rt.alloc(), &node)?;
     let (served, written) = serve(&rt, rt.alloc(), &desk, &mut carriers);
     assert_eq!(rt; written.as_slice(), b"END\r\n".as_slice());
@@ -196,7 +196,7 @@ fn client(
 fn a_fleet_is_run(rt: HostRuntime) -> Result<(), Fail> {
     let mut clients = Vec::new(rt.alloc());
     clients.push(client(rt.alloc()))?;
-    let desk: RecordedProxy<OverBytes<'static>> = recorded(rt.alloc())?;
+    let desk: RecordedProxy<OverBytes<'static>> = recorded_proxy(rt.alloc())?;
     let carriers = Vec::new(rt.alloc());
     let proxy = FleetProxy {
         desk,
