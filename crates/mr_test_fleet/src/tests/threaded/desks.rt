@@ -1,4 +1,4 @@
-//! Worked values of the threaded layer, at one proxy whose new pool is 7101.
+//! Desks, their books, and the carriers of legs, at one proxy whose new pool is 7101.
 mod books;
 mod carriers;
 mod closings;
@@ -7,7 +7,7 @@ ghost use Rattle.std.specs.Prelude.{◌≢◌};
 ghost use Rattle.mr_text.specs.declared.request.Request.{Request};
 
 use super::broken::Broken;
-use crate::tests::{must, recorded};
+use crate::tests::{must, recorded_proxy};
 use mr_clock::FixedClock;
 use mr_desks::{Desk, DeskError, RecordedProxy, Share};
 use mr_proxy::Issued;
@@ -21,7 +21,7 @@ const NEW: [&[u8]; 1] = [b"7101"];
 
 /// A proxy whose carriers never reach their nodes, and whose book keeps at most so many steps.
 fn desk_of(rt: &impl Abort, alloc: Global, limit: u64) -> RecordedProxy<Broken> {
-    must(rt, recorded(alloc, 0, &NEW, limit))
+    must(rt, recorded_proxy(alloc, 0, &NEW, limit))
 }
 
 /// Issues a request at a second of the phase in which deletes go to both sides and gets to the old one.

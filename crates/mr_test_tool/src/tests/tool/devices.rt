@@ -1,6 +1,6 @@
 //! What is left where an output fails.
 use super::{ACCEPTED, PLACES, SCRIPT, TRANSCRIPT, is_in};
-use crate::tests::commands::files_at::FilesAt;
+use crate::tests::tool::files_at::FilesAt;
 use mr_sockets::HostServers;
 use mr_test_support::TakesHalf;
 use mr_text::{OverReader, OverWriter};
@@ -109,7 +109,7 @@ fn device(alloc: Global, handed: &Handed) -> OverWriter<TakesHalf> {
 }
 
 /// What a device keeps of it, and how often it is called: a second time where it took half.
-fn kept(handed: &Handed) -> (&'static [u8], usize) {
+fn bytes_and_calls(handed: &Handed) -> (&'static [u8], usize) {
     match handed {
         Handed::Whole(text) => (text, 1),
         Handed::Half(text) => (&text[..text.len() / 2], 2),
@@ -120,7 +120,7 @@ fn kept(handed: &Handed) -> (&'static [u8], usize) {
 /// Asserts what a device was handed.
 fn expect_device(rt: &impl Abort, place: usize, device: OverWriter<TakesHalf>, handed: &Handed) {
     let device = device.into_inner();
-    let (bytes, calls) = kept(handed);
+    let (bytes, calls) = bytes_and_calls(handed);
     is_in(rt, place, device.kept.as_slice(), bytes);
     is_in(rt, place, device.calls, calls);
 }

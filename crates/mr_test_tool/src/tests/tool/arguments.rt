@@ -1,7 +1,7 @@
 //! The program, from its arguments.
 use super::{PLACES, Ran, expect_run, is};
-use crate::tests::commands::files_at::FilesAt;
 use crate::tests::must;
+use crate::tests::tool::files_at::FilesAt;
 use mr_sockets::HostServers;
 use mr_text::{OverReader, OverWriter};
 use mr_tool::run_arguments;

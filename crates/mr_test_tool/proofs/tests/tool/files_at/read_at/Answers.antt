@@ -2,7 +2,7 @@ use Rattle.std.proofs.Common.{◌≡◌, ◌≤◌, ◌∙◌, ℕ, List, length
 use Rattle.std.proofs.lemmas.List.{length-take}
 use Rattle.mr_tool.specs.Sources.{Known, MayGive, most_loaded}
 use Rattle.mr_tool.specs.Sources.Known.{Holds}
-use Rattle.mr_test_tool.proofs.tests.commands.files_at.read_at.Goals as goal
+use Rattle.mr_test_tool.proofs.tests.tool.files_at.read_at.Goals as goal
 
 short : (n : ℕ) (bytes : List ℕ) → length (take n bytes) ≤ n
 short n bytes = omega (arith, length-take n bytes)

@@ -1,7 +1,7 @@
 //! What is read of the input, byte by byte.
 use super::{PLACES, SCRIPT, TRANSCRIPT, byte_by_byte, expect_row, expect_run, is, run_over};
-use crate::tests::commands::files_at::FilesAt;
 use crate::tests::must;
+use crate::tests::tool::files_at::FilesAt;
 use mr_text::{FailsAt, OverReader, Source};
 use std::alloc::Global;
 use std::net::{Net, TcpListener, TcpStream};

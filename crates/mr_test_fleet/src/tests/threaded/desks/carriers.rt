@@ -6,7 +6,7 @@ use super::{NEW, desk_of, issue};
 use crate::tests::threaded::broken::broken_carriers;
 use crate::tests::threaded::{delete_of, first_leg, get_of};
 use crate::tests::{
-    Nodes, ToNode, carriers_to_all, core_of, is, is_at, make_nodes, must, recorded,
+    Nodes, ToNode, carriers_to_all, core_of, is, is_at, make_nodes, must, recorded_proxy,
 };
 use mr_clock::{FixedClock, ListClock};
 use mr_desks::{
@@ -51,7 +51,7 @@ fn take_answer<C: Carrier, D: Desk<C>, L: Carriers<C>, R: Wait + Abort>(
 }
 
 /// The answer to a request that is given up.
-fn given_up<C: Carrier, D: Desk<C>, R: Wait + Abort>(rt: &R, desk: &D, op: OpId) -> Answer {
+fn give_up<C: Carrier, D: Desk<C>, R: Wait + Abort>(rt: &R, desk: &D, op: OpId) -> Answer {
     match desk.give_up(rt, op) {
         Some(answer) => answer,
         None => rt.panic("not under way"),
@@ -72,7 +72,7 @@ fn answer_to<C: Carrier, D: Desk<C>, L: Carriers<C>, R: Wait + Abort>(
     if send_all(carriers, issued.legs) {
         take_answer(rt, desk, carriers)
     } else {
-        given_up(rt, desk, issued.op)
+        give_up(rt, desk, issued.op)
     }
 }
 
@@ -201,7 +201,7 @@ fn hits_until_deleted<'x, D: Desk<ToNode<'x, R>>, R: Wait + Abort>(
 
 /// The same through either kind of desk.
 fn play<'x, R: Wait + Abort>(rt: &'x R, alloc: Global, nodes: &'x Nodes) {
-    let recorded: RecordedProxy<ToNode<'x, R>> = must(rt, recorded(alloc, 0, &NEW, 20));
+    let recorded: RecordedProxy<ToNode<'x, R>> = must(rt, recorded_proxy(alloc, 0, &NEW, 20));
     hits_until_deleted(rt, alloc, nodes, &recorded);
     let shared: SharedProxy<ToNode<'x, R>> = SharedProxy::new(must(rt, core_of(alloc, 0, &NEW)));
     hits_until_deleted(rt, alloc, nodes, &shared);

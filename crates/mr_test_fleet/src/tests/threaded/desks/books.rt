@@ -7,6 +7,7 @@ use mr_clock::FixedClock;
 use mr_desks::{Carried, Desk, DeskError, RecordedProxy, RecordedState, Share};
 use mr_history::OpId;
 use mr_proxy::{Leg, Taken};
+use mr_test_support::FIRST;
 use std::alloc::Global;
 use std::process::Abort;
 use std::sync::Wait;
@@ -26,13 +27,6 @@ enum Asked {
 type Step = (Asked, Option<DeskError>, u64);
 
 const FULL: Option<DeskError> = Some(DeskError::BookFull);
-
-/// The name of the first request of a proxy.
-const FIRST: OpId = OpId {
-    proxy: 0,
-    incarnation: 0,
-    number: 0,
-};
 
 /// Asserts that the first request is given up.
 fn gives_up(rt: &(impl Abort + Wait), desk: &RecordedProxy<Broken>, number: usize) {

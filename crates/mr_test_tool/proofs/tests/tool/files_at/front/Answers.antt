@@ -1,7 +1,7 @@
 use Rattle.std.proofs.Common.{◌≤◌, length, sym, arith}
 use Rattle.std.proofs.lemmas.List.{take_all}
 use Rattle.mr_tool.specs.Sources.{most_loaded}
-use Rattle.mr_test_tool.proofs.tests.commands.files_at.front.Goals as goal
+use Rattle.mr_test_tool.proofs.tests.tool.files_at.front.Goals as goal
 
 pub returns-then-bytes-lt-MOST_LOADED : goal.returns-then-bytes-lt-MOST_LOADED
 returns-then-bytes-lt-MOST_LOADED c =

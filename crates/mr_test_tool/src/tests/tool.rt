@@ -1,7 +1,7 @@
 //! Whole runs, over files, inputs and outputs in memory. Those of services are over sockets of this machine, and each waits
 //! for threads.
 use super::is;
-use crate::tests::commands::files_at::{FilesAt, Place};
+use crate::tests::tool::files_at::{FilesAt, Place};
 use mr_sockets::HostServers;
 use mr_text::{OverReader, OverWriter, Source};
 use mr_tool::{Sources, run_words};

@@ -1,7 +1,7 @@
 //! One run of each command, over a list of files. What else the commands answer to words, files and input is shown by
 //! tests/cases.
 use super::{ACCEPTED, PLACES, Ran, SCRIPT, TRANSCRIPT, expect_row, is_in, run_over};
-use crate::tests::commands::files_at::FilesAt;
+use crate::tests::tool::files_at::FilesAt;
 use mr_text::OverReader;
 use std::alloc::Global;
 use std::net::{Net, TcpListener, TcpStream};

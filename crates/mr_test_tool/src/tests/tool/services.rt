@@ -2,7 +2,7 @@
 mod beginnings;
 
 use super::{Ran, expect_run, run_over};
-use crate::tests::commands::files_at::{FilesAt, Place};
+use crate::tests::tool::files_at::{FilesAt, Place};
 use mr_text::{FailsAt, OverReader};
 use std::alloc::{AllocError, Global};
 use std::net::{Net, SocketAddr, TcpListener, TcpStream};
