@@ -18,4 +18,5 @@ pub mod Services
 pub mod Sources
 pub mod TimelineCommand
 pub mod TimelineText
+pub mod VersionCommand
 pub mod WholeInput
