@@ -13,7 +13,6 @@ mod desk_error;
 mod direct_carriers;
 mod error;
 mod gate;
-mod issuing;
 mod local_carrier;
 mod recorded_proxy;
 mod recorded_state;

@@ -4,9 +4,8 @@ ghost use Rattle.mr_proxy.specs.ProxyView.{opening_of};
 ghost use Rattle.mr_proxy.specs.Transitions.{taken_of, after_take};
 ghost use Rattle.mr_desks.specs.Replay.{after, answered_in, answer_at, answers_of, IsBookStep, AreSteps};
 
-use crate::issuing::issue_copy;
 use crate::step::Step;
-use mr_proxy::{Answer, LegBack, ProxyCore, Taken};
+use mr_proxy::{Answer, LegBack, ProxyCore, Taken, issue_copy};
 use std::alloc::{AllocError, Global};
 
 /// Takes a copy of a reply, as the proxy does, and gives the answer that it brings, if it brings one.

@@ -42,7 +42,7 @@ impl<'a, R: Wait> Drop for NodeDesk<'a, R> {
 }
 
 /// Performs a command. The reply is of the command's kind.
-fn performed<P: Perform>(
+fn perform_on<P: Perform>(
     node: &mut P,
     now: u64,
     command: NodeCommand,
@@ -53,7 +53,7 @@ fn performed<P: Perform>(
 }
 
 /// Performs a get of a lent key. The reply is of its kind.
-fn got<P: Perform>(node: &mut P, now: u64, key: &Key) -> Result<LegReply, AllocError>
+fn get_from<P: Perform>(node: &mut P, now: u64, key: &Key) -> Result<LegReply, AllocError>
     ensures { IfOk result (IsOfKind (Get key.now)) }
 {
     node.get(now, key)
@@ -70,11 +70,11 @@ impl<'a, R: Wait> Perform for NodeDesk<'a, R> {
 
     fn perform(&mut self, now: u64, command: NodeCommand) -> Result<LegReply, AllocError> {
         let mut node = self.node.node.lock(self.rt);
-        performed(&mut *node, now, command)
+        perform_on(&mut *node, now, command)
     }
 
     fn get(&mut self, now: u64, key: &Key) -> Result<LegReply, AllocError> {
         let mut node = self.node.node.lock(self.rt);
-        got(&mut *node, now, key)
+        get_from(&mut *node, now, key)
     }
 }

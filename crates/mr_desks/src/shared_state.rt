@@ -13,11 +13,10 @@ use crate::awaiting::awaits;
 use crate::carried::Carried;
 use crate::carrier::Carrier;
 use crate::desk_error::DeskError;
-use crate::issuing::issue_copy;
 use crate::share::Share;
 use mr_clock::Clock;
 use mr_history::OpId;
-use mr_proxy::{Answer, Issued, ProxyCore, ProxyError, Taken};
+use mr_proxy::{Answer, Issued, ProxyCore, ProxyError, Taken, issue_copy};
 use mr_text::Request;
 use std::marker::{Model, PhantomData};
 
@@ -65,18 +64,17 @@ impl<C: Carrier> SharedState<C> {
     }
 
     /// Why a request isn't issued, memory aside.
-    fn refusal(&self, share: &Share, reading: u64, request: &Request) -> Option<DeskError>
-        requires { request.now ≢ Request.Quit }
+    fn refusal(&self, share: &Share) -> Option<DeskError>
         ensures { result ≡ why_turned_down self.now share.now }
     {
         if share.is_spent() {
             return Some(DeskError::NumbersSpent);
         }
-        match self.core.would_issue(reading, request) {
-            Ok(_) => None,
-            Err(ProxyError::NumbersSpent) => Some(DeskError::NumbersSpent),
-            Err(ProxyError::NoRoom) => Some(DeskError::NoRoom),
-            Err(ProxyError::OutOfMemory | ProxyError::NoSuchOp) => unreachable!(),
+        match self.core.refusal() {
+            None => None,
+            Some(ProxyError::NumbersSpent) => Some(DeskError::NumbersSpent),
+            Some(ProxyError::NoRoom) => Some(DeskError::NoRoom),
+            Some(ProxyError::OutOfMemory | ProxyError::NoSuchOp) => unreachable!(),
         }
     }
 
@@ -98,7 +96,7 @@ impl<C: Carrier> SharedState<C> {
         ensures refused { IfErr result (IsDeskRefusal (why_turned_down self.old share.old)) }
         ensures unchanged { OnErr result ((self.new ≡ self.old) × (share.new ≡ share.old)) }
     {
-        if let Some(refusal) = self.refusal(share, reading, request) {
+        if let Some(refusal) = self.refusal(share) {
             return Err(refusal);
         }
         let Some(issued) = issue_copy(&mut self.core, reading, request) else {

@@ -3,7 +3,7 @@ ghost use Rattle.std.specs.Prelude.{◌≡◌};
 ghost use Rattle.mr_history.specs.OpIds.{is_same_op};
 
 /// The name of a request in a fleet: no two requests that were ever accepted have the same.
-#[derive(Clone, Copy, Debug, PartialEq, Eq)]
+#[derive(Clone, Copy, Debug, PartialEq, Eq, Hash)]
 pub struct OpId {
     /// The proxy that accepted the request.
     pub proxy: u32,

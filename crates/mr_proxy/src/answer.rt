@@ -4,7 +4,7 @@ ghost use Rattle.mr_text.specs.Canonical.{canonical_reply};
 ghost use Rattle.mr_text.specs.Gathering.{TakesFewCalls, parts_of_reply};
 ghost use Rattle.mr_text.specs.Sink.{Writes};
 
-use crate::join::joined;
+use crate::join::join_replies;
 use crate::pending::Pending;
 use crate::slot::Slot;
 use crate::writing::write_joined;
@@ -96,7 +96,7 @@ impl Answer {
         ensures { result ≡ reply_of self }
     {
         let (request, slots, items) = self.pending.into_parts();
-        joined(request, slots, items)
+        join_replies(request, slots, items)
     }
 
     /// Whether the other answer is equal. It takes no memory.

@@ -55,7 +55,7 @@ fn reply_by(outcome: LegReply) -> Reply
 
 /// The one reply to a request, whose items go into the room for them.
 #[tactic(auto, using(crate::proofs::JoinLemmas::found_by_worst, crate::proofs::JoinLemmas::failed_by_worst))]
-pub(crate) fn joined(request: Request, mut slots: Vec<Slot>, items: Vec<Item>) -> Reply
+pub(crate) fn join_replies(request: Request, mut slots: Vec<Slot>, items: Vec<Item>) -> Reply
     requires legs { 1 ≤ length slots.items }
     requires room { HasRoomFor request items.items (vec_capacity items) }
     ensures { result ≡ joined_reply request (map reply_of_slot slots.items) }

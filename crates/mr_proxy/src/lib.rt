@@ -2,12 +2,13 @@
 #![tactic(auto)]
 
 mod answer;
-mod draft;
 mod error;
 mod issued;
+mod issuing;
 mod join;
 pub mod laws;
 mod leg;
+mod legs_draft;
 mod pending;
 mod proxy_core;
 mod room;
@@ -19,6 +20,7 @@ mod writing;
 pub use answer::Answer;
 pub use error::ProxyError;
 pub use issued::Issued;
+pub use issuing::issue_copy;
 pub use leg::Leg;
 pub use proxy_core::ProxyCore;
 pub use sheet::{LegBack, LegId, LegSheet};

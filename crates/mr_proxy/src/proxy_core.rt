@@ -7,9 +7,9 @@ ghost use Rattle.mr_pools.specs.Routing.{IsRouting};
 ghost use Rattle.mr_proxy.specs.Transitions.{place_of_op};
 
 use crate::answer::Answer;
-use crate::draft::Draft;
 use crate::error::ProxyError;
 use crate::issued::Issued;
+use crate::legs_draft::LegsDraft;
 use crate::pending::{Noted, Pending};
 use crate::room::room_for;
 use crate::sheet::{LegId, LegSheet};
@@ -123,7 +123,7 @@ impl ProxyCore {
     }
 
     /// The larger of a reading and the last one.
-    fn used(&self, reading: u64) -> u64
+    fn reading_used(&self, reading: u64) -> u64
         ensures { result ≡ used_reading self.now.last reading }
     {
         match self.last {
@@ -132,8 +132,9 @@ impl ProxyCore {
         }
     }
 
-    /// Why the next request is refused, memory aside.
-    fn refusal(&self) -> Option<ProxyError>
+    /// Why the next request would be refused, memory aside: NumbersSpent where no number is left for it, or else NoRoom
+    /// where as many requests are under way as there is room for. None where it would be accepted.
+    pub fn refusal(&self) -> Option<ProxyError>
         ensures { result ≡ refusal_of self.now }
     {
         if self.next == u64::MAX {
@@ -175,8 +176,9 @@ impl ProxyCore {
         }
         let alloc = *self.outstanding.allocator();
         let op = self.next_op();
-        let used = self.used(reading);
-        let Ok(draft) = Draft::of(alloc, &self.routing, self.schedule, op, used, &request) else {
+        let used = self.reading_used(reading);
+        let Ok(draft) = LegsDraft::of(alloc, &self.routing, self.schedule, op, used, &request)
+        else {
             return Err((ProxyError::OutOfMemory, request));
         };
         let Ok(items) = room_for(alloc, &request) else {
@@ -347,7 +349,7 @@ impl ProxyCore {
             Request::Get { keys } => keys.as_slice().len() as u64,
             Request::Set { .. } => 1,
             Request::Delete { .. } => {
-                let judged = judge(self.schedule, self.used(reading));
+                let judged = judge(self.schedule, self.reading_used(reading));
                 judged.sides(RequestKind::Delete).count() as u64
             }
             Request::Quit => 0,

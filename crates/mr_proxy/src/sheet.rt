@@ -37,7 +37,12 @@ impl LegSheet {
     ghost use Rattle.mr_proxy.specs.Sheets.{pool_at, placed, node_name, IsPlaced};
 
     /// The sheet of a leg to the node, in that side's pool, that keeps the command's key.
-    pub(crate) fn placed(routing: &Routing, id: LegId, side: Side, command: NodeCommand) -> LegSheet
+    pub(crate) fn for_leg(
+        routing: &Routing,
+        id: LegId,
+        side: Side,
+        command: NodeCommand,
+    ) -> LegSheet
         ensures { result ≡ placed routing.now (record { id = id; side = side; node = 0; command = command }) }
     {
         let hash = routing.hash();

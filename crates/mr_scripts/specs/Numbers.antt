@@ -15,8 +15,8 @@ abbrev pub small_number : Data → Result ℕ PlanError
 small_number value = whole_number value >>= if_small
 
 -- a whole number of 64 bits that may be negative
-abbrev pub signed_number : Data → Result ℤ PlanError
-signed_number value = ok_or (option_and_then as_i64 (as_number value)) WrongKind
+abbrev pub signed_whole_number : Data → Result ℤ PlanError
+signed_whole_number value = ok_or (option_and_then as_i64 (as_number value)) WrongKind
 
 -- a truth value that may be absent, and is then false
 abbrev pub flag_of : Option Data → Result Bool PlanError

@@ -9,7 +9,7 @@ use Rattle.mr_text.specs.declared.request.Request.{Request}
 use Rattle.mr_text.specs.declared.request.Request.TheVariants.{Get, Set, Delete}
 use Rattle.mr_configs.specs.Checking.{◌>>=◌}
 use Rattle.mr_configs.specs.Fields.{Text, object_check, field, text_of, list_of}
-use Rattle.mr_scripts.specs.Numbers.{small_number, signed_number, flag_of}
+use Rattle.mr_scripts.specs.Numbers.{small_number, signed_whole_number, flag_of}
 use Rattle.mr_scripts.specs.Texts.{key_of, block_of}
 use Rattle.mr_configs.specs.declared.error.PlanError.{PlanError}
 use Rattle.mr_configs.specs.declared.error.PlanError.TheVariants.{WrongKind}
@@ -46,7 +46,7 @@ abbrev pub set_of : Data → Result Request PlanError
 set_of value =
     object_check set_keys value >>= λ _.
     field (codes "data") value >>= block_of >>= λ block.
-    field (codes "exptime") value >>= signed_number >>= λ exptime.
+    field (codes "exptime") value >>= signed_whole_number >>= λ exptime.
     field (codes "flags") value >>= small_number >>= λ flags.
     field (codes "key") value >>= key_of >>= λ key.
     flag_of (get (codes "noreply") value) >>= λ noreply.

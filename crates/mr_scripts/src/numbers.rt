@@ -2,7 +2,7 @@
 ghost use Rattle.std.specs.Prelude.{◌≡◌, Ok, Err, IfOk, IfErr};
 ghost use Rattle.serde_json.specs.Find.{get};
 ghost use Rattle.serde_json.specs.View.{view};
-ghost use Rattle.mr_scripts.specs.Numbers.{small_number, signed_number, flag_of};
+ghost use Rattle.mr_scripts.specs.Numbers.{small_number, signed_whole_number, flag_of};
 
 use mr_configs::PlanError;
 use mr_configs::fields::whole_number;
@@ -16,8 +16,8 @@ pub fn small_number(value: &Value) -> Result<u32, PlanError>
 }
 
 /// A whole number of 64 bits that may be negative.
-pub fn signed_number(value: &Value) -> Result<i64, PlanError>
-    ensures { result ≡ signed_number (view value.now) }
+pub fn signed_whole_number(value: &Value) -> Result<i64, PlanError>
+    ensures { result ≡ signed_whole_number (view value.now) }
 {
     value.as_i64().ok_or(PlanError::WrongKind)
 }

@@ -6,7 +6,7 @@ ghost use Rattle.mr_text.specs.Key.{get_line_length};
 ghost use Rattle.mr_scripts.specs.Requests.{are_keys, keys_in, keys_of, get_of, set_of, delete_of, request_of};
 ghost use Rattle.mr_scripts.specs.RequestDraft.{request_drafted, IsRequestReady};
 
-use crate::numbers::{flag, signed_number, small_number};
+use crate::numbers::{flag, signed_whole_number, small_number};
 use crate::texts::{block_text, key_text, length_of, make_block, make_key};
 use mr_configs::PlanError;
 use mr_configs::fields::{check_object, field, list, text};
@@ -112,7 +112,7 @@ fn set_draft(value: &Value) -> Result<RequestDraft<'_>, PlanError>
 {
     check_object(value, &SET_KEYS)?;
     let block = block_text(field(value, "data")?)?;
-    let exptime = signed_number(field(value, "exptime")?)?;
+    let exptime = signed_whole_number(field(value, "exptime")?)?;
     let flags = small_number(field(value, "flags")?)?;
     let key = key_text(field(value, "key")?)?;
     let noreply = flag(value, "noreply")?;

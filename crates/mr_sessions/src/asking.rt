@@ -33,7 +33,7 @@ pub(crate) fn write_command<W: Sink>(
 }
 
 /// What a node's reply says of the command's leg. Mismatch where it is no answer to the command.
-pub(crate) fn answer_to(command: &NodeCommand, reply: Reply) -> Result<LegReply, WorkerError>
+pub(crate) fn leg_reply_of(command: &NodeCommand, reply: Reply) -> Result<LegReply, WorkerError>
     ensures { MatchResult result
         (λ leg. IsAnswer command.now reply leg)
         (λ fault. (fault ≡ Mismatch) × ((leg : LegReply) → ¬ IsAnswer command.now reply leg)) }
@@ -42,7 +42,7 @@ pub(crate) fn answer_to(command: &NodeCommand, reply: Reply) -> Result<LegReply,
         (_, Reply::ServerError(cause)) => Ok(LegReply::Failed(cause)),
         (_, Reply::ClientError(cause)) => Ok(LegReply::Failed(cause)),
         (_, Reply::Error) => Ok(LegReply::Failed(Cause::NodeRefused)),
-        (NodeCommand::Get(key), Reply::Items(items)) => found(key, items),
+        (NodeCommand::Get(key), Reply::Items(items)) => reply_to_get(key, items),
         (NodeCommand::Set { .. }, Reply::Stored) => Ok(LegReply::Stored),
         (NodeCommand::Delete(_), Reply::Deleted) => Ok(LegReply::Deleted),
         (NodeCommand::Delete(_), Reply::NotFound) => Ok(LegReply::NotFound),
@@ -51,7 +51,7 @@ pub(crate) fn answer_to(command: &NodeCommand, reply: Reply) -> Result<LegReply,
 }
 
 /// What the items of a reply say of a get of one key: a miss where there are none, a hit where there is one of that key.
-fn found(key: &Key, items: ItemList) -> Result<LegReply, WorkerError>
+fn reply_to_get(key: &Key, items: ItemList) -> Result<LegReply, WorkerError>
     ensures { MatchResult result
         (λ leg. FindsItemOf key.now items leg)
         (λ fault. (fault ≡ Mismatch) × ((leg : LegReply) → ¬ FindsItemOf key.now items leg)) }

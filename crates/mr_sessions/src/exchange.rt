@@ -4,7 +4,7 @@ ghost use Rattle.mr_sessions.specs.Exchange.{wire};
 ghost use Rattle.mr_sessions.specs.steps.Exchange.{ExchangeIs};
 ghost use Rattle.mr_sessions.specs.steps.Reading.{IsOpen};
 
-use crate::asking::{answer_to, write_command};
+use crate::asking::{leg_reply_of, write_command};
 use crate::reading::read_reply;
 use mr_desks::WorkerError;
 use mr_join::LegReply;
@@ -32,5 +32,5 @@ pub(crate) fn exchange<S: Source, W: Sink>(
         return Err(WorkerError::WriteFault);
     }
     let reply = read_reply(reader, replies, turns)?;
-    answer_to(command, reply)
+    leg_reply_of(command, reply)
 }

@@ -6,7 +6,7 @@ use mr_desks::WorkerError;
 use mr_node::session::SessionFault;
 
 /// A fault of a session, as a client's session tells it.
-pub(crate) fn error_of(fault: SessionFault) -> WorkerError
+pub(crate) fn worker_error_of(fault: SessionFault) -> WorkerError
     ensures { result ≡ worker_error_of fault }
 {
     match fault {

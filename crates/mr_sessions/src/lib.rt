@@ -10,7 +10,7 @@ mod node_link;
 mod reading;
 mod served;
 mod serving;
-mod till;
+mod session_log;
 
 pub use node_link::NodeLink;
 pub use served::Served;

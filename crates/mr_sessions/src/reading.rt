@@ -30,7 +30,7 @@ pub(crate) fn read_reply<S: Source>(
             return Err(WorkerError::TurnsSpent);
         }
         turns_left -= 1;
-        read_piece(reader, replies, &mut buffer)?;
+        feed_replies(reader, replies, &mut buffer)?;
     }
 }
 
@@ -57,7 +57,7 @@ fn fault_of(refusal: TextError) -> WorkerError
 
 /// Reads once, and keeps what came. LinkBroken at the end of the input, ReadFault where the read failed, OutOfMemory where
 /// there was none for what came.
-fn read_piece<S: Source>(
+fn feed_replies<S: Source>(
     reader: &mut S,
     replies: &mut ReplyReader,
     buffer: &mut [u8],

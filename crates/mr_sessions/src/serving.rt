@@ -14,9 +14,9 @@ ghost use Rattle.mr_sessions.specs.ClientSession.{ClientSessionIs, unanswered_co
 ghost use Rattle.mr_sessions.specs.steps.ClientStep.{AskedSo, AnsweredSo, ClientRefusalIs, ClientRequestIs, ClientStepIs};
 
 use crate::carrying::carry_out;
-use crate::faults::error_of;
+use crate::faults::worker_error_of;
 use crate::served::Served;
-use crate::till::{Till, keep, make_room};
+use crate::session_log::SessionLog;
 use mr_clock::Clock;
 use mr_desks::{Carrier, Carriers, Desk, DeskError, WorkerError};
 use mr_history::{OpId, is_same_op};
@@ -35,7 +35,7 @@ fn is_answer_to(answer: &Answer, op: OpId, request: &Request) -> bool
 }
 
 /// Carries the legs of a request, and gives its answer. None where there is none, or what there is isn't its own.
-fn answer_to<C: Carrier, D: Desk<C>, L: Carriers<C>, R: Wait>(
+fn carry_request<C: Carrier, D: Desk<C>, L: Carriers<C>, R: Wait>(
     rt: &R,
     desk: &D,
     carriers: &mut L,
@@ -93,7 +93,7 @@ fn write_refusal<W: Sink>(
     };
     match write_answer(answer, writer) {
         Ok(()) => Ok(()),
-        Err(fault) => Err(error_of(fault)),
+        Err(fault) => Err(worker_error_of(fault)),
     }
 }
 
@@ -106,25 +106,25 @@ fn ask<C: Carrier, D: Desk<C>, K: Clock, W: Sink, L: Carriers<C>, R: Wait>(
     clock: &mut K,
     writer: &mut W,
     carriers: &mut L,
-    till: &mut Till,
+    log: &mut SessionLog,
     request: &Request,
 ) -> Result<(), WorkerError>
     requires asks { request.now ≢ Request.Quit }
-    requires room { D.recorded ≡ true → length till.old.answers.items + 1 ≤ vec_capacity till.old.answers }
+    requires room { D.recorded ≡ true → length log.old.answers.items + 1 ≤ vec_capacity log.old.answers }
     ensures { AskedSo (AsksDesk K.reads K.failures C.gave D.recorded) (AsksInVain K.reads K.failures)
-        (station clock.old (account till.old.share till.old.answers.items (L.losses carriers.old) (L.brought carriers.old)) (W.told writer.old))
-        (station clock.new (account till.new.share till.new.answers.items (L.losses carriers.new) (L.brought carriers.new)) (W.told writer.new))
+        (station clock.old (account log.old.share log.old.answers.items (L.losses carriers.old) (L.brought carriers.old)) (W.told writer.old))
+        (station clock.new (account log.new.share log.new.answers.items (L.losses carriers.new) (L.brought carriers.new)) (W.told writer.new))
         request.now result }
 {
-    match desk.issue(rt, &mut till.share, clock, request) {
+    match desk.issue(rt, &mut log.share, clock, request) {
         Err(refusal) => write_refusal(request, refusal, writer),
         Ok(issued) => {
-            let Some(answer) = answer_to(rt, desk, carriers, &mut till.legs_out, request, issued)
+            let Some(answer) = carry_request(rt, desk, carriers, &mut log.legs_out, request, issued)
             else {
                 return Err(WorkerError::BookDiffers);
             };
             let written = write_unless_silent(request, &answer, writer);
-            keep(&mut till.answers, desk.is_recorded(), answer);
+            log.keep(desk.is_recorded(), answer);
             written
         }
     }
@@ -133,27 +133,27 @@ fn ask<C: Carrier, D: Desk<C>, K: Clock, W: Sink, L: Carriers<C>, R: Wait>(
 /// Serves a request and writes its answer, unless the client wants none. A quit ends the session. The room for the answer is
 /// made before the request is issued; where it is refused, nothing is done.
 #[tactic(auto, using(crate::proofs::StepLemmas::asked, crate::proofs::StepLemmas::asked_well, mr_node::proofs::ServiceLemmas::served_unless_quit))]
-fn serve_request<C: Carrier, D: Desk<C>, K: Clock, W: Sink, L: Carriers<C>, R: Wait>(
+fn answer_request<C: Carrier, D: Desk<C>, K: Clock, W: Sink, L: Carriers<C>, R: Wait>(
     rt: &R,
     desk: &D,
     clock: &mut K,
     writer: &mut W,
     carriers: &mut L,
-    till: &mut Till,
+    log: &mut SessionLog,
     request: &Request,
 ) -> Result<SessionStep, WorkerError>
     ensures { ClientRequestIs (AsksDesk K.reads K.failures C.gave D.recorded) (AsksInVain K.reads K.failures)
-        (station clock.old (account till.old.share till.old.answers.items (L.losses carriers.old) (L.brought carriers.old)) (W.told writer.old))
-        (station clock.new (account till.new.share till.new.answers.items (L.losses carriers.new) (L.brought carriers.new)) (W.told writer.new))
+        (station clock.old (account log.old.share log.old.answers.items (L.losses carriers.old) (L.brought carriers.old)) (W.told writer.old))
+        (station clock.new (account log.new.share log.new.answers.items (L.losses carriers.new) (L.brought carriers.new)) (W.told writer.new))
         request.now result }
 {
     if let Request::Quit = request {
         return Ok(SessionStep::Ends(Ended::Quit));
     }
-    if make_room(&mut till.answers, desk.is_recorded()).is_err() {
+    if log.make_room(desk.is_recorded()).is_err() {
         return Err(WorkerError::OutOfMemory);
     }
-    ask(rt, desk, clock, writer, carriers, till, request)?;
+    ask(rt, desk, clock, writer, carriers, log, request)?;
     Ok(SessionStep::Served)
 }
 
@@ -164,36 +164,36 @@ fn refuse<W: Sink>(refusal: TextError, writer: &mut W) -> Result<SessionStep, Wo
 {
     match answer_refusal(refusal, writer) {
         Ok(step) => Ok(step),
-        Err(fault) => Err(error_of(fault)),
+        Err(fault) => Err(worker_error_of(fault)),
     }
 }
 
 /// Serves the next request that is whole.
-fn serve_next<C: Carrier, D: Desk<C>, K: Clock, W: Sink, L: Carriers<C>, R: Wait>(
+fn answer_next<C: Carrier, D: Desk<C>, K: Clock, W: Sink, L: Carriers<C>, R: Wait>(
     rt: &R,
     desk: &D,
     clock: &mut K,
     requests: &mut RequestReader,
     writer: &mut W,
     carriers: &mut L,
-    till: &mut Till,
+    log: &mut SessionLog,
 ) -> Result<SessionStep, WorkerError>
     requires { requests.old.closed ≡ false }
     ensures { (rest : List ℕ) → StandsFor requests.old rest
         → ClientStepIs (AsksDesk K.reads K.failures C.gave D.recorded) (AsksInVain K.reads K.failures)
-        (station clock.old (account till.old.share till.old.answers.items (L.losses carriers.old) (L.brought carriers.old)) (W.told writer.old))
-        (station clock.new (account till.new.share till.new.answers.items (L.losses carriers.new) (L.brought carriers.new)) (W.told writer.new))
+        (station clock.old (account log.old.share log.old.answers.items (L.losses carriers.old) (L.brought carriers.old)) (W.told writer.old))
+        (station clock.new (account log.new.share log.new.answers.items (L.losses carriers.new) (L.brought carriers.new)) (W.told writer.new))
         requests.old.ended rest requests.new result }
 {
     match requests.next() {
         Ok(None) => Ok(SessionStep::Waits),
-        Ok(Some(request)) => serve_request(rt, desk, clock, writer, carriers, till, &request),
+        Ok(Some(request)) => answer_request(rt, desk, clock, writer, carriers, log, &request),
         Err(refusal) => refuse(refusal, writer),
     }
 }
 
-/// Serves what the reader gives, as `serve_client` does, and notes in the till what was issued and taken.
-fn serve_all<C: Carrier, D: Desk<C>, K: Clock, S: Source, W: Sink, L: Carriers<C>, R: Wait>(
+/// Serves what the reader gives, as `serve_client` does, and notes in its log what was issued and taken.
+fn serve_until_end<C: Carrier, D: Desk<C>, K: Clock, S: Source, W: Sink, L: Carriers<C>, R: Wait>(
     rt: &R,
     alloc: Global,
     desk: &D,
@@ -201,12 +201,12 @@ fn serve_all<C: Carrier, D: Desk<C>, K: Clock, S: Source, W: Sink, L: Carriers<C
     reader: &mut S,
     writer: &mut W,
     carriers: &mut L,
-    till: &mut Till,
+    log: &mut SessionLog,
     turns: u64,
 ) -> Result<Ended, WorkerError>
     ensures session { ClientSessionIs (AsksDesk K.reads K.failures C.gave D.recorded) (AsksInVain K.reads K.failures) (S.told reader.old) (S.told reader.new)
-        (station clock.old (account till.old.share till.old.answers.items (L.losses carriers.old) (L.brought carriers.old)) (W.told writer.old))
-        (station clock.new (account till.new.share till.new.answers.items (L.losses carriers.new) (L.brought carriers.new)) (W.told writer.new)) result }
+        (station clock.old (account log.old.share log.old.answers.items (L.losses carriers.old) (L.brought carriers.old)) (W.told writer.old))
+        (station clock.new (account log.new.share log.new.answers.items (L.losses carriers.new) (L.brought carriers.new)) (W.told writer.new)) result }
     ensures reads { (S.told reader.new).reads ≤ (S.told reader.old).reads + turns }
     ensures brought { (S.told reader.new).reads + length (S.told reader.old).taken ≤ (S.told reader.old).reads + length (S.told reader.new).taken + 1 }
     ensures spent { result ≡ Err WorkerError.TurnsSpent → (S.told reader.new).reads ≡ (S.told reader.old).reads + turns }
@@ -221,7 +221,7 @@ fn serve_all<C: Carrier, D: Desk<C>, K: Clock, S: Source, W: Sink, L: Carriers<C
     let mut ended = false;
     let mut turns_left = turns;
     'session: loop {
-        match serve_next(rt, desk, clock, &mut requests, writer, carriers, till)? {
+        match answer_next(rt, desk, clock, &mut requests, writer, carriers, log)? {
             SessionStep::Served => {}
             SessionStep::Ends(how) => return Ok(how),
             SessionStep::Waits => {
@@ -234,7 +234,7 @@ fn serve_all<C: Carrier, D: Desk<C>, K: Clock, S: Source, W: Sink, L: Carriers<C
                 turns_left -= 1;
                 match read_piece(reader, &mut requests, &mut buffer) {
                     Ok(at_end) => ended = at_end,
-                    Err(fault) => return Err(error_of(fault)),
+                    Err(fault) => return Err(worker_error_of(fault)),
                 }
             }
         }
@@ -290,19 +290,19 @@ pub fn serve_client<C: Carrier, D: Desk<C>, K: Clock, S: Source, W: Sink, L: Car
     ensures no_write_fault { result.ended ≢ Err WorkerError.WriteFault → (W.told writer.new).failures ≡ (W.told writer.old).failures }
     ensures last_failed { result.ended ≡ Err WorkerError.WriteFault → (W.told writer.new).last_failed ≡ true }
 {
-    let mut till = Till {
+    let mut log = SessionLog {
         share: desk.share(),
         answers: Vec::new(alloc),
         legs_out: 0,
     };
-    let ended = serve_all(
-        rt, alloc, desk, clock, reader, writer, carriers, &mut till, turns,
+    let ended = serve_until_end(
+        rt, alloc, desk, clock, reader, writer, carriers, &mut log, turns,
     );
-    let Till {
+    let SessionLog {
         share,
         answers,
         legs_out: _,
-    } = till;
+    } = log;
     Served {
         ended,
         share,

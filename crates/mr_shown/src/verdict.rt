@@ -34,7 +34,7 @@ pub enum KeptVerdict {
 }
 
 /// The verdict with a copy of its key.
-fn kept(verdict: &Verdict) -> Result<KeptVerdict, AllocError>
+fn keep_verdict(verdict: &Verdict) -> Result<KeptVerdict, AllocError>
     ensures { IfOk result (λ kept. (history : _) → Judges history verdict.now → JudgesSo history kept) }
 {
     Ok(match verdict {
@@ -56,6 +56,6 @@ impl KeptVerdict {
     pub fn on(world: &World) -> Result<KeptVerdict, AllocError>
         ensures { IfOk result (JudgesSo world.now.history) }
     {
-        kept(&judge_history(world.history()))
+        keep_verdict(&judge_history(world.history()))
     }
 }

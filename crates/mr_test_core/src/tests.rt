@@ -58,7 +58,7 @@ fn says(rt: &impl Abort, row: usize, found: &str, wanted: &str) {
 }
 
 /// So many equal bytes.
-fn repeated(rt: &impl Abort, alloc: Global, byte: u8, count: usize) -> Vec<u8> {
+fn equal_bytes(rt: &impl Abort, alloc: Global, byte: u8, count: usize) -> Vec<u8> {
     let mut bytes = Vec::new(alloc);
     must(rt, add_repeated(&mut bytes, byte, count));
     bytes
@@ -68,7 +68,7 @@ fn repeated(rt: &impl Abort, alloc: Global, byte: u8, count: usize) -> Vec<u8> {
 type Rule = (&'static [u8], &'static [u8], usize, &'static [u8]);
 
 /// The bytes of a rule.
-fn spelled(rt: &impl Abort, alloc: Global, rule: Rule) -> Vec<u8> {
+fn bytes_of_rule(rt: &impl Abort, alloc: Global, rule: Rule) -> Vec<u8> {
     let (front, unit, count, end) = rule;
     let mut bytes = must(rt, Vec::from_slice(alloc, front));
     for _ in 0..count {

@@ -1,5 +1,5 @@
-//! A module of tests for the shared proxies and their sessions, one for fleets in memory, and one for fleets on sockets; and
-//! what they are made of. Old pools are 7001 and 7002, new ones begin at 7101, the hash is the sum of a key's bytes, and the
+//! A module of tests for desks, links and sessions, one for fleets in memory, and one for fleets on sockets; and what they
+//! are made of. Old pools are 7001 and 7002, new ones begin at 7101, the hash is the sum of a key's bytes, and the
 //! migration starts at 1000 with an interval of 100 seconds.
 mod fleet;
 mod sockets;
@@ -30,7 +30,7 @@ fn must<T, E>(rt: &impl Abort, called: Result<T, E>) -> T
 }
 
 /// What a call gave that fails for want of memory alone.
-fn made<T, E: Drop>(called: Result<T, E>) -> Result<T, AllocError>
+fn or_no_memory<T, E: Drop>(called: Result<T, E>) -> Result<T, AllocError>
     ensures { IfOk result (λ value. called ≡ Ok value) }
 {
     match called {
@@ -56,33 +56,33 @@ fn is_at<T: PartialEq + Debug>(rt: &impl Abort, row: usize, said: &str, there: &
 fn pool(alloc: Global, names: &[&[u8]]) -> Result<Pool, AllocError> {
     let mut list = Vec::new(alloc);
     for name in names {
-        list.push(made(NodeName::new(alloc, name))?)?;
+        list.push(or_no_memory(NodeName::new(alloc, name))?)?;
     }
-    made(Pool::new(list))
+    or_no_memory(Pool::new(list))
 }
 
 /// The routing to the new pool of these nodes.
 fn routing(alloc: Global, new: &[&[u8]]) -> Result<Routing, AllocError> {
     let old = pool(alloc, &[b"7001", b"7002"])?;
-    made(Routing::new(old, pool(alloc, new)?, NamedHash::Sum))
+    or_no_memory(Routing::new(old, pool(alloc, new)?, NamedHash::Sum))
 }
 
 /// The proxy of this number, whose new pool has these nodes.
 fn core_of(alloc: Global, number: u32, new: &[&[u8]]) -> Result<ProxyCore, AllocError>
     ensures { IfOk result IsFresh }
 {
-    let schedule = made(Schedule::new(1000, 100))?;
+    let schedule = or_no_memory(Schedule::new(1000, 100))?;
     Ok(ProxyCore::new(alloc, number, 0, routing(alloc, new)?, schedule, 8))
 }
 
 /// The same with a book, which keeps at most so many steps.
-fn recorded<C: Carrier>(
+fn recorded_proxy<C: Carrier>(
     alloc: Global,
     number: u32,
     new: &[&[u8]],
     limit: u64,
 ) -> Result<RecordedProxy<C>, AllocError> {
-    made(RecordedProxy::new(alloc, core_of(alloc, number, new)?, limit))
+    or_no_memory(RecordedProxy::new(alloc, core_of(alloc, number, new)?, limit))
 }
 
 /// The caches of both pools.
@@ -96,7 +96,7 @@ struct Nodes {
 fn caches(alloc: Global, count: usize) -> Result<Vec<SharedNode>, AllocError> {
     let mut caches = Vec::new(alloc);
     for _ in 0..count {
-        caches.push(SharedNode::new(made(CacheNode::new(alloc, 16))?))?;
+        caches.push(SharedNode::new(or_no_memory(CacheNode::new(alloc, 16))?))?;
     }
     Ok(caches)
 }

@@ -1,11 +1,13 @@
-//! What the tests of several crates are made of: values and texts, a reader of either stream, and a writer that fails in
-//! the middle of a piece. Nothing here asserts.
+//! What the tests of several crates are made of: values and texts, names of requests, a reader of either stream, and a
+//! writer that fails in the middle of a piece. Nothing here asserts.
 #![tactic(auto)]
 
 mod making;
+mod ops;
 mod reading;
 mod takes_half;
 
 pub use making::{add_repeated, first_cell, repeated_keys, reply_text, request_text};
+pub use ops::{FIRST, FOURTH, OTHER_FIRST, OTHER_SECOND, SECOND, THIRD};
 pub use reading::{Reader, Texts, add_answers, answers_in_two};
 pub use takes_half::TakesHalf;

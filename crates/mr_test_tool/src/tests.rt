@@ -1,6 +1,7 @@
-//! A module of tests for fleets that are played event by event, one for plans and scripts, and one for commands.
-mod commands;
+//! A module of tests for fleets that are played event by event, one for plans and scripts, and one for the commands of the
+//! program.
 mod plan;
+mod tool;
 mod world;
 
 use std::fmt::Debug;

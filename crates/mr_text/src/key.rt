@@ -7,6 +7,7 @@ ghost use Rattle.mr_text.specs.declared.error.TextError.TheVariants.{BadKey};
 use crate::error::TextError;
 use crate::limits::MAX_KEY;
 use std::alloc::{AllocError, Global};
+use std::hash::{Hash, Hasher};
 use std::marker::Model;
 
 /// The name of an item: 1 to 250 bytes without a space or a control character.
@@ -100,5 +101,38 @@ impl Key {
         ensures { IfOk result (λ key. key ≡ self.now) }
     {
         Key::of(*self.bytes.allocator(), self.as_bytes())
+    }
+}
+
+impl PartialEq for Key {
+    ghost use Rattle.std.specs.Str.{bytes_eq};
+    ghost use Rattle.std.proofs.Common.{rules};
+
+    ghost eq = { bytes_eq };
+
+    ghost laws = { Prim.search rules };
+
+    fn eq(&self, other: &Key) -> bool {
+        self.as_bytes() == other.as_bytes()
+    }
+}
+
+impl Eq for Key {
+    ghost use Rattle.std.proofs.Common.{rules};
+
+    ghost laws = { Prim.search rules };
+}
+
+impl Hash for Key {
+    ghost use Rattle.std.specs.Hash as fed;
+    ghost use Rattle.std.specs.Cmp.Rules.{comparing, hashing};
+    ghost use Rattle.std.proofs.Common.{rules};
+
+    ghost hash_input = { λ k. fed.slice fed.u8 k };
+
+    ghost respects_eq = { Prim.search (hashing, rules) };
+
+    fn hash<H: Hasher>(&self, state: &mut H) {
+        self.as_bytes().hash(state);
     }
 }

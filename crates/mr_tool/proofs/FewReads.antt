@@ -6,13 +6,11 @@ use Rattle.mr_words.proofs.WordLemmas.{one_said}
 use Rattle.mr_tool.specs.Devices.{Devices}
 use Rattle.mr_words.specs.Explain.{Told, told_by}
 use Rattle.mr_tool.specs.ExplainCommand.{ExplainGives}
-use Rattle.mr_tool.specs.FirstRequest.{most_reads}
-use Rattle.mr_tool.specs.Given.{IsGiven, IsNotGiven}
+use Rattle.mr_tool.specs.Input.{most_reads, IsGiven, IsNotGiven, FailsWhole, TakesWhole, most_taken}
 use Rattle.mr_tool.specs.GivenText.{Makes, PrintsOf, RefusalOfBytes}
 use Rattle.mr_tool.specs.PlanCommand.{PlanGives}
 use Rattle.mr_tool.specs.TimelineCommand.{TimelineGives}
 use Rattle.mr_tool.specs.Run.{EndsWith, Gives, ReadsFew, Runs, RunsCommand, most_reads_of, reads_without}
-use Rattle.mr_tool.specs.WholeInput.{FailsWhole, TakesWhole, most_taken}
 use Rattle.mr_words.specs.Words.{AgreesWith, path_in}
 use Rattle.mr_tool.specs.declared.ended.Ended.{Ended}
 use Rattle.mr_tool.specs.declared.ended.Ended.TheVariants.{Done, NotAccepted, Faulted}

@@ -1,7 +1,7 @@
 -- What the steps of a command that is given bytes say of the whole.
 use Rattle.std.proofs.Common.{◌≡◌, ℕ, List, Option, Some, None, Result, Ok, Err, IsErrAnd, refl, subst, sym, inl, inr}
 use Rattle.mr_tool.specs.Devices.{Devices}
-use Rattle.mr_tool.specs.Given.{IsGiven, IsNotGiven}
+use Rattle.mr_tool.specs.Input.{IsGiven, IsNotGiven}
 use Rattle.mr_tool.specs.GivenText.{Makes, PrintsOf, RefusalOfBytes}
 use Rattle.mr_tool.specs.RunCommand.{IsPlayFault, RunGives}
 use Rattle.mr_tool.specs.declared.ended.Ended.{Ended}

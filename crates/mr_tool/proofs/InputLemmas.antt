@@ -4,7 +4,7 @@ use Rattle.std.proofs.lemmas.List.{append_assoc, append-nil}
 use Rattle.std.specs.Io.KnownBytes.{Consumes}
 use Rattle.mr_text.specs.Source.{SourceView, AreOffered, least_with}
 use Rattle.mr_tool.specs.InputSteps.{AddsPiece, BringsInput}
-use Rattle.mr_tool.specs.WholeInput.{FailsWhole, Takes, TakesWhole, most_taken}
+use Rattle.mr_tool.specs.Input.{FailsWhole, Takes, TakesWhole, most_taken}
 use Rattle.mr_tool.specs.declared.fault.Fault.{Fault}
 use Rattle.mr_tool.specs.declared.fault.Fault.TheVariants.{Memory, Input, Output, File, Net, Plan, Node, Text}
 

@@ -11,7 +11,7 @@ use Rattle.mr_text.specs.declared.error.TextError.{TextError}
 use Rattle.mr_text.specs.declared.error.TextError.TheVariants.{LineTooLong, BadKey, BadNumber, WrongWords, DataTooLong, BadDataEnd, UnknownCommand, Truncated, Closed, OutOfMemory}
 use Rattle.mr_tool.specs.declared.fault.Fault.{Fault}
 use Rattle.mr_tool.specs.declared.fault.Fault.TheVariants.{Memory, Input, Output, File, Net, Plan, Node, Text}
-use Rattle.mr_tool.specs.FirstRequest.{HoldsNoRequest, Hold, IsNextOf, HasRead, Completes, ReadsRequest, most_reads}
+use Rattle.mr_tool.specs.Input.{HoldsNoRequest, Hold, IsNextOf, HasRead, Completes, ReadsRequest, most_reads}
 use Rattle.mr_text.proofs.ShortRequests.{nothing_unfinished, unfinished_short}
 
 pub next_refusal : (old new : ReaderView) (bytes : List ℕ) (refusal : TextError) → old.closed ≡ false → old.ended ≡ false

@@ -8,7 +8,7 @@ use Rattle.mr_tool.specs.declared.ended.Ended.{Ended}
 use Rattle.mr_tool.specs.declared.ended.Ended.TheVariants.{Done, NotAccepted, Faulted}
 use Rattle.mr_tool.specs.declared.fault.Fault.{Fault}
 use Rattle.mr_tool.specs.declared.fault.Fault.TheVariants.{Memory}
-use Rattle.mr_tool.specs.Given.{IsGiven}
+use Rattle.mr_tool.specs.Input.{IsGiven, LoadsConfig}
 use Rattle.mr_tool.specs.GivenText.{Makes, WritesText}
 use Rattle.mr_words.specs.declared.service_words.NodeValues.{NodeValues}
 use Rattle.mr_words.specs.declared.service_words.ProxyValues.{ProxyValues}
@@ -16,7 +16,6 @@ use Rattle.mr_words.specs.declared.words.PlanValues.{PlanValues}
 use Rattle.mr_words.specs.declared.words.TimelineValues.{TimelineValues}
 use Rattle.mr_words.specs.declared.words.Wanted.{Wanted}
 use Rattle.mr_words.specs.declared.words.Wanted.TheVariants as wanted
-use Rattle.mr_tool.specs.ConfigFile.{LoadsConfig}
 use Rattle.mr_tool.specs.Devices.{Devices, devices, IsToldAtOnce, Tells, NoneFailed}
 use Rattle.mr_words.specs.Explain.{Told, told_by}
 use Rattle.mr_tool.specs.ExplainCommand.{WritesExplanation}

@@ -4,7 +4,7 @@ use Rattle.mr_text.specs.Sink.{IsOneWrite}
 use Rattle.mr_text.specs.declared.error.WriteFault.{WriteFault}
 use Rattle.mr_configs.specs.declared.error.PlanError.{PlanError}
 use Rattle.mr_tool.specs.Devices.{Devices}
-use Rattle.mr_tool.specs.Given.{IsGiven, IsNotGiven}
+use Rattle.mr_tool.specs.Input.{IsGiven, IsNotGiven}
 use Rattle.mr_tool.specs.declared.ended.Ended.{Ended}
 use Rattle.mr_tool.specs.declared.fault.Fault.{Fault}
 use Rattle.mr_tool.specs.declared.fault.Fault.TheVariants.{Memory, Input, Output, File, Net, Plan, Node, Text}

@@ -2,7 +2,7 @@
 use Rattle.std.specs.Io.KnownBytes.{Consumes, IsAtEnd}
 use Rattle.std.specs.Prelude.{◌≡◌, ℕ, ◌+◌, ◌-◌, ◌<◌, ◌≤◌, min, Bool, true, false, List, [], ◌++◌, length, Result, Ok, Err}
 use Rattle.mr_text.specs.Source.{SourceView, least_with}
-use Rattle.mr_tool.specs.WholeInput.{most_taken, piece_length}
+use Rattle.mr_tool.specs.Input.{most_taken, piece_length}
 use Rattle.mr_tool.specs.declared.fault.Fault.{Fault}
 use Rattle.mr_tool.specs.declared.fault.Fault.TheVariants.{Memory, Input}
 

@@ -1,12 +1,10 @@
 pub mod CheckCommand
 pub mod CheckText
-pub mod ConfigFile
 pub mod Devices
 pub mod ExplainCommand
 pub mod Fault
-pub mod FirstRequest
-pub mod Given
 pub mod GivenText
+pub mod Input
 pub mod InputSteps
 pub mod PlanCommand
 pub mod PlanText
@@ -18,4 +16,3 @@ pub mod Services
 pub mod Sources
 pub mod TimelineCommand
 pub mod TimelineText
-pub mod WholeInput

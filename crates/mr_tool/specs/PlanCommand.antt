@@ -5,9 +5,8 @@ use Rattle.mr_text.specs.declared.error.WriteFault.{WriteFault}
 use Rattle.mr_text.specs.declared.request.Request.{Request}
 use Rattle.mr_configs.specs.Config.{ConfigView}
 use Rattle.mr_configs.specs.Plan.{plan_of}
-use Rattle.mr_tool.specs.ConfigFile.{LoadsConfig}
+use Rattle.mr_tool.specs.Input.{LoadsConfig, ReadsRequest}
 use Rattle.mr_tool.specs.Devices.{Devices}
-use Rattle.mr_tool.specs.FirstRequest.{ReadsRequest}
 use Rattle.mr_tool.specs.PlanText.{plan_text}
 use Rattle.mr_tool.specs.declared.ended.Ended.{Ended}
 use Rattle.mr_tool.specs.declared.ended.Ended.TheVariants.{Done, NotAccepted, Faulted}

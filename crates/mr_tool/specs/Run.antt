@@ -5,12 +5,11 @@ use Rattle.mr_tool.specs.Devices.{Devices, Tells}
 use Rattle.mr_words.specs.Explain.{told_by}
 use Rattle.mr_tool.specs.ExplainCommand.{ExplainGives}
 use Rattle.mr_tool.specs.Fault.{fault_line, readings_line}
-use Rattle.mr_tool.specs.FirstRequest.{most_reads}
+use Rattle.mr_tool.specs.Input.{most_reads, most_taken}
 use Rattle.mr_tool.specs.PlanCommand.{PlanGives}
 use Rattle.mr_tool.specs.RunCommand.{RunGives}
 use Rattle.mr_tool.specs.Services.{NodeGives, ProxyGives}
 use Rattle.mr_tool.specs.TimelineCommand.{TimelineGives}
-use Rattle.mr_tool.specs.WholeInput.{most_taken}
 use Rattle.mr_words.specs.Words.{Say, SayBadReadings, SayNothing, path_in}
 use Rattle.mr_tool.specs.declared.ended.Ended.{Ended}
 use Rattle.mr_tool.specs.declared.ended.Ended.TheVariants.{Done, NotAccepted, Faulted}

@@ -7,7 +7,7 @@ use Rattle.mr_sockets.specs.Servers.{Asked, NodeAt, ProxyAt, ServersView, IsOneS
 use Rattle.mr_sockets.specs.declared.fault.OpenFault.{OpenFault}
 use Rattle.mr_text.specs.Sink.{SinkView, IsOneWrite}
 use Rattle.mr_text.specs.declared.error.WriteFault.{WriteFault}
-use Rattle.mr_tool.specs.ConfigFile.{LoadsConfig}
+use Rattle.mr_tool.specs.Input.{LoadsConfig}
 use Rattle.mr_tool.specs.Devices.{Devices}
 use Rattle.mr_tool.specs.Fault.{net_line}
 use Rattle.mr_tool.specs.PlanCommand.{LacksConfig}

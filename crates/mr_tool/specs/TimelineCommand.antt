@@ -3,7 +3,7 @@ use Rattle.std.specs.Prelude.{◌≡◌, ◌⊎◌, Result, Ok, Err}
 use Rattle.mr_text.specs.Sink.{IsOneWrite}
 use Rattle.mr_text.specs.declared.error.WriteFault.{WriteFault}
 use Rattle.mr_configs.specs.Config.{ConfigView}
-use Rattle.mr_tool.specs.ConfigFile.{LoadsConfig}
+use Rattle.mr_tool.specs.Input.{LoadsConfig}
 use Rattle.mr_tool.specs.Devices.{Devices}
 use Rattle.mr_tool.specs.PlanCommand.{LacksConfig}
 use Rattle.mr_tool.specs.TimelineText.{timeline_text}

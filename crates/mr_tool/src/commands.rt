@@ -12,12 +12,10 @@ ghost use Rattle.mr_tool.specs.Sources.{SourcesView};
 ghost use Rattle.mr_tool.specs.TimelineCommand.{TimelineGives};
 
 use crate::check_text::{end_of, write_check};
-use crate::config_file::load_config;
 use crate::ended::Ended;
 use crate::explain::write_explanation;
 use crate::fault::Fault;
-use crate::first_request::first_request;
-use crate::given::given_bytes;
+use crate::input::{first_request, given_bytes, load_config};
 use crate::plan::write_plan;
 use crate::printing::{PrintFault, write_at_once};
 use crate::script_text::text_of_play;

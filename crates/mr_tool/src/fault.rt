@@ -3,7 +3,7 @@ ghost use Rattle.std.specs.Prelude.{◌≡◌};
 
 use mr_configs::PlanError;
 use mr_node::NodeError;
-use mr_text::{Sink, TextError};
+use mr_text::{ReadFault, Sink, TextError};
 use mr_words::{node_line, plan_line, text_line};
 use thiserror::Error;
 
@@ -61,5 +61,16 @@ impl Fault {
         ensures { IsToldAtOnce (fault_line self.now) (F.told faults.old) (F.told faults.new) }
     {
         let _ = faults.write_all(self.line().as_bytes());
+    }
+}
+
+impl From<ReadFault> for Fault {
+    ghost use Rattle.std.specs.Prelude.{◌≡◌};
+    ghost use Rattle.mr_tool.specs.declared.fault.Fault.TheVariants.{Input};
+
+    ghost from_gives = { λ _ fault. fault ≡ Input };
+
+    fn from(_fault: ReadFault) -> Fault {
+        Fault::Input
     }
 }

@@ -1,19 +1,17 @@
 //! The commands of the program `migctl`, over the files, the input and the outputs that it is handed: from its arguments
-//! (`run_arguments`) or its words (`run_words`) to its status.
+//! (`run_arguments`) or its words (`run_words`) to its status. Beside them what they are made of, where it stands alone: the
+//! words (`read_words`), the printing of a plan (`write_plan`), and the service of a listener's connections (`serve_node`,
+//! `serve_proxy`, `SocketCarrier`).
 #![tactic(auto)]
 
 mod arguments;
 mod check_text;
 mod commands;
-mod config_file;
 mod ended;
 mod explain;
 mod fault;
-mod first_request;
-mod given;
-mod host_files;
+mod input;
 mod line;
-mod loading;
 mod plan;
 mod printing;
 mod run;
@@ -21,10 +19,14 @@ mod script_text;
 mod services;
 mod sources;
 mod timeline;
-mod whole_input;
 
 pub use arguments::run_arguments;
-pub use config_file::MOST_CONFIG_BYTES;
-pub use host_files::HostFiles;
+pub use input::MOST_CONFIG_BYTES;
+pub use mr_sockets::{SocketCarrier, serve_node, serve_proxy};
+pub use mr_words::{
+    NodeValues, PlanValues, ProxyValues, TimelineValues, Wanted, WordsFault, read_words,
+};
+pub use plan::write_plan;
+pub use printing::PrintFault;
 pub use run::{DONE, FAULT, NOT_ACCEPTED, WRONG_WORDS, run_words};
-pub use sources::{LoadFault, MOST_LOADED, Sources};
+pub use sources::{HostFiles, LoadFault, MOST_LOADED, Sources};

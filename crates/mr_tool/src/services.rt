@@ -8,9 +8,9 @@ ghost use Rattle.mr_tool.specs.Fault.{IsNetFault};
 ghost use Rattle.mr_tool.specs.Services.{served_line, EndsService, NodeGives, ProxyGives};
 ghost use Rattle.mr_tool.specs.Sources.{SourcesView};
 
-use crate::config_file::load_config;
 use crate::ended::Ended;
 use crate::fault::Fault;
+use crate::input::load_config;
 use crate::line::push_number;
 use crate::printing::{PrintFault, write_at_once};
 use crate::sources::Sources;
@@ -26,7 +26,7 @@ use std::thread::Threads;
 use std::time;
 
 /// The fault of an address at which no socket can be opened.
-fn unopened(alloc: Global, address: &str) -> Fault
+fn net_fault(alloc: Global, address: &str) -> Fault
     ensures { IsNetFault address.now result }
 {
     match format!(in alloc; "migctl: net {address}\n") {
@@ -58,7 +58,7 @@ fn end_service<O: Sink>(
 {
     let served = match served {
         Ok(served) => served,
-        Err(OpenFault::Net) => return Err(unopened(alloc, listen)),
+        Err(OpenFault::Net) => return Err(net_fault(alloc, listen)),
     };
     let Ok(line) = line_of(alloc, served) else {
         return Err(Fault::Memory);

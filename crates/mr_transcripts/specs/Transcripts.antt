@@ -26,12 +26,12 @@ outcome_check value =
     Ok tt
 
 -- what a transcript says was played, or the first of the refusals
-abbrev pub played_in : Data → Result ScriptParts PlanError
-played_in value = object_check transcript_keys value >>= λ _. outcome_check value >>= λ _. script_in value
+abbrev pub played_parts : Data → Result ScriptParts PlanError
+played_parts value = object_check transcript_keys value >>= λ _. outcome_check value >>= λ _. script_in value
 
 -- why the value is no transcript: its first refusal, or want of memory where it has none
 abbrev pub RefusesPlayed : Data → PlanError → Type 0
-RefusesPlayed value refusal = (played_in value ≡ Err refusal) ⊎ ((refusal ≡ OutOfMemory) × ((parts : ScriptParts) × (played_in value ≡ Ok parts)))
+RefusesPlayed value refusal = (played_parts value ≡ Err refusal) ⊎ ((refusal ≡ OutOfMemory) × ((parts : ScriptParts) × (played_parts value ≡ Ok parts)))
 
 -- The bytes are a transcript, and this is what comes of holding it against a play of its own events. What is accepted is
 -- vouched for.
@@ -40,7 +40,7 @@ pub record IsCheckOf (bytes : List ℕ) (checked : Checked) : Type 0 where
   pub parts : ScriptParts
   pub fits : length bytes ≤ most_bytes
   pub is_json : IsJson bytes value
-  pub played : played_in value ≡ Ok parts
+  pub played : played_parts value ≡ Ok parts
   pub checks : IsChecked value parts.setup parts.events checked
   pub vouched : checked.outcome ≡ Accepted → IsVouchedFor value parts.setup parts.events
 

@@ -5,7 +5,7 @@ ghost use Rattle.mr_world.specs.Premises.{premises_of};
 ghost use Rattle.mr_world.specs.Setup.{CanBeMade};
 ghost use Rattle.mr_transcripts.specs.Check.{tells, all_hold, is_safe, outcome_of_play, IsChecked, IsVouchedFor};
 ghost use Rattle.mr_scripts.specs.Script.{IsPlayable};
-ghost use Rattle.mr_transcripts.specs.Transcripts.{outcome_check, played_in, RefusesPlayed, IsCheckOf, RefusesCheck};
+ghost use Rattle.mr_transcripts.specs.Transcripts.{outcome_check, played_parts, RefusesPlayed, IsCheckOf, RefusesCheck};
 ghost use Rattle.mr_configs.specs.declared.error.PlanError.TheVariants.{OutOfMemory};
 
 use crate::play::play_events;
@@ -110,7 +110,7 @@ fn outcome_of_play(
 }
 
 /// Plays a transcript's events on its setup, and holds the rest of it against the play.
-fn held_against_play(
+fn compare_with_play(
     alloc: Global,
     transcript: &Value,
     setup: Setup,
@@ -149,7 +149,7 @@ pub(crate) fn check_play(
     ensures vouched { IfOk result (λ checked. checked.outcome ≡ Outcome.Accepted → IsVouchedFor (view transcript.now) setup events.items) }
     ensures refused { IfErr result (λ e. e ≡ OutOfMemory) }
 {
-    held_against_play(alloc, transcript, setup, events)
+    compare_with_play(alloc, transcript, setup, events)
 }
 
 /// The keys of a transcript.
@@ -169,8 +169,8 @@ fn check_outcome(value: &Value) -> Result<(), PlanError>
 }
 
 /// What a transcript says was played.
-fn played_in(alloc: Global, value: &Value) -> Result<(Setup, Vec<Event>), PlanError>
-    ensures played { IfOk result (λ parts. played_in (view value.now) ≡ Ok (record { setup = parts.0; events = parts.1.items })) }
+fn played_parts(alloc: Global, value: &Value) -> Result<(Setup, Vec<Event>), PlanError>
+    ensures played { IfOk result (λ parts. played_parts (view value.now) ≡ Ok (record { setup = parts.0; events = parts.1.items })) }
     ensures playable { IfOk result (λ parts. IsPlayable parts.0) }
     ensures refused { IfErr result (RefusesPlayed (view value.now)) }
 {
@@ -190,6 +190,6 @@ pub fn check_transcript(alloc: Global, bytes: &[u8]) -> Result<Checked, PlanErro
         return Err(PlanError::TooLarge);
     }
     let value = json_of(alloc, bytes)?;
-    let (setup, events) = played_in(alloc, &value)?;
+    let (setup, events) = played_parts(alloc, &value)?;
     check_play(alloc, &value, setup, events)
 }

@@ -14,6 +14,7 @@ use Rattle.mr_history.specs.History.{IsIssued, IsFreshHit, IsSafe, IsWellFormed}
 use Rattle.mr_history.specs.Places.{At}
 use Rattle.mr_node.specs.CacheStep.{Holds, contents_of}
 use Rattle.mr_node.specs.Command.{key_of_command}
+use Rattle.mr_node.specs.Output.{is_silent}
 use Rattle.mr_phases.specs.Pools.{read_pool, delete_pools, SomeFrom}
 use Rattle.mr_phases.specs.Schedule.{Hop, IsChain, first_start, first_interval}
 use Rattle.mr_pools.specs.Names.{name_at}
@@ -39,7 +40,7 @@ use Rattle.mr_world.specs.Headline.{AllHold, DeletesHold, StandsOnGround}
 use Rattle.mr_world.specs.Lists.{Has}
 use Rattle.mr_world.specs.Positions.{node_number}
 use Rattle.mr_world.specs.Premises.{premises_of, ticks_in}
-use Rattle.mr_world.specs.Steps.{is_noreply, answered, answered_by, Ticks, Issues, ClientAsks, Delivers, Returns, GivesUp, Empties, Restarts, WorldStep}
+use Rattle.mr_world.specs.Steps.{answered, answered_by, Ticks, Issues, ClientAsks, Delivers, Returns, GivesUp, Empties, Restarts, WorldStep}
 use Rattle.mr_world.specs.Tracked.{IsTracked}
 use Rattle.mr_world.specs.WorldView.{WorldView}
 use Rattle.mr_world.proofs.Lists.{at_one, at_set, at_there, at_left, at_within, has_one, has_none}
@@ -61,7 +62,7 @@ answers_if answer true = none
 answers_if answer false = one answer.op (reply_of answer)
 
 answers_only : (answer : AnswerView) → AnswersOnly (answered answer)
-answers_only answer = answers_if answer (is_noreply answer.request)
+answers_only answer = answers_if answer (is_silent answer.request)
 
 taken_answers_only : (t : Taken) → AnswersOnly (answered_by t)
 taken_answers_only taken.Waiting = none

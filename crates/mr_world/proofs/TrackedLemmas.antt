@@ -29,6 +29,7 @@ use Rattle.mr_proxy.specs.Issue.{next_op, used_reading, sheets_of, pending_of, a
 use Rattle.mr_proxy.specs.Sheets.{sheets_by}
 use Rattle.mr_phases.specs.Pools.{pool_number}
 use Rattle.mr_node.specs.Command.{key_of_command}
+use Rattle.mr_node.specs.Output.{is_silent}
 use Rattle.mr_proxy.specs.Pending.{PendingView}
 use Rattle.mr_proxy.specs.ProxyView.{ProxyView}
 use Rattle.mr_proxy.specs.Sheets.{pool_at, IsSheetOf}
@@ -42,7 +43,7 @@ use Rattle.mr_world.specs.declared.message.Delivery.{Delivery}
 use Rattle.mr_world.specs.declared.node.Node.{Node}
 use Rattle.mr_world.specs.declared.note.Note.{Note}
 use Rattle.mr_world.specs.Lists.{Has}
-use Rattle.mr_world.specs.Steps.{message_of, performed, is_noreply, answered, answered_by, Ticks, Issues, ClientAsks, Delivers, Returns, GivesUp, Empties, Restarts, WorldStep}
+use Rattle.mr_world.specs.Steps.{message_of, performed, answered, answered_by, Ticks, Issues, ClientAsks, Delivers, Returns, GivesUp, Empties, Restarts, WorldStep}
 use Rattle.mr_world.specs.Positions.{node_number}
 use Rattle.mr_world.specs.Tracked.{GoesWhereNamed, IsAtHome, IsUnanswered, IsWaiting, IsSent, IsGivenOut, IsTracked}
 use Rattle.mr_world.specs.WorldView.{WorldView}
@@ -128,11 +129,11 @@ answered_one_if answer true e h = has_none h
 answered_one_if answer false e h = has_one h
 
 pub answered_one : (answer : AnswerView) (e : Entry) → Has (answered answer) e → e ≡ entry.Answered answer.op (reply_of answer)
-answered_one answer e h = answered_one_if answer (is_noreply answer.request) e h
+answered_one answer e h = answered_one_if answer (is_silent answer.request) e h
 
 pub answered_quiet : (H : List Entry) (answer : AnswerView) → IsUnanswered H answer.op → IsQuiet H (answered answer)
 answered_quiet H answer un = record {
-  fitting = answered_fits_if H answer (is_noreply answer.request) un;
+  fitting = answered_fits_if H answer (is_silent answer.request) un;
   no_issue = λ op proxy q h. let e = answered_one answer _ h in cc;
 }
 

@@ -1,5 +1,5 @@
 -- What each event does to a fleet: a record for each kind.
-use Rattle.std.specs.Prelude.{◌≡◌, ◌≢◌, ℕ, ◌-◌, ◌^◌, ◌<◌, Bool, false, List, [], ◌∷◌, ◌++◌, length, map, slice_set, Some, None, if◌then◌else◌}
+use Rattle.std.specs.Prelude.{◌≡◌, ◌≢◌, ℕ, ◌-◌, ◌^◌, ◌<◌, List, [], ◌∷◌, ◌++◌, length, map, slice_set, Some, None, if◌then◌else◌}
 use Rattle.mr_text.specs.declared.request.Request.{Request}
 use Rattle.mr_text.specs.declared.request.Request.TheVariants as request
 use Rattle.mr_clock.specs.Readings.{readings_after}
@@ -13,6 +13,7 @@ use Rattle.mr_pools.specs.Names.{name_at}
 use Rattle.mr_pools.specs.Routing.{RoutingView}
 use Rattle.mr_node.specs.declared.command.NodeCommand.{NodeCommand}
 use Rattle.mr_node.specs.declared.command.NodeCommand.TheVariants.{Get, Set, Delete}
+use Rattle.mr_node.specs.Output.{is_silent}
 use Rattle.mr_node.specs.Recency.{CacheView, RecencyStep}
 use Rattle.mr_proxy.specs.declared.sheet.LegSheet.{LegSheet}
 use Rattle.mr_proxy.specs.declared.taken.Taken.{Taken}
@@ -93,16 +94,9 @@ pub record Delivers (old : WorldView) (number now : ℕ) (note : Note) (new : Wo
         history = old.history ++ performed message.sheet message.sheet.command;
       }
 
--- the client wants no answer
-abbrev pub is_noreply : Request → Bool
-is_noreply (request.Get keys) = false
-is_noreply (request.Set key flags exptime block noreply) = noreply
-is_noreply (request.Delete key noreply) = noreply
-is_noreply request.Quit = false
-
--- what the history gains when a request is answered
+-- what the history gains when a request is answered: its answer, unless the client wants none
 abbrev pub answered : AnswerView → List Entry
-answered answer = if is_noreply answer.request then [] else entry.Answered answer.op (reply_of answer) ∷ []
+answered answer = if is_silent answer.request then [] else entry.Answered answer.op (reply_of answer) ∷ []
 
 -- what it gains when a reply comes back
 abbrev pub answered_by : Taken → List Entry

@@ -86,7 +86,7 @@ fn both_sides_are_joined_in_either_order(rt: HostRuntime) {
 }
 
 /// The reply that is handed back where another of the same side came before.
-fn handed_back() -> Option<LegReply> {
+fn reply_handed_back() -> Option<LegReply> {
     let joining = Joining::two().take(Side::Old, LegReply::Deleted);
     match joining.take(Side::Old, LegReply::NotFound) {
         Ok(_) => None,
@@ -99,7 +99,7 @@ fn a_side_that_is_not_awaited_is_handed_back(rt: HostRuntime) {
     says(
         &rt,
         0,
-        handed_back().as_ref().map_or("taken twice", word_of),
+        reply_handed_back().as_ref().map_or("taken twice", word_of),
         "NOT_FOUND",
     );
 }

@@ -1,5 +1,5 @@
 //! What nodes answer, in few words.
-use super::{must, repeated};
+use super::{equal_bytes, must};
 use mr_join::LegReply;
 use mr_text::{Block, Cause};
 use std::alloc::Global;
@@ -20,7 +20,7 @@ pub enum Came {
 
 /// Data of so many equal bytes.
 fn block(rt: &impl Abort, alloc: Global, byte: u8, count: usize) -> Block {
-    must(rt, Block::new(alloc, &repeated(rt, alloc, byte, count)))
+    must(rt, Block::new(alloc, &equal_bytes(rt, alloc, byte, count)))
 }
 
 /// The reply that this is.

@@ -218,7 +218,7 @@ fn differ_in_hash(rt: &impl Abort, sum: &Routing, fnv: &Routing) {
 }
 
 /// A routing of copies of the same pools by the other hash.
-fn hashed_otherwise(rt: &impl Abort, sum: &Routing) -> Routing {
+fn routing_by_fnv(rt: &impl Abort, sum: &Routing) -> Routing {
     let old = must(rt, sum.old_pool().copy());
     let new = must(rt, sum.new_pool().copy());
     must(rt, Routing::new(old, new, NamedHash::Fnv))
@@ -228,7 +228,7 @@ fn hashed_otherwise(rt: &impl Abort, sum: &Routing) -> Routing {
 fn copies_are_equal(rt: HostRuntime) {
     let routing = routing(&rt, rt.alloc(), NamedHash::Sum);
     is_copy(&rt, &routing, &must(&rt, routing.copy()));
-    differ_in_hash(&rt, &routing, &hashed_otherwise(&rt, &routing));
+    differ_in_hash(&rt, &routing, &routing_by_fnv(&rt, &routing));
 }
 
 #[test]

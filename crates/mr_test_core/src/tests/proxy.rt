@@ -9,7 +9,7 @@ ghost use Rattle.std.specs.Prelude.{◌≢◌};
 ghost use Rattle.mr_text.specs.declared.request.Request.{Request};
 
 use super::leg_replies::{Came, reply_of};
-use super::{Rule, are, count_is, holds, is, leaves, number_is, routing, says, spelled};
+use super::{Rule, are, bytes_of_rule, count_is, holds, is, leaves, number_is, routing, says};
 use crate::tests::must;
 use mr_history::OpId;
 use mr_phases::Schedule;
@@ -100,7 +100,7 @@ fn issue(
 }
 
 /// The answer to a request, once these replies came; it is given up where they leave a leg open.
-fn answered(
+fn answer_after(
     rt: &impl Abort,
     alloc: Global,
     core: &mut ProxyCore,
@@ -126,5 +126,5 @@ fn answer_to(
 ) -> Answer {
     let mut core = core_of(rt, alloc, 0, 4);
     let op = issue(rt, alloc, &mut core, reading, asked).op;
-    answered(rt, alloc, &mut core, op, replies)
+    answer_after(rt, alloc, &mut core, op, replies)
 }

@@ -5,7 +5,7 @@ mod slow_reader;
 mod values;
 mod writer;
 
-use super::{Rule, are, count_is, holds, is, leaves, must, repeated, spelled};
+use super::{Rule, are, bytes_of_rule, count_is, equal_bytes, holds, is, leaves, must};
 use mr_text::{Block, Item, Key};
 use std::alloc::Global;
 use std::process::Abort;

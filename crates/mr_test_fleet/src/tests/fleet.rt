@@ -3,7 +3,7 @@
 mod at_once;
 mod phases;
 
-use super::{is, is_at, must, recorded};
+use super::{is, is_at, must, recorded_proxy};
 use mr_clock::Clock;
 use mr_desks::{Carrier, Closed, Gate, Share};
 use mr_fleet::{FleetClient, FleetEnd, FleetProxy, run_fleet};
@@ -27,7 +27,7 @@ fn proxy_of<C: Carrier, K: Clock, S: Source, W: Sink>(
     carriers: Vec<Vec<C>>,
 ) -> FleetProxy<C, K, S, W> {
     FleetProxy {
-        desk: must(rt, recorded(alloc, number, &NEW, 100_000)),
+        desk: must(rt, recorded_proxy(alloc, number, &NEW, 100_000)),
         clients,
         carriers,
     }

@@ -14,13 +14,13 @@ use mr_pools::{NamedHash, NodeName, Pool, Routing};
 use mr_proxy::ProxyCore;
 use mr_sockets::{OverListener, SocketCarrier, serve_node, serve_proxy};
 use std::alloc::Global;
-use std::io;
 use std::io::{Read, Write};
 use std::net::{Net, OpenStream, Shutdown, SocketAddr, TcpListener, TcpStream};
 use std::process::Abort;
 use std::sync::Wait;
 use std::thread::Threads;
 use std::time::Clock;
+use std::{io, thread};
 
 /// How many reads each connection is allowed.
 const TURNS: u64 = 1_000_000;
@@ -122,7 +122,7 @@ fn proxy_serves<
 }
 
 /// A connection to this address, without delay of small packets.
-fn connected<N: Net>(net: &N, address: SocketAddr) -> io::Result<N::Stream> {
+fn connect<N: Net>(net: &N, address: SocketAddr) -> io::Result<N::Stream> {
     let stream = TcpStream::connect(net, address)?;
     stream.set_nodelay(true)?;
     Ok(stream)
@@ -135,11 +135,26 @@ fn answers<N: Net>(
     address: SocketAddr,
     pieces: &[&[u8]],
 ) -> io::Result<Vec<u8>> {
-    let mut stream = connected(net, address)?;
+    let mut stream = connect(net, address)?;
     for piece in pieces {
         stream.write_all(piece)?;
     }
     rest_of(alloc, stream)
+}
+
+/// A service, and at the same time a client that sends these pieces to this address: what the service gives, and what is
+/// answered to the client.
+fn play_client<N: Net + Sync, T: Send, S: FnOnce() -> T + Send, R: Threads>(
+    rt: &R,
+    net: &N,
+    alloc: Global,
+    serve: S,
+    address: SocketAddr,
+    pieces: &[&[u8]],
+) -> (T, io::Result<Vec<u8>>)
+    requires { S.pre serve }
+{
+    thread::join(rt, serve, move || answers(net, alloc, address, pieces))
 }
 
 /// What is answered to the end of a connection, over which no more is sent.

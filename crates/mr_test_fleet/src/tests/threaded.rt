@@ -1,10 +1,11 @@
-//! A module of tests for each crate, and requests and legs that several of them are made of.
+//! A module of tests for desks, for links, for links of a fleet, and for sessions, and requests and legs that several of them
+//! are made of.
 mod broken;
+mod desks;
 mod devices;
 mod link_carriers;
 mod links;
 mod sessions;
-mod workers;
 
 ghost use Rattle.std.specs.Prelude.{◌≢◌};
 ghost use Rattle.mr_text.specs.declared.request.Request.{Request};

@@ -15,7 +15,7 @@ fn is_for<T: PartialEq + Debug + Drop>(rt: &impl Abort, value: T, wanted: T, cas
 }
 
 /// The text with another part in the place of one that has to stand in it.
-fn changed(
+fn replace_part(
     rt: &impl Abort,
     alloc: Global,
     text: &str,

@@ -1,8 +1,7 @@
 //! Requests that clients send to proxies.
-ghost use Rattle.std.specs.Prelude.{◌≡◌, ◌≢◌, ◌+◌, ◌≤◌, ◌++◌, length, map, slice_get, Some, None, All, IfOk, IfErr, OnOk, OnErr, MatchOption, vec_len, vec_capacity};
+ghost use Rattle.std.specs.Prelude.{◌≡◌, ◌≢◌, ◌+◌, ◌≤◌, ◌++◌, length, map, slice_get, Some, None, All, IfOk, IfErr, OnOk, MatchOption, vec_len, vec_capacity};
 ghost use Rattle.mr_text.specs.declared.request.Request.{Request};
-ghost use Rattle.mr_proxy.specs.Issue.{next_op, sheets_of, refusal_of, after_issue};
-ghost use Rattle.mr_proxy.specs.Sheets.{IsPlaced};
+ghost use Rattle.mr_proxy.specs.Issue.{sheets_of, refusal_of};
 ghost use Rattle.mr_world.specs.declared.error.WorldError.TheVariants.{IssueRefused, OutOfMemory};
 ghost use Rattle.mr_world.specs.declared.event.Event.TheVariants.{Client};
 ghost use Rattle.mr_world.specs.Network.{IsReady, DoesEvent, HasNumber, message_by};
@@ -14,10 +13,9 @@ use crate::note::Note;
 use crate::numbers::NodeNumbers;
 use mr_history::{Entry, History};
 use mr_proxy::laws::next_op_is_new;
-use mr_proxy::{Issued, Leg, ProxyCore};
+use mr_proxy::{Issued, Leg, ProxyCore, issue_copy};
 use mr_text::Request;
 use mr_text::laws::request_is_valid;
-use std::alloc::AllocError;
 
 /// Sends legs for which there is room.
 fn send(sent: &mut Vec<Message>, numbers: &NodeNumbers, legs: Vec<Leg>)
@@ -58,24 +56,6 @@ fn make_room(
     Ok(count)
 }
 
-/// The proxy accepts a copy of a request that it doesn't refuse.
-fn accept(proxy: &mut ProxyCore, reading: u64, request: &Request) -> Result<Issued, AllocError>
-    requires { request.now ≢ Request.Quit }
-    ensures state { OnOk result (proxy.new ≡ after_issue proxy.old reading request.now) }
-    ensures op { IfOk result (λ issued. issued.op ≡ next_op proxy.old) }
-    ensures legs { IfOk result (λ issued. issued.legs.items ≡ sheets_of proxy.old reading request.now) }
-    ensures nodes { IfOk result (λ issued. All (IsPlaced proxy.old.routing) issued.legs.items) }
-    ensures unchanged { OnErr result (proxy.new ≡ proxy.old) }
-{
-    match proxy.issue(reading, request.copy()?) {
-        Ok(issued) => Ok(issued),
-        Err(back) => {
-            drop(back);
-            Err(AllocError)
-        }
-    }
-}
-
 impl Network {
     /// A client sends a request. A quit does nothing.
     pub(crate) fn ask(&mut self, number: u32, request: Request) -> Result<Note, WorldError>
@@ -103,7 +83,7 @@ impl Network {
         let place = number as usize;
         let proxy = &mut self.proxies[place];
         let count = make_room(&mut self.sent, &mut self.history, proxy, reading, &request)?;
-        let Ok(issued) = accept(proxy, reading, &request) else {
+        let Some(issued) = issue_copy(proxy, reading, &request) else {
             drop(request);
             return Err(WorldError::OutOfMemory);
         };

@@ -12,7 +12,7 @@ ghost use Rattle.mr_world.specs.Tracked.{numbers_of};
 
 use crate::error::WorldError;
 use crate::network::Network;
-use crate::node::{Node, find_node, node_number};
+use crate::node::{Node, find_node, number_of};
 use crate::numbers::NodeNumbers;
 use crate::setup::{HeldItem, ProxySetup, Setup};
 use crate::terms::{Terms, has_node};

@@ -4,25 +4,15 @@ ghost use Rattle.mr_proxy.specs.Answer.{AnswerView};
 ghost use Rattle.mr_proxy.specs.declared.taken.Taken.{Taken};
 ghost use Rattle.mr_world.specs.declared.event.Event.TheVariants.{Return, GiveUp};
 ghost use Rattle.mr_world.specs.Network.{IsReady, DoesEvent};
-ghost use Rattle.mr_world.specs.Steps.{answered, answered_by, note_of, is_noreply};
+ghost use Rattle.mr_world.specs.Steps.{answered, answered_by, note_of};
 ghost use Rattle.mr_world.specs.Tracked.{IsUnanswered};
 
 use crate::error::WorldError;
 use crate::network::Network;
 use crate::note::Note;
 use mr_history::{Entry, History, OpId};
+use mr_node::session::is_silent;
 use mr_proxy::{Answer, Taken};
-use mr_text::Request;
-
-/// Whether the client wants no answer.
-fn is_noreply(request: &Request) -> bool
-    ensures { result ≡ is_noreply request.now }
-{
-    match request {
-        Request::Set { noreply, .. } | Request::Delete { noreply, .. } => *noreply,
-        Request::Get { .. } | Request::Quit => false,
-    }
-}
 
 /// Appends an answer, unless the client wants none.
 fn tell(history: &mut History, answer: Answer)
@@ -30,7 +20,7 @@ fn tell(history: &mut History, answer: Answer)
     requires spare { 1 ≤ history.old.spare }
     ensures { history.new.entries ≡ history.old.entries ++ answered answer }
 {
-    if !is_noreply(answer.request()) {
+    if !is_silent(answer.request()) {
         let op = answer.op();
         let reply = answer.into_reply();
         history.push(Entry::Answered { op, reply });

@@ -13,14 +13,14 @@ reply-preserved g c =
     let next : NextIs c.reply.replies.kept (Ok None) c.next_reply.new.replies =
     subst (λ (o : Option Reply). NextIs c.reply.replies.kept (Ok o) c.next_reply.new.replies) c.in_default.is c.in_ok-reply.ensures in
     fed c.args.turns c.args.replies.now.kept (g.S.Source.told c.args.reader.now) c.reply.turns_left c.reply.replies (g.S.Source.told c.reply.reader)
-    c.reply.invariant (c.reply.turns_left - 1) (omega arith) c.next_reply.new.replies next c.read_piece.new.replies (g.S.Source.told c.read_piece.new.reader)
-    c.in_ok-read_piece.ensures
+    c.reply.invariant (c.reply.turns_left - 1) (omega arith) c.next_reply.new.replies next c.feed_replies.new.replies (g.S.Source.told c.feed_replies.new.reader)
+    c.in_ok-feed_replies.ensures
 
-pub returns-in_err-read_piece : goal.returns-in_err-read_piece
-returns-in_err-read_piece g c =
+pub returns-in_err-feed_replies : goal.returns-in_err-feed_replies
+returns-in_err-feed_replies g c =
     let next : NextIs c.reply.replies.kept (Ok None) c.next_reply.new.replies =
     subst (λ (o : Option Reply). NextIs c.reply.replies.kept (Ok o) c.next_reply.new.replies) c.in_default.is c.in_ok-reply.ensures in
-    let p = err_from_is_err_and c.from_residual-in_err-read_piece.result c.from_residual-in_err-read_piece.ensures.1 in
+    let p = err_from_is_err_and c.from_residual-in_err-feed_replies.result c.from_residual-in_err-feed_replies.ensures.1 in
     rw (p.1, p.2) (unfed c.args.turns c.args.replies.now.kept (g.S.Source.told c.args.reader.now) c.reply.turns_left c.reply.replies
-    (g.S.Source.told c.reply.reader) c.reply.invariant (c.reply.turns_left - 1) (omega arith) c.next_reply.new.replies next c.read_piece.new.replies
-    (g.S.Source.told c.read_piece.new.reader) c.in_err-read_piece.field-0.0 c.in_err-read_piece.ensures)
+    (g.S.Source.told c.reply.reader) c.reply.invariant (c.reply.turns_left - 1) (omega arith) c.next_reply.new.replies next c.feed_replies.new.replies
+    (g.S.Source.told c.feed_replies.new.reader) c.in_err-feed_replies.field-0.0 c.in_err-feed_replies.ensures)

@@ -40,13 +40,13 @@ fn are_left(rt: &impl Abort, readings: &Readings) {
 }
 
 /// The readings at the beginning.
-fn begun(rt: &impl Abort, alloc: Global) -> Readings {
+fn first_readings(rt: &impl Abort, alloc: Global) -> Readings {
     Readings::new(must(rt, Vec::from_slice(alloc, &[1000, 1100])))
 }
 
 #[test]
 fn the_greatest_difference_stays(rt: HostRuntime) {
-    let mut readings = begun(&rt, rt.alloc());
+    let mut readings = first_readings(&rt, rt.alloc());
     tells(&rt, 0, &readings, 100, false);
     goes_on(&rt, &mut readings);
     are_left(&rt, &readings);

@@ -32,7 +32,7 @@ enum Time {
 }
 
 impl Time {
-    fn shown(self) -> Option<Duration> {
+    fn as_duration(self) -> Option<Duration> {
         match self {
             Time::Seconds(seconds) => Some(Duration::from_secs(seconds)),
             Time::Nanoseconds(nanoseconds) => Some(Duration::from_nanos(nanoseconds)),
@@ -58,7 +58,7 @@ static TIMES: [(Time, Option<u64>); 8] = [
 /// Asserts what a clock over std's reads at each time.
 fn read_times<C: Clock>(rt: &impl Abort, shown: &Shown, clock: &mut C) {
     for (row, it) in TIMES.iter().enumerate() {
-        shown.0.set(it.0.shown());
+        shown.0.set(it.0.as_duration());
         shows(rt, row, clock, it.1);
     }
 }

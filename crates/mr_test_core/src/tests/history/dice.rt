@@ -85,7 +85,7 @@ impl Dice {
         items_at(first.saturating_add(self.item()))
     }
 
-    fn answered(&mut self) -> Told {
+    fn answer(&mut self) -> Told {
         let op = self.op();
         match self.roll(8) {
             0 => Told::IsStored(op),
@@ -96,14 +96,14 @@ impl Dice {
         }
     }
 
-    pub fn told(&mut self) -> Told {
+    pub fn entry(&mut self) -> Told {
         match self.roll(16) {
             0..=2 => Told::Get(self.op(), self.name()),
             3..=6 => Told::Delete(self.op(), self.name()),
             7 => Told::Stored(self.author(), self.name(), self.data()),
             8 => Told::Set(self.op(), self.name(), self.data()),
             9 => Told::Removed(self.op(), Side::New, self.name()),
-            _ => self.answered(),
+            _ => self.answer(),
         }
     }
 }

@@ -2,48 +2,7 @@
 use super::told::*;
 use super::*;
 use crate::tests::must;
-
-/// The first request of the first proxy.
-const FIRST: OpId = OpId {
-    proxy: 0,
-    incarnation: 0,
-    number: 0,
-};
-
-/// The second request of the first proxy.
-const SECOND: OpId = OpId {
-    proxy: 0,
-    incarnation: 0,
-    number: 1,
-};
-
-/// The third request of the first proxy.
-const THIRD: OpId = OpId {
-    proxy: 0,
-    incarnation: 0,
-    number: 2,
-};
-
-/// The fourth request of the first proxy.
-const FOURTH: OpId = OpId {
-    proxy: 0,
-    incarnation: 0,
-    number: 3,
-};
-
-/// The first request of the second proxy.
-const OTHER_FIRST: OpId = OpId {
-    proxy: 1,
-    incarnation: 0,
-    number: 0,
-};
-
-/// The second request of the second proxy.
-const OTHER_SECOND: OpId = OpId {
-    proxy: 1,
-    incarnation: 0,
-    number: 1,
-};
+use mr_test_support::{FIRST, FOURTH, OTHER_FIRST, OTHER_SECOND, SECOND, THIRD};
 
 /// A history as it is written, and what is said of it.
 struct Run {
@@ -206,14 +165,24 @@ static RUNS: [Run; 10] = [
 /// Writes a history, and asserts which entries fit: where one does against its row, its place is told as the row.
 fn write(rt: &impl Abort, alloc: Global, history: &mut History, entries: &[(Told, bool)]) {
     for (place, (told, fits)) in entries.iter().enumerate() {
-        holds(rt, place, put(rt, alloc, history, *told), *fits);
+        holds(
+            rt,
+            place,
+            push_where_it_fits(rt, alloc, history, *told),
+            *fits,
+        );
     }
 }
 
 /// Asserts what is said of a history.
 fn shows(rt: &impl Abort, row: usize, history: &History, run: &Run) {
     count_is(rt, row, history.entries().len(), run.length);
-    is_said(rt, row, &said(judge_history(history)), &run.verdict);
+    is_said(
+        rt,
+        row,
+        &words_of_verdict(judge_history(history)),
+        &run.verdict,
+    );
 }
 
 /// Asserts which entries of a run fit, and what is said of the history then, and of its copy.
@@ -237,7 +206,12 @@ fn has_room(rt: &impl Abort, alloc: Global, history: &mut History) {
     must(rt, history.reserve(3));
     let made = history.spare();
     holds(rt, 1, made >= 3, true);
-    holds(rt, 2, put(rt, alloc, history, Told::Get(FIRST, b'k')), true);
+    holds(
+        rt,
+        2,
+        push_where_it_fits(rt, alloc, history, Told::Get(FIRST, b'k')),
+        true,
+    );
     count_is(rt, 3, history.spare().saturating_add(1), made);
 }
 

@@ -37,7 +37,7 @@ fn is_acknowledged(entries: &[Told], delete: OpId, before: usize) -> bool {
 }
 
 /// The delete of the key, issued behind this place and first of those, that was acknowledged before the get's issue.
-fn betrayed(entries: &[Told], name: u8, behind: usize, issue: usize) -> Option<OpId> {
+fn first_betrayed_delete(entries: &[Told], name: u8, behind: usize, issue: usize) -> Option<OpId> {
     for (start, entry) in entries.iter().enumerate() {
         if let Some(delete) = deletes(*entry, name) {
             if start > behind && is_acknowledged(entries, delete, issue) {
@@ -60,7 +60,7 @@ fn judge_hit(
     for (place, entry) in entries.iter().enumerate() {
         if place < answer && stores(*entry, wanted) {
             last = Some(place);
-            fresh = fresh || betrayed(entries, wanted.0, place, issue).is_none();
+            fresh = fresh || first_betrayed_delete(entries, wanted.0, place, issue).is_none();
         }
     }
     (fresh, last)
@@ -71,7 +71,7 @@ fn judge_item(entries: &[Told], get: OpId, wanted: Found, issue: usize, answer: 
     match judge_hit(entries, wanted, issue, answer) {
         (_, None) => ("invented", Some(get), Some(wanted.0), None),
         (false, Some(place)) => {
-            let delete = betrayed(entries, wanted.0, place, issue);
+            let delete = first_betrayed_delete(entries, wanted.0, place, issue);
             ("stale", Some(get), Some(wanted.0), delete)
         }
         _ => SAFE,
@@ -117,7 +117,7 @@ fn judge_slowly(entries: &[Told]) -> Said {
 
 /// Appends an entry where it fits, to what is judged slowly too.
 fn add(rt: &impl Abort, alloc: Global, history: &mut History, told: Told, entries: &mut Vec<Told>) {
-    if put(rt, alloc, history, told) {
+    if push_where_it_fits(rt, alloc, history, told) {
         must(rt, entries.push(told));
     }
 }
@@ -140,7 +140,7 @@ fn add_all(
         );
     }
     for _ in 0..80 {
-        add(rt, alloc, history, dice.told(), entries);
+        add(rt, alloc, history, dice.entry(), entries);
     }
 }
 
@@ -150,7 +150,7 @@ fn is_judged(rt: &impl Abort, alloc: Global, row: usize, dice: &mut Dice) -> &'s
     let mut entries = Vec::new(alloc);
     add_all(rt, alloc, dice, &mut history, &mut entries);
     count_is(rt, row, history.entries().len(), entries.len());
-    let verdict = said(judge_history(&history));
+    let verdict = words_of_verdict(judge_history(&history));
     is_said(rt, row, &verdict, &judge_slowly(&entries));
     verdict.0
 }

@@ -68,7 +68,7 @@ fn delete(rt: &impl Abort, alloc: Global, name: u8) -> Request {
 }
 
 /// The entry of a request that the op's own proxy issued.
-fn issued(op: OpId, request: Request) -> Entry {
+fn entry_of_issue(op: OpId, request: Request) -> Entry {
     Entry::Issued {
         op,
         proxy: op.proxy,
@@ -76,7 +76,7 @@ fn issued(op: OpId, request: Request) -> Entry {
     }
 }
 
-fn stored(rt: &impl Abort, alloc: Global, by: Author, name: u8, data: u8) -> Entry {
+fn entry_of_item(rt: &impl Abort, alloc: Global, by: Author, name: u8, data: u8) -> Entry {
     Entry::Stored {
         by,
         key: key_of(rt, alloc, name),
@@ -109,9 +109,9 @@ fn items(rt: &impl Abort, alloc: Global, found: &[Found]) -> Reply {
 /// The entry that this is.
 fn entry_of(rt: &impl Abort, alloc: Global, told: Told) -> Entry {
     let (op, reply) = match told {
-        Told::Get(op, name) => return issued(op, get(rt, alloc, name)),
-        Told::Set(op, name, data) => return issued(op, set(rt, alloc, name, data)),
-        Told::Delete(op, name) => return issued(op, delete(rt, alloc, name)),
+        Told::Get(op, name) => return entry_of_issue(op, get(rt, alloc, name)),
+        Told::Set(op, name, data) => return entry_of_issue(op, set(rt, alloc, name, data)),
+        Told::Delete(op, name) => return entry_of_issue(op, delete(rt, alloc, name)),
         Told::Quit(op, proxy) => {
             return Entry::Issued {
                 op,
@@ -119,7 +119,7 @@ fn entry_of(rt: &impl Abort, alloc: Global, told: Told) -> Entry {
                 request: Request::Quit,
             };
         }
-        Told::Stored(by, name, data) => return stored(rt, alloc, by, name, data),
+        Told::Stored(by, name, data) => return entry_of_item(rt, alloc, by, name, data),
         Told::Removed(op, side, name) => {
             return Entry::Removed {
                 op,
@@ -136,7 +136,12 @@ fn entry_of(rt: &impl Abort, alloc: Global, told: Told) -> Entry {
 }
 
 /// Appends the entry where it fits, and tells whether it did.
-pub fn put(rt: &impl Abort, alloc: Global, history: &mut History, told: Told) -> bool {
+pub fn push_where_it_fits(
+    rt: &impl Abort,
+    alloc: Global,
+    history: &mut History,
+    told: Told,
+) -> bool {
     must(rt, history.reserve(1));
     let entry = entry_of(rt, alloc, told);
     let fits = history.fits(&entry);
@@ -153,7 +158,7 @@ pub type Said = (&'static str, Option<OpId>, Option<u8>, Option<OpId>);
 pub const SAFE: Said = ("safe", None, None, None);
 
 /// What a verdict says, of a key of one byte.
-pub fn said(verdict: Verdict) -> Said {
+pub fn words_of_verdict(verdict: Verdict) -> Said {
     match verdict {
         Verdict::Safe => SAFE,
         Verdict::Stale { get, key, delete } => {

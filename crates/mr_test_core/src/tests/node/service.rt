@@ -1,7 +1,7 @@
 //! What a service answers to texts, and what it leaves where a device fails.
 use super::devices::{AMPLE, Given, Left, Pieces, Shown, serve_input};
 use super::{are, count_is, expiry, is};
-use crate::tests::{Rule, must, spelled};
+use crate::tests::{Rule, bytes_of_rule, must};
 use mr_clock::{Clock, ListClock};
 use mr_node::{CacheNode, Ended, NodeError};
 use mr_test_support::TakesHalf;
@@ -208,7 +208,7 @@ static LONG_TEXTS: [(Rule, Row); 2] = [
 #[test]
 fn refuses_long_keys_and_lines(rt: HostRuntime) {
     for (row, (rule, it)) in LONG_TEXTS.iter().enumerate() {
-        let input = spelled(&rt, rt.alloc(), *rule);
+        let input = bytes_of_rule(&rt, rt.alloc(), *rule);
         is_row(&rt, rt.alloc(), row, STILL, &input, it);
     }
 }

@@ -14,7 +14,7 @@ fn has(rt: &impl Abort, item: &CachedItem) {
 }
 
 /// A copy of the item of the key `k`.
-fn copied(rt: &impl Abort, node: &CacheNode, key: &Key) -> Option<CachedItem> {
+fn copy_of_item(rt: &impl Abort, node: &CacheNode, key: &Key) -> Option<CachedItem> {
     match node.peek(key) {
         Some(item) => Some(must(rt, item.copy())),
         None => None,
@@ -25,7 +25,7 @@ fn copied(rt: &impl Abort, node: &CacheNode, key: &Key) -> Option<CachedItem> {
 fn is_copied(rt: &impl Abort, alloc: Global, node: &mut CacheNode) {
     let command = must(rt, Told::Set(10).of(alloc, b'k'));
     must(rt, node.perform(100, command));
-    let copy = copied(rt, node, &must(rt, Key::new(alloc, b"k")));
+    let copy = copy_of_item(rt, node, &must(rt, Key::new(alloc, b"k")));
     node.restart();
     match &copy {
         Some(item) => has(rt, item),

@@ -1,5 +1,5 @@
 //! What a client reads of an answer, in how many calls it goes out, and what is left where one of them fails.
-use super::{Asked, Came, Rule, answer_to, are, leaves, spelled};
+use super::{Asked, Came, Rule, answer_to, are, bytes_of_rule, leaves};
 use crate::tests::must;
 use mr_proxy::Answer;
 use mr_test_support::{TakesHalf, reply_text};
@@ -28,7 +28,7 @@ type Row = (u64, Asked, &'static [(u32, Came)], Rule, usize);
 
 /// Asserts what a row says, and that the reply that is built of the answer is written alike.
 fn is_row(rt: &impl Abort, alloc: Global, row: usize, it: &Row) {
-    let text = spelled(rt, alloc, it.3);
+    let text = bytes_of_rule(rt, alloc, it.3);
     let answer = answer_to(rt, alloc, it.0, it.1, it.2);
     is_written(rt, alloc, row, &answer, &text, it.4);
     let reply = must(rt, reply_text(alloc, &answer.into_reply()));

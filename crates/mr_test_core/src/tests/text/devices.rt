@@ -1,5 +1,5 @@
 //! What goes through to a device, and a device that fails.
-use super::{are, count_is, holds, is, repeated};
+use super::{are, count_is, equal_bytes, holds, is};
 use mr_text::{FailsAt, OverReader, OverWriter, ReadFault, Sink, Source};
 use std::alloc::Global;
 use std::io;
@@ -190,7 +190,7 @@ fn goes_through(rt: &impl Abort, buffer: &mut [u8]) {
 #[test]
 fn one_read_or_write_is_one_call_of_the_device(rt: HostRuntime) {
     for length in [1, 4, 4096, 65_536] {
-        goes_through(&rt, &mut repeated(&rt, rt.alloc(), b'x', length));
+        goes_through(&rt, &mut equal_bytes(&rt, rt.alloc(), b'x', length));
     }
 }
 

@@ -4,7 +4,7 @@ mod replies;
 mod requests;
 mod streams;
 
-use super::{Rule, are, holds, is, spelled};
+use super::{Rule, are, bytes_of_rule, holds, is};
 use crate::tests::must;
 use mr_test_support::{Texts, answers_in_two, first_cell};
 use std::alloc::Global;
@@ -44,7 +44,7 @@ type LongRow = (Rule, &'static [u8], bool, Rule);
 
 /// Asserts what a reader answers to a long text.
 fn gives_long(rt: &impl Abort, alloc: Global, row: usize, texts: Texts, it: &LongRow) {
-    let text = spelled(rt, alloc, it.0);
-    let wanted = spelled(rt, alloc, it.3);
+    let text = bytes_of_rule(rt, alloc, it.0);
+    let wanted = bytes_of_rule(rt, alloc, it.3);
     gives(rt, alloc, row, texts, (&text, it.1), it.2, &wanted);
 }

@@ -1,5 +1,5 @@
 //! Which bytes make a value, and copies of each.
-use super::{Rule, are, count_is, is, item, repeated, spelled};
+use super::{Rule, are, bytes_of_rule, count_is, equal_bytes, is, item};
 use crate::tests::must;
 use mr_test_support::{repeated_keys, reply_text, request_text};
 use mr_text::{
@@ -62,7 +62,7 @@ fn is_block(rt: &impl Abort, alloc: Global, row: usize, bytes: &[u8], refusal: O
 
 #[test]
 fn blocks_have_up_to_8192_bytes(rt: HostRuntime) {
-    let long = repeated(&rt, rt.alloc(), b'\n', 8193);
+    let long = equal_bytes(&rt, rt.alloc(), b'\n', 8193);
     let bad = Some(TextError::DataTooLong);
     is_block(&rt, rt.alloc(), 0, b"", None);
     is_block(&rt, rt.alloc(), 8192, long.get(..8192).unwrap_or(b""), None);
@@ -102,7 +102,7 @@ fn is_line(rt: &impl Abort, alloc: Global, row: usize, bytes: &[u8], refusal: Op
 #[test]
 fn error_texts_stand_on_one_line(rt: HostRuntime) {
     for (row, it) in LINES.iter().enumerate() {
-        let text = spelled(&rt, rt.alloc(), it.0);
+        let text = bytes_of_rule(&rt, rt.alloc(), it.0);
         is_line(&rt, rt.alloc(), row, &text, it.1);
     }
 }
@@ -174,10 +174,10 @@ static LISTS: [(usize, usize, usize, Option<TextError>); 5] = [
 
 /// The keys of a row.
 fn keys_of(rt: &impl Abort, alloc: Global, length: usize, count: usize, last: usize) -> Vec<Key> {
-    let name = repeated(rt, alloc, b'x', length);
+    let name = equal_bytes(rt, alloc, b'x', length);
     let mut keys = must(rt, repeated_keys(alloc, &name, count));
     if last > 0 {
-        let name = repeated(rt, alloc, b'x', last);
+        let name = equal_bytes(rt, alloc, b'x', last);
         must(rt, keys.push(must(rt, Key::new(alloc, &name))));
     }
     keys

@@ -1,7 +1,7 @@
 //! What requests and replies are written as, in how many calls, and what is left where one of them fails.
 mod told;
 
-use super::{Rule, count_is, item, leaves, repeated, spelled};
+use super::{Rule, bytes_of_rule, count_is, equal_bytes, item, leaves};
 use crate::tests::must;
 use mr_test_support::TakesHalf;
 use mr_text::OverWriter;
@@ -126,7 +126,7 @@ static LONG: [(Told, Rule, usize); 6] = [
 #[test]
 fn long_texts_take_few_calls(rt: HostRuntime) {
     for (row, (told, rule, calls)) in LONG.iter().enumerate() {
-        let text = spelled(&rt, rt.alloc(), *rule);
+        let text = bytes_of_rule(&rt, rt.alloc(), *rule);
         is_written(&rt, rt.alloc(), row, *told, &text, *calls);
     }
 }

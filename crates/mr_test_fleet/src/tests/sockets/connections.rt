@@ -2,17 +2,17 @@
 //! accepted.
 ghost use Rattle.std.specs.Prelude.{◌+◌};
 
-use super::{TURNS, address_of, answers, listener, name_of, node, node_serves, were_told};
+use super::{TURNS, address_of, listener, name_of, node, node_serves, play_client, were_told};
 use crate::tests::{is, is_at, must};
 use mr_clock::FixedClock;
 use mr_desks::{Carrier, SharedNode};
-use mr_history::OpId;
 use mr_join::LegReply;
 use mr_node::NodeCommand;
 use mr_phases::Side;
 use mr_pools::NodeName;
 use mr_proxy::{LegId, LegSheet};
 use mr_sockets::{AcceptFault, Listener, OverListener, SocketCarrier, serve_node};
+use mr_test_support::FIRST;
 use mr_text::{GhostCount, Key};
 use std::alloc::Global;
 use std::net::{Net, SocketAddr, TcpListener, TcpStream};
@@ -63,11 +63,7 @@ impl<'a, R: Net<Listener = TcpListener, Stream = TcpStream> + Wait> Net for Watc
 fn get(rt: &impl Abort, alloc: Global) -> LegSheet {
     LegSheet {
         id: LegId {
-            op: OpId {
-                proxy: 0,
-                incarnation: 0,
-                number: 0,
-            },
+            op: FIRST,
             place: 0,
         },
         side: Side::Old,
@@ -116,7 +112,9 @@ fn carry_two<R: Net<Listener = TcpListener, Stream = TcpStream> + Wait + Abort>(
 }
 
 /// The node, and two legs that are carried to it.
-fn play<R: Net<Listener = TcpListener, Stream = TcpStream> + Threads + Wait + Clock + Abort + Sync>(
+fn play_legs<
+    R: Net<Listener = TcpListener, Stream = TcpStream> + Threads + Wait + Clock + Abort + Sync,
+>(
     rt: &R,
     alloc: Global,
     listener: TcpListener,
@@ -135,7 +133,7 @@ fn legs_share_one_connection_without_delay(rt: HostRuntime) {
     let listener = listener(&rt);
     let name = name_of(&rt, rt.alloc(), &listener);
     let node = node(&rt, rt.alloc());
-    let (served, made) = play(&rt, rt.alloc(), listener, &node, &name);
+    let (served, made) = play_legs(&rt, rt.alloc(), listener, &node, &name);
     is(&rt, "served", &served, &1);
     is(&rt, "without delay", &made.as_slice(), &[true].as_slice());
 }
@@ -175,14 +173,11 @@ fn play_failing<R: Net + Threads + Wait + Clock + Sync>(
     node: &SharedNode,
     address: SocketAddr,
 ) -> (u64, io::Result<Vec<u8>>) {
-    thread::join(
-        rt,
-        move || {
-            let (_, served) = serve_node(rt, alloc, listener, node, 3, TURNS, &FixedClock(999));
-            served
-        },
-        move || answers(rt, alloc, address, &[b"get k\r\n"]),
-    )
+    let serve = move || {
+        let (_, served) = serve_node(rt, alloc, listener, node, 3, TURNS, &FixedClock(999));
+        served
+    };
+    play_client(rt, rt, alloc, serve, address, &[b"get k\r\n"])
 }
 
 /// A listener that fails twice before it accepts.

@@ -1,7 +1,7 @@
 //! The worked fleet: two old nodes, three new ones, a proxy and its client. The key `k` is kept by the second old node, so the
 //! other nodes get no leg.
 use super::{
-    address_of, answers, core_of, listener, node, node_serves, proxy_serves, routing, were_told,
+    address_of, core_of, listener, node, node_serves, play_client, proxy_serves, routing, were_told,
 };
 use crate::tests::{is, must};
 use mr_desks::{Desk, SharedNode, SharedProxy};
@@ -65,12 +65,9 @@ fn play<
     thread::join(
         rt,
         move || node_part(rt, alloc, node_listener, node, row.goes_away),
-        || {
-            thread::join(
-                rt,
-                move || proxy_serves(rt, alloc, net, proxy_listener, desk, routing, 1),
-                move || answers(&net, alloc, address, &[row.sends]),
-            )
+        move || {
+            let serve = move || proxy_serves(rt, alloc, net, proxy_listener, desk, routing, 1);
+            play_client(rt, &net, alloc, serve, address, &[row.sends])
         },
     )
 }

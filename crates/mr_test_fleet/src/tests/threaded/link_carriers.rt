@@ -7,7 +7,7 @@ use crate::tests::{core_of, is, must};
 use crossbeam_channel::{Receiver, Sender};
 use mr_clock::FixedClock;
 use mr_desks::{Carrier, Carriers, Desk, SharedProxy, WorkerError};
-use mr_fleet::{LinkCarriers, Links, Load};
+use mr_fleet::{LinkCarriers, LinkJob, Links};
 use mr_join::LegReply;
 use mr_proxy::{Leg, LegSheet};
 use mr_text::Cause;
@@ -55,16 +55,16 @@ fn leg_of(rt: &(impl Wait + Abort), alloc: Global) -> Leg {
     first_leg(rt, legs_of(rt, alloc))
 }
 
-/// The end of a link at which loads come.
-type Loads = Receiver<Load<Refuses>>;
+/// The end of a link at which jobs come.
+type Jobs = Receiver<LinkJob<Refuses>>;
 
 /// A link, where there is one.
-type Link = Option<Sender<Load<Refuses>>>;
+type Link = Option<Sender<LinkJob<Refuses>>>;
 
 /// A link, and its end.
-fn link(rt: &impl Abort, alloc: Global) -> (Link, Loads) {
-    let (to, loads) = must(rt, crossbeam_channel::unbounded(alloc));
-    (Some(to), loads)
+fn link(rt: &impl Abort, alloc: Global) -> (Link, Jobs) {
+    let (to, jobs) = must(rt, crossbeam_channel::unbounded(alloc));
+    (Some(to), jobs)
 }
 
 /// Links to the nodes of a pool.

@@ -6,13 +6,12 @@ mod memory;
 use super::devices::{Given, Pieces, Reads, reader, writer};
 use crate::tests::{is_at, must};
 use mr_desks::{Carrier, WorkerError};
-use mr_history::OpId;
 use mr_join::LegReply;
 use mr_node::NodeCommand;
 use mr_phases::Side;
 use mr_proxy::{LegId, LegSheet};
 use mr_sessions::NodeLink;
-use mr_test_support::TakesHalf;
+use mr_test_support::{FIRST, TakesHalf};
 use mr_text::{Block, Cause, FailsAt, Key, OverReader, OverWriter, TextError};
 use std::alloc::Global;
 use std::process::Abort;
@@ -42,11 +41,7 @@ impl Told {
         };
         Ok(LegSheet {
             id: LegId {
-                op: OpId {
-                    proxy: 0,
-                    incarnation: 0,
-                    number: 0,
-                },
+                op: FIRST,
                 place: 0,
             },
             side: Side::Old,
@@ -137,7 +132,7 @@ fn link<'a>(
 }
 
 /// What comes of a leg that a carrier of any kind carries.
-fn carried_by<C: Carrier>(rt: &impl Abort, alloc: Global, carrier: &mut C, told: Told) -> Came {
+fn carry_leg<C: Carrier>(rt: &impl Abort, alloc: Global, carrier: &mut C, told: Told) -> Came {
     let sheet = must(rt, told.sheet(alloc));
     Came::of(&carrier.carry(&sheet))
 }
@@ -186,7 +181,7 @@ struct Left<'a> {
 fn come_so(rt: &impl Abort, alloc: Global, link: &mut Link, number: usize, row: &Row) {
     let mut broken = false;
     for (told, came) in row.legs {
-        is_at(rt, number, "leg", &carried_by(rt, alloc, link, *told), came);
+        is_at(rt, number, "leg", &carry_leg(rt, alloc, link, *told), came);
         broken = matches!(came, Came::Fault(_));
     }
     is_at(rt, number, "broken", &link.is_broken(), &broken);

@@ -11,7 +11,7 @@ mod requests;
 mod strangers;
 
 use super::devices::{Given, Reads, reader, writer};
-use crate::tests::{Nodes, ToNode, carriers_to_all, is_at, make_nodes, must, recorded};
+use crate::tests::{Nodes, ToNode, carriers_to_all, is_at, make_nodes, must, recorded_proxy};
 use mr_clock::{Clock, ListClock};
 use mr_desks::{Carrier, Carriers, Desk, DirectCarriers, RecordedProxy, WorkerError};
 use mr_node::Ended;
@@ -211,7 +211,7 @@ fn goes_over<'x, R: Wait + Abort>(
     number: usize,
     row: &Row,
 ) {
-    let desk: RecordedProxy<ToNode<'x, R>> = must(rt, recorded(alloc, 0, &NEW, row.limit));
+    let desk: RecordedProxy<ToNode<'x, R>> = must(rt, recorded_proxy(alloc, 0, &NEW, row.limit));
     let mut carriers = must(rt, direct(rt, alloc, nodes));
     let left = goes_so(rt, alloc, &desk, &mut carriers, number, row);
     are_numbered(rt, number, &left);

@@ -1,6 +1,6 @@
 //! What a script says once it is read, and the refusals that the program doesn't print whole. Most texts are one script with
 //! a part changed.
-use super::{changed, is, is_for, names_are};
+use super::{is, is_for, names_are, replace_part};
 use crate::tests::must;
 use mr_configs::PlanError;
 use mr_history::OpId;
@@ -61,7 +61,7 @@ fn read(rt: &impl Abort, alloc: Global, text: &str, case: &str) -> Result<Script
 
 /// The script with one part changed, read.
 fn read_with(rt: &impl Abort, alloc: Global, part: &str, new: &str) -> Script {
-    let text = must(rt, changed(rt, alloc, SCRIPT, (part, new)));
+    let text = must(rt, replace_part(rt, alloc, SCRIPT, (part, new)));
     must(rt, read(rt, alloc, text.as_str(), new))
 }
 
@@ -232,7 +232,7 @@ static REFUSED: [(&str, &str, PlanError); 5] = [
 
 /// Why the script with one part changed is none.
 fn refusal_with(rt: &impl Abort, alloc: Global, part: &str, new: &str) -> Option<PlanError> {
-    let text = must(rt, changed(rt, alloc, SCRIPT, (part, new)));
+    let text = must(rt, replace_part(rt, alloc, SCRIPT, (part, new)));
     read_events(alloc, text.as_bytes()).err()
 }
 

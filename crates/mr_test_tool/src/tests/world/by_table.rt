@@ -50,7 +50,7 @@ impl Dice {
         if self.roll(3) == 0 { b'b' } else { b'k' }
     }
 
-    fn asked(&mut self) -> Asked {
+    fn request(&mut self) -> Asked {
         let key = self.key();
         match self.roll(8) {
             0 => Asked::Quit,
@@ -86,7 +86,7 @@ impl Dice {
     fn next(&mut self) -> Move {
         match self.roll(24) {
             0..=1 => Move::Clock(self.proxy(), self.reading()),
-            2..=7 => Move::Client(self.proxy(), self.asked()),
+            2..=7 => Move::Client(self.proxy(), self.request()),
             8..=14 => Move::Deliver(self.place(), self.roll(9)),
             15..=20 => Move::Return(self.place()),
             21 => Move::GiveUp(self.op()),

@@ -56,7 +56,7 @@ fn proxies(alloc: Global, clocks: &[(u64, u64)], room: u64) -> Result<Vec<ProxyS
 }
 
 /// The node `k` with `v`.
-fn held(alloc: Global, node: &[u8]) -> Result<HeldItem, Fail> {
+fn held_item(alloc: Global, node: &[u8]) -> Result<HeldItem, Fail> {
     Ok(HeldItem {
         node: NodeName::new(alloc, node)?,
         key: Key::new(alloc, b"k")?,
@@ -68,7 +68,7 @@ fn held(alloc: Global, node: &[u8]) -> Result<HeldItem, Fail> {
 fn held_items(alloc: Global, holders: &[&[u8]]) -> Result<Vec<HeldItem>, Fail> {
     let mut items = Vec::new(alloc);
     for node in holders {
-        items.push(held(alloc, node)?)?;
+        items.push(held_item(alloc, node)?)?;
     }
     Ok(items)
 }

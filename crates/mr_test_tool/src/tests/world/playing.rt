@@ -34,11 +34,11 @@ pub fn shows(rt: &impl Abort, world: &World, shown: &Shown) {
     holds(rt, says(world.history(), shown.told), "the history");
     holds(rt, premises(world) == shown.premises, "the premises");
     holds(rt, verdict(world) == shown.verdict, "the verdict");
-    holds(rt, sent(world) == shown.sent, "how many were sent");
+    holds(rt, count_sent(world) == shown.sent, "how many were sent");
 }
 
 /// How many messages and how many replies were sent.
-fn sent(world: &World) -> (usize, usize) {
+fn count_sent(world: &World) -> (usize, usize) {
     (world.sent().len(), world.replies().len())
 }
 

@@ -2,9 +2,10 @@
 use super::fleets::Fleet;
 use super::moves::{DELETE, GET, Move, SET};
 use super::playing::{Run, Shown, goes};
-use super::telling::{FIRST, OTHER_FIRST, OTHER_SECOND, Told};
+use super::telling::Told;
 use mr_history::Author;
 use mr_phases::Side;
+use mr_test_support::{FIRST, OTHER_FIRST, OTHER_SECOND};
 use mr_world::Note;
 
 /// The second proxy sets the key, the first deletes it from both pools, the second gets it.

@@ -78,7 +78,7 @@ fn node_named(name: &NodeName) -> usize {
 }
 
 /// What the history gains when a node performs the leg.
-fn performed(sheet: &LegSheet) -> Option<Told> {
+fn line_of_leg(sheet: &LegSheet) -> Option<Told> {
     let op = sheet.id.op;
     match &sheet.command {
         NodeCommand::Get(_) => None,
@@ -112,7 +112,7 @@ fn wants_answer(request: &Request) -> bool {
     }
 }
 
-fn refused(refusal: ProxyError) -> WorldError {
+fn world_error_of(refusal: ProxyError) -> WorldError {
     match refusal {
         ProxyError::OutOfMemory => WorldError::OutOfMemory,
         _ => WorldError::IssueRefused(refusal),
@@ -120,7 +120,7 @@ fn refused(refusal: ProxyError) -> WorldError {
 }
 
 /// What the history gains by an answer.
-fn answered(answer: Answer) -> Option<Told> {
+fn line_of_answer(answer: Answer) -> Option<Told> {
     if wants_answer(answer.request()) {
         Some(tell_reply(answer.op(), &answer.into_reply()))
     } else {
@@ -134,7 +134,7 @@ fn issue(proxy: &mut Proxy, request: Request) -> Result<Issued, WorldError>
 {
     match proxy.core.issue(proxy.reading, request) {
         Ok(issued) => Ok(issued),
-        Err((refusal, _)) => Err(refused(refusal)),
+        Err((refusal, _)) => Err(world_error_of(refusal)),
     }
 }
 
@@ -147,7 +147,7 @@ fn take(proxies: &mut Vec<Proxy>, id: LegId, reply: LegReply) -> Result<Taken, W
 }
 
 /// Adds a value behind the others.
-fn put<T: Drop>(list: &mut Vec<T>, value: T) -> Result<(), WorldError> {
+fn push<T: Drop>(list: &mut Vec<T>, value: T) -> Result<(), WorldError> {
     match list.push(value) {
         Ok(()) => Ok(()),
         Err(_) => Err(WorldError::OutOfMemory),
@@ -156,7 +156,7 @@ fn put<T: Drop>(list: &mut Vec<T>, value: T) -> Result<(), WorldError> {
 
 fn send(sent: &mut Vec<LegSheet>, legs: Vec<Leg>) -> Result<(), WorldError> {
     for leg in legs {
-        put(sent, leg.into_sheet())?;
+        push(sent, leg.into_sheet())?;
     }
     Ok(())
 }
@@ -183,7 +183,7 @@ impl Table {
     /// Adds what the history gains, if anything.
     fn tell(&mut self, line: Option<Told>) -> Result<(), WorldError> {
         match line {
-            Some(line) => put(&mut self.lines, line),
+            Some(line) => push(&mut self.lines, line),
             None => Ok(()),
         }
     }
@@ -207,14 +207,14 @@ impl Table {
         }
         let asked = request.copy()?;
         let issued = issue(proxy, request)?;
-        self.issued(issued, &asked)
+        self.note_issue(issued, &asked)
     }
 
-    fn issued(&mut self, issued: Issued, asked: &Request) -> Outcome {
+    fn note_issue(&mut self, issued: Issued, asked: &Request) -> Outcome {
         let Issued { op, legs } = issued;
         let first = self.sent.len();
         let count = legs.len();
-        put(&mut self.lines, tell_request(op, asked))?;
+        push(&mut self.lines, tell_request(op, asked))?;
         send(&mut self.sent, legs)?;
         Ok(Note::Issued { op, first, count })
     }
@@ -225,13 +225,13 @@ impl Table {
         };
         let reply = reply_to(&mut self.nodes, sheet, now)?;
         let sheet = sheet.copy()?;
-        self.replied(LegBack { sheet, reply })
+        self.note_reply(LegBack { sheet, reply })
     }
 
-    fn replied(&mut self, back: LegBack) -> Outcome {
-        self.tell(performed(&back.sheet))?;
+    fn note_reply(&mut self, back: LegBack) -> Outcome {
+        self.tell(line_of_leg(&back.sheet))?;
         let reply = self.backs.len();
-        put(&mut self.backs, back)?;
+        push(&mut self.backs, back)?;
         Ok(Note::Performed { reply })
     }
 
@@ -241,20 +241,20 @@ impl Table {
         };
         let LegBack { sheet, reply } = back.copy()?;
         let taken = take(&mut self.proxies, sheet.id, reply)?;
-        self.taken(taken)
+        self.note_taking(taken)
     }
 
-    fn taken(&mut self, taken: Taken) -> Outcome {
+    fn note_taking(&mut self, taken: Taken) -> Outcome {
         match taken {
             Taken::Waiting => Ok(Note::Waiting),
             Taken::Stranger(_) => Ok(Note::Stranger),
-            Taken::Answered(answer) => self.answered(answer),
+            Taken::Answered(answer) => self.note_answer(answer),
         }
     }
 
-    fn answered(&mut self, answer: Answer) -> Outcome {
+    fn note_answer(&mut self, answer: Answer) -> Outcome {
         let op = answer.op();
-        self.tell(answered(answer))?;
+        self.tell(line_of_answer(answer))?;
         Ok(Note::Answered { op })
     }
 
@@ -263,7 +263,7 @@ impl Table {
             return Err(WorldError::NoSuchOp);
         };
         match proxy.core.give_up(op) {
-            Ok(answer) => self.answered(answer),
+            Ok(answer) => self.note_answer(answer),
             Err(_) => Err(WorldError::NoSuchOp),
         }
     }
@@ -284,7 +284,7 @@ impl Table {
         };
         match proxy.core.restart() {
             Ok(()) => Ok(Note::Nothing),
-            Err(refusal) => Err(refused(refusal)),
+            Err(refusal) => Err(world_error_of(refusal)),
         }
     }
 

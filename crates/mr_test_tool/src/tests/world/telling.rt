@@ -24,27 +24,6 @@ pub enum Told {
     Other,
 }
 
-/// The first request of the first proxy.
-pub const FIRST: OpId = OpId {
-    proxy: 0,
-    incarnation: 0,
-    number: 0,
-};
-
-/// The first request of the second proxy.
-pub const OTHER_FIRST: OpId = OpId {
-    proxy: 1,
-    incarnation: 0,
-    number: 0,
-};
-
-/// The second request of the second proxy.
-pub const OTHER_SECOND: OpId = OpId {
-    proxy: 1,
-    incarnation: 0,
-    number: 1,
-};
-
 /// The only byte; 0 where there are more, or none.
 pub fn only(bytes: &[u8]) -> u8 {
     match bytes {

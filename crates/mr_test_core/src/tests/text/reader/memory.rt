@@ -59,7 +59,7 @@ fn roomy_sink(alloc: Global) -> Result<OverWriter<Vec<u8>>, AllocError> {
 }
 
 /// What a reader that is fed a text gives, as it is written.
-fn given(alloc: Global, texts: Texts, text: &[u8]) -> Result<Vec<u8>, Fail> {
+fn read_and_write(alloc: Global, texts: Texts, text: &[u8]) -> Result<Vec<u8>, Fail> {
     let mut reader = Reader::new(alloc, texts);
     feed(&mut reader, text)?;
     let mut sink = roomy_sink(alloc)?;
@@ -85,7 +85,7 @@ static TEXTS: [(Texts, &[u8]); 5] = [
 #[test]
 fn refused_memory_leaves_readers_as_they_were(rt: HostRuntime) -> Result<(), Fail> {
     for (row, (texts, text)) in TEXTS.iter().enumerate() {
-        are(&rt, row, &given(rt.alloc(), *texts, text)?, text);
+        are(&rt, row, &read_and_write(rt.alloc(), *texts, text)?, text);
     }
     Ok(())
 }

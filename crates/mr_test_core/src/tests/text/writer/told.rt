@@ -1,5 +1,5 @@
 //! What is written, as rows of a table say it.
-use super::{item, repeated};
+use super::{equal_bytes, item};
 use crate::tests::must;
 use mr_test_support::{TakesHalf, repeated_keys};
 use mr_text::{
@@ -131,7 +131,7 @@ fn other(rt: &impl Abort, alloc: Global, text: &[u8]) -> Reply {
 fn items(rt: &impl Abort, alloc: Global, flags: u32, lengths: &[usize]) -> Reply {
     let mut items = Vec::new(alloc);
     for length in lengths {
-        let data = repeated(rt, alloc, b'x', *length);
+        let data = equal_bytes(rt, alloc, b'x', *length);
         must(rt, items.push(item(rt, alloc, b"k", flags, &data)));
     }
     if items.len() > MAX_ITEMS {
@@ -148,7 +148,7 @@ fn reply_of(rt: &impl Abort, alloc: Global, told: Told) -> Reply {
         Told::NotFound => Reply::NotFound,
         Told::BadKey => Reply::ClientError(Cause::BadKey),
         Told::LegLost => Reply::ServerError(Cause::LegLost),
-        Told::Other(length) => other(rt, alloc, &repeated(rt, alloc, b'x', length)),
+        Told::Other(length) => other(rt, alloc, &equal_bytes(rt, alloc, b'x', length)),
         Told::OtherSpaced => other(rt, alloc, b" a\r"),
         Told::Items(flags, lengths) => items(rt, alloc, flags, lengths),
         _ => Reply::Error,
@@ -161,7 +161,7 @@ pub(super) fn written_of(rt: &impl Abort, alloc: Global, told: Told) -> Written 
         Told::Gets(count) => get(rt, must(rt, repeated_keys(alloc, b"k", count))),
         Told::GetTwo => get_two(rt, alloc),
         Told::Set(flags, exptime, length, noreply) => {
-            let data = repeated(rt, alloc, b'x', length);
+            let data = equal_bytes(rt, alloc, b'x', length);
             set(rt, alloc, flags, exptime, &data, noreply)
         }
         Told::SetLines => set(rt, alloc, 0, 10, b"a\r\nb", true),

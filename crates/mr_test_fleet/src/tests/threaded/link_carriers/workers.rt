@@ -1,8 +1,8 @@
 //! Legs that are carried at the ends of their links.
-use super::{Loads, Refuses, brings_nothing, legs_of, link, links, sends};
+use super::{Jobs, Refuses, brings_nothing, legs_of, link, links, sends};
 use crate::tests::{is, must};
 use mr_desks::{Carriers, Gate};
-use mr_fleet::{LinkCarriers, Links, carry_loads};
+use mr_fleet::{LinkCarriers, Links, run_worker};
 use mr_join::LegReply;
 use mr_proxy::{Leg, LegSheet};
 use mr_text::Cause;
@@ -48,9 +48,9 @@ fn send_all<R: Wait + Abort>(rt: &R, carriers: &mut LinkCarriers<Refuses, R>, le
     }
 }
 
-/// Carries the load that came.
-fn carry_one(rt: &(impl Wait + Abort), loads: &Loads, is_full: bool) {
-    must(rt, loads.recv(rt)).carry(rt, &mut Refuses { is_full });
+/// Carries the leg of the job that came.
+fn carry_one(rt: &(impl Wait + Abort), jobs: &Jobs, is_full: bool) {
+    must(rt, jobs.recv(rt)).carry(rt, &mut Refuses { is_full });
 }
 
 /// The later leg is carried first.
@@ -96,14 +96,14 @@ fn play<G: Gate + Sync, R: Threads + Wait + Abort + Sync>(
     rt: &R,
     alloc: Global,
     links: Links<Refuses>,
-    at_old: Loads,
-    at_new: Loads,
+    at_old: Jobs,
+    at_new: Jobs,
     requests: Vec<Vec<Leg>>,
     gate: &G,
 ) {
     thread::scope(thread::scope_env(), rt, move |scope| {
-        let full = scope.spawn(move || carry_loads(rt, Refuses { is_full: true }, at_old, gate));
-        let other = scope.spawn(move || carry_loads(rt, Refuses { is_full: false }, at_new, gate));
+        let full = scope.spawn(move || run_worker(rt, Refuses { is_full: true }, at_old, gate));
+        let other = scope.spawn(move || run_worker(rt, Refuses { is_full: false }, at_new, gate));
         is(rt, "threads", &(full.is_ok(), other.is_ok()), &(true, true));
         send_each(rt, alloc, links, requests);
     });
@@ -118,7 +118,7 @@ fn requests_of(rt: &(impl Wait + Abort), alloc: Global) -> Vec<Vec<Leg>> {
 }
 
 /// A copy of these links, which are dropped.
-fn copied(rt: &impl Abort, alloc: Global, links: Links<Refuses>) -> Links<Refuses> {
+fn copy_links(rt: &impl Abort, alloc: Global, links: Links<Refuses>) -> Links<Refuses> {
     must(rt, links.copy(alloc))
 }
 
@@ -129,7 +129,7 @@ fn threads_carry_each_leg_once_and_end_with_their_links(rt: HostRuntime) {
     };
     let (to_old, at_old) = link(&rt, rt.alloc());
     let (to_new, at_new) = link(&rt, rt.alloc());
-    let links = copied(&rt, rt.alloc(), links(&rt, rt.alloc(), to_old, to_new));
+    let links = copy_links(&rt, rt.alloc(), links(&rt, rt.alloc(), to_old, to_new));
     let requests = requests_of(&rt, rt.alloc());
     play(&rt, rt.alloc(), links, at_old, at_new, requests, &gate);
     is(&rt, "calls", &gate.calls.load(Ordering::SeqCst), &4);

@@ -17,7 +17,7 @@ static OUTCOMES: [[Came; 2]; 3] = [
 ];
 
 /// What they come to; nothing where memory was refused before them.
-fn came(alloc: Global) -> Option<[Came; 2]> {
+fn carry_both(alloc: Global) -> Option<[Came; 2]> {
     let get = Told::Get.sheet(alloc).ok()?;
     let delete = Told::Delete.sheet(alloc).ok()?;
     let kept = Vec::with_capacity(alloc, 64).ok()?;
@@ -31,7 +31,7 @@ fn came(alloc: Global) -> Option<[Came; 2]> {
 
 #[test]
 fn refused_memory_breaks_a_link(rt: HostRuntime) {
-    if let Some(came) = came(rt.alloc()) {
+    if let Some(came) = carry_both(rt.alloc()) {
         if !OUTCOMES.contains(&came) {
             is(&rt, "both", &came, &OUTCOMES[0]);
         }

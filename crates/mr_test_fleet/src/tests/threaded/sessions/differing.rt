@@ -4,7 +4,7 @@ ghost use Rattle.std.specs.Prelude.{true};
 
 use super::{IN_TIME, NEW, Row, SILENT, direct, goes_so};
 use crate::tests::threaded::get_of;
-use crate::tests::{Nodes, ToNode, is, make_nodes, must, recorded};
+use crate::tests::{Nodes, ToNode, is, make_nodes, must, recorded_proxy};
 use mr_clock::{Clock, FixedClock};
 use mr_desks::{Carried, Carrier, Carriers, Desk, DeskError, RecordedProxy, Share, WorkerError};
 use mr_history::OpId;
@@ -62,8 +62,8 @@ impl<C: Carrier> Desk<C> for Torn<C> {
 /// A desk over two fresh proxies.
 fn two_proxies<C: Carrier>(rt: &impl Abort, alloc: Global) -> Torn<C> {
     Torn {
-        issues: must(rt, recorded(alloc, 0, &NEW, 20)),
-        takes: must(rt, recorded(alloc, 0, &NEW, 20)),
+        issues: must(rt, recorded_proxy(alloc, 0, &NEW, 20)),
+        takes: must(rt, recorded_proxy(alloc, 0, &NEW, 20)),
     }
 }
 
@@ -178,7 +178,7 @@ fn send_all<C: Carrier, L: Carriers<C>>(rt: &impl Abort, carriers: &mut L, issue
 
 /// Asserts the same at one proxy, whose carriers bring a leg that was sent before.
 fn goes_behind<'x, R: Wait + Abort>(rt: &'x R, alloc: Global, nodes: &'x Nodes) {
-    let desk: RecordedProxy<ToNode<'x, R>> = must(rt, recorded(alloc, 0, &NEW, 20));
+    let desk: RecordedProxy<ToNode<'x, R>> = must(rt, recorded_proxy(alloc, 0, &NEW, 20));
     let mut carriers = must(rt, direct(rt, alloc, nodes));
     let issued = issue(rt, alloc, &desk, &[b"k"]);
     send_all(rt, &mut carriers, issued);

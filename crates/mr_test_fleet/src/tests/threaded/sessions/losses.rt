@@ -1,7 +1,7 @@
 //! Legs that don't come back.
 use super::{Kept, NEW, Row, SILENT, direct, goes_so};
 use crate::tests::threaded::broken::broken_carriers;
-use crate::tests::{Nodes, ToNode, carriers_to, make_nodes, must, recorded};
+use crate::tests::{Nodes, ToNode, carriers_to, make_nodes, must, recorded_proxy};
 use mr_desks::{DirectCarriers, RecordedProxy};
 use mr_node::Ended;
 use std::alloc::Global;
@@ -36,7 +36,7 @@ const LOST_BOTH: Kept = Kept {
 
 /// Asserts how the session of a row goes whose legs reach no node: there are so many carriers for each pool.
 fn goes_without(rt: &(impl Wait + Abort), alloc: Global, counts: &[usize], row: &Row) {
-    let desk = must(rt, recorded(alloc, 0, &NEW, row.limit));
+    let desk = must(rt, recorded_proxy(alloc, 0, &NEW, row.limit));
     let mut carriers = broken_carriers(rt, alloc, counts);
     let _ = goes_so(rt, alloc, &desk, &mut carriers, 0, row);
 }
@@ -97,7 +97,7 @@ fn to_old<'x, R: Wait + Abort>(
 
 /// Asserts how both sessions go at one proxy, over these caches.
 fn play<'x, R: Wait + Abort>(rt: &'x R, alloc: Global, nodes: &'x Nodes) {
-    let desk: RecordedProxy<ToNode<'x, R>> = must(rt, recorded(alloc, 0, &NEW, 40));
+    let desk: RecordedProxy<ToNode<'x, R>> = must(rt, recorded_proxy(alloc, 0, &NEW, 40));
     let mut all = must(rt, direct(rt, alloc, nodes));
     let _ = goes_so(rt, alloc, &desk, &mut all, 0, &SETS);
     let mut old = to_old(rt, alloc, nodes);

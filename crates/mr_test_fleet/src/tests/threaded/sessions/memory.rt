@@ -1,6 +1,6 @@
 //! Refused memory. In the gate no allocation is refused; `refused-memory` refuses each in turn.
 use super::{Left, NEW, WHOLE, direct, serve};
-use crate::tests::{Nodes, ToNode, is, make_nodes, recorded};
+use crate::tests::{Nodes, ToNode, is, make_nodes, recorded_proxy};
 use mr_clock::FixedClock;
 use mr_desks::{RecordedProxy, WorkerError};
 use mr_node::Ended;
@@ -50,7 +50,7 @@ fn place_of(left: &Left) -> Option<usize> {
 
 /// The session of a client at a fresh proxy, over these caches.
 fn serve_over<'x, R: Wait>(rt: &'x R, alloc: Global, nodes: &'x Nodes) -> Result<Left, AllocError> {
-    let desk: RecordedProxy<ToNode<'x, R>> = recorded(alloc, 0, &NEW, 20)?;
+    let desk: RecordedProxy<ToNode<'x, R>> = recorded_proxy(alloc, 0, &NEW, 20)?;
     let mut carriers = direct(rt, alloc, nodes)?;
     let sends = b"set k 5 0 1\r\nv\r\nget k\r\nquit\r\n";
     let clock = &mut FixedClock(999);

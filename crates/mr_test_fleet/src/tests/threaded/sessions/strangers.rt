@@ -2,7 +2,7 @@
 ghost use Rattle.std.specs.Prelude.{◌≡◌, ◌+◌, MatchOption, IfSome};
 
 use super::{IN_TIME, Kept, NEW, Row, SILENT, direct, goes_so};
-use crate::tests::{Nodes, ToNode, make_nodes, must, recorded};
+use crate::tests::{Nodes, ToNode, make_nodes, must, recorded_proxy};
 use mr_desks::{Carried, Carrier, Carriers, DirectCarriers, RecordedProxy};
 use mr_proxy::Leg;
 use mr_text::GhostCount;
@@ -64,7 +64,7 @@ static SET: Row = Row {
 
 /// Asserts how the session of that client goes over these caches.
 fn play<'x, R: Wait + Abort>(rt: &'x R, alloc: Global, nodes: &'x Nodes) {
-    let desk: RecordedProxy<ToNode<'x, R>> = must(rt, recorded(alloc, 0, &NEW, 20));
+    let desk: RecordedProxy<ToNode<'x, R>> = must(rt, recorded_proxy(alloc, 0, &NEW, 20));
     let mut carriers = Late {
         inner: must(rt, direct(rt, alloc, nodes)),
         was_asked: false,

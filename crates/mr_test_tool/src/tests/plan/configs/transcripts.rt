@@ -76,13 +76,13 @@ fn is_checked(rt: &impl Abort, checked: &Checked, played: &Played) {
 }
 
 /// What a check finds of the transcript of a script.
-fn checked(alloc: Global, script: &str) -> Result<Checked, PlanError> {
+fn checked_transcript(alloc: Global, script: &str) -> Result<Checked, PlanError> {
     check_transcript(alloc, transcript(alloc, script)?.as_slice())
 }
 
 /// Asserts that a script is played and checked as told.
 fn goes(rt: &impl Abort, alloc: Global, played: &Played) -> Result<(), Fail> {
-    match checked(alloc, played.0) {
+    match checked_transcript(alloc, played.0) {
         Ok(checked) => {
             is_checked(rt, &checked, played);
             Ok(())

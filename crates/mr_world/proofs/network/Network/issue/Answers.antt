@@ -67,7 +67,7 @@ returns-in_default c =
     let told = c.in_default.ensures in
     rw (← c.self.view_is) (
       asked_for_memory c.args.number (slice_get c.self.inside.proxies.items c.args.number) p c.args.request c.requires.no_quit at.gets room.accepted,
-      unchanged v c.args.number c.accept.new.proxy p c.make_room.new.sent.items c.make_room.new.history.entries at told.unchanged room.sent room.history,
+      unchanged v c.args.number c.issue_copy.new.core p c.make_room.new.sent.items c.make_room.new.history.entries at told.state room.sent room.history,
     )
 
 pub index-requires : goal.index-requires
@@ -90,12 +90,12 @@ send-requires-clause-numbered c =
     let p = c.index_mut-proxy.result.now in
     let at = at_read c.self.inside.proxies.items n p within c.index_mut-proxy.ensures.value in
     let sound = (ready.tracked.proxies n p at).sound in
-    let legs = c.in-Ok.issued.legs.items in
+    let legs = c.in-Some.issued.legs.items in
     let table : At (numbers_of w.nodes w.proxies) n (numbers_in w.nodes p) = record { gets = get_mapped (numbers_in w.nodes) w.proxies n p at.gets } in
     let tables = ap length ready.numbers ∙ length-map w.proxies (numbers_in w.nodes) in
     let read = at_read c.self.inside.numbers.items n c.index.result.now (omega arith) c.index.ensures in
     let numbers : c.index.result.now ≡ numbers_in w.nodes p = at_one (subst (λ l. At l n c.index.result.now) ready.numbers read) table in
-    subst (λ t. All (HasNumber t) legs) (sym numbers) (have_numbers w.nodes p legs (placed_there p.routing legs sound.routing c.in-Ok.ensures.nodes))
+    subst (λ t. All (HasNumber t) legs) (sym numbers) (have_numbers w.nodes p legs (placed_there p.routing legs sound.routing c.in-Some.ensures.nodes))
 
 pub push-requires-clause-fits : goal.push-requires-clause-fits
 push-requires-clause-fits c =
@@ -107,8 +107,8 @@ push-requires-clause-fits c =
     let p = c.index_mut-proxy.result.now in
     let at = at_read c.self.inside.proxies.items n p within c.index_mut-proxy.ensures.value in
     let fits = issue_fits c.next_op_is_new.ensures w n p c.args.request ready.tracked at in
-    subst (λ (H : List Entry). Fits H (entry.Issued c.in-Ok.issued.op n c.args.request)) (sym c.in_ok-count.ensures.history)
-    (subst (λ (op : OpId). Fits c.self.inside.history.entries (entry.Issued op n c.args.request)) (sym c.in-Ok.ensures.op) fits)
+    subst (λ (H : List Entry). Fits H (entry.Issued c.in-Some.issued.op n c.args.request)) (sym c.in_ok-count.ensures.history)
+    (subst (λ (op : OpId). Fits c.self.inside.history.entries (entry.Issued op n c.args.request)) (sym c.in-Some.ensures.op) fits)
 
 pub returns : goal.returns
 returns c =
@@ -124,9 +124,9 @@ returns c =
     let sound = (ready.tracked.proxies n p at).sound in
     let sheets = sheets_of p reading request in
     let room = c.in_ok-count.ensures in
-    let issued = c.in-Ok.issued in
-    let legs = c.in-Ok.ensures.legs in
-    let placed = subst (All (IsPlaced p.routing)) legs c.in-Ok.ensures.nodes in
+    let issued = c.in-Some.issued in
+    let legs = c.in-Some.ensures.legs in
+    let placed = subst (All (IsPlaced p.routing)) legs c.in-Some.ensures.nodes in
     let table : At (numbers_of w.nodes w.proxies) n (numbers_in w.nodes p) = record { gets = get_mapped (numbers_in w.nodes) w.proxies n p at.gets } in
     let tables = ap length ready.numbers ∙ length-map w.proxies (numbers_in w.nodes) in
     let read = at_read c.self.inside.numbers.items n c.index.result.now (omega arith) c.index.ensures in
@@ -139,7 +139,7 @@ returns c =
     let history : c.push.new.self.entries ≡ w.history ++ entry.Issued (next_op p) n request ∷ [] =
     ap (λ (h : HistoryView). h.entries) c.push.ensures
     ∙ ap (λ l. l ++ entry.Issued issued.op n request ∷ []) room.history
-    ∙ ap (λ op. w.history ++ entry.Issued op n request ∷ []) c.in-Ok.ensures.op in
+    ∙ ap (λ op. w.history ++ entry.Issued op n request ∷ []) c.in-Some.ensures.op in
     let first : c.len-first.result ≡ length w.sent =
     (let counted = c.len-first.ensures in let sized = c.make_room.new.sent.ok.0 in let kept = ap length room.sent in omega arith) in
     rw (← c.self.view_is) (
@@ -151,9 +151,9 @@ returns c =
         clock = record { gets = clock };
         has_legs = valid_has_legs request c.requires.no_quit c.request_is_valid.ensures;
         accepted = room.accepted;
-        tells = ap (λ op. Issued op c.len-first.result c.in_ok-count.count) c.in-Ok.ensures.op ∙ ap (λ k. Issued (next_op p) k c.in_ok-count.count) first
+        tells = ap (λ op. Issued op c.len-first.result c.in_ok-count.count) c.in-Some.ensures.op ∙ ap (λ k. Issued (next_op p) k c.in_ok-count.count) first
             ∙ ap (λ k. Issued (next_op p) (length w.sent) k) room.count;
-        becomes = same_issued w n _ _ _ _ _ _ c.in-Ok.ensures.state sent history;
+        becomes = same_issued w n _ _ _ _ _ _ c.in-Some.ensures.state sent history;
       }),
       refl,
     )

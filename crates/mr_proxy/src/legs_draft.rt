@@ -1,0 +1,186 @@
+//! The legs of a request, made before the proxy changes.
+ghost use Rattle.std.specs.Prelude.{◌≡◌, ◌≢◌, ◌+◌, ◌<◌, ◌^◌, [], ◌∷◌, ◌++◌, length, map, IfOk, OnOk};
+ghost use Rattle.mr_phases.specs.Sides.{sides_in};
+ghost use Rattle.mr_node.specs.declared.command.NodeCommand.TheVariants.{Get, Set, Delete};
+ghost use Rattle.mr_proxy.specs.Slots.{open_slot};
+ghost use Rattle.mr_proxy.specs.Sound.{HasLegs};
+ghost use Rattle.mr_proxy.specs.Sheets.{sheet_at, sheets_from, sheets_by, targets_of};
+
+use crate::leg::Leg;
+use crate::sheet::{LegId, LegSheet};
+use crate::slot::Slot;
+use mr_history::OpId;
+use mr_node::NodeCommand;
+use mr_phases::{RequestKind, Schedule, Side, judge};
+use mr_pools::Routing;
+use mr_text::{Block, Key, Request};
+use std::alloc::{AllocError, Global};
+use std::marker::Model;
+
+/// What the node is told for a set.
+fn set_command(
+    key: &Key,
+    flags: u32,
+    exptime: i64,
+    block: &Block,
+) -> Result<NodeCommand, AllocError>
+    ensures { IfOk result (λ command. command ≡ Set key.now flags exptime block.now) }
+{
+    Ok(NodeCommand::Set {
+        key: key.copy()?,
+        flags,
+        exptime,
+        block: block.copy()?,
+    })
+}
+
+/// The legs of a request, each beside the slot in which its reply will be noted.
+#[derive(Drop)]
+pub(crate) struct LegsDraft {
+    slots: Vec<Slot>,
+    legs: Vec<Leg>,
+}
+
+impl Model for LegsDraft {
+    ghost use Rattle.std.specs.Prelude.{◌≡◌, map};
+    ghost use Rattle.mr_proxy.specs.Slots.{open_slot};
+    ghost use Rattle.std.specs.Prelude.{List};
+    ghost use Rattle.mr_proxy.specs.declared.sheet.LegSheet.{LegSheet};
+
+    ghost Value = { List LegSheet };
+
+    ghost view = { λ d. d.legs.items };
+
+    ghost invariant = { λ d. d.slots.items ≡ map open_slot d.legs.items };
+}
+
+impl LegsDraft {
+    /// No legs yet, and room for so many.
+    fn new(alloc: Global, legs: usize) -> Result<LegsDraft, AllocError>
+        ensures { IfOk result (λ draft. draft ≡ []) }
+    {
+        Ok(LegsDraft {
+            slots: Vec::with_capacity(alloc, legs)?,
+            legs: Vec::with_capacity(alloc, legs)?,
+        })
+    }
+
+    /// Adds the next leg. The slot's sheet and the leg's are two, since the leg travels.
+    fn add(
+        &mut self,
+        routing: &Routing,
+        op: OpId,
+        side: Side,
+        command: NodeCommand,
+    ) -> Result<(), AllocError>
+        requires { length self.old < 2 ^ 32 }
+        ensures { OnOk result (self.new ≡ self.old
+            ++ sheet_at routing.now op (length self.old) (record { side = side; command = command }) ∷ []) }
+    {
+        self.legs.reserve(1)?;
+        self.slots.reserve(1)?;
+        let place = self.legs.len() as u32;
+        let sheet = LegSheet::for_leg(routing, LegId { op, place }, side, command);
+        let leg = Leg::of(sheet.copy()?);
+        self.legs.push_reserved(leg);
+        self.slots.push_reserved(Slot::open(sheet));
+        Ok(())
+    }
+
+    /// A get's legs: one for each key.
+    #[tactic(auto, using(crate::proofs::DraftLemmas::get_count))]
+    fn of_gets(
+        alloc: Global,
+        routing: &Routing,
+        op: OpId,
+        side: Side,
+        keys: &[Key],
+    ) -> Result<LegsDraft, AllocError>
+        requires { length keys.now < 2 ^ 32 }
+        ensures { IfOk result (λ draft. draft ≡ sheets_from routing.now op 0 (targets_of (side ∷ []) (map Get keys.now))) }
+    {
+        let mut draft = LegsDraft::new(alloc, keys.len())?;
+        for key in keys {
+            draft.add(routing, op, side, NodeCommand::Get(key.copy()?))?;
+        }
+        Ok(draft)
+    }
+
+    /// The one leg of a command that goes to one side.
+    fn of_one(
+        alloc: Global,
+        routing: &Routing,
+        op: OpId,
+        side: Side,
+        command: NodeCommand,
+    ) -> Result<LegsDraft, AllocError>
+        ensures { IfOk result (λ draft. draft ≡ sheets_from routing.now op 0 (targets_of (side ∷ []) (command ∷ []))) }
+    {
+        let mut draft = LegsDraft::new(alloc, 1)?;
+        draft.add(routing, op, side, command)?;
+        Ok(draft)
+    }
+
+    /// A delete's legs: one for each side.
+    #[tactic(auto, using(crate::proofs::DraftLemmas::delete_count))]
+    fn of_deletes(
+        alloc: Global,
+        routing: &Routing,
+        op: OpId,
+        sides: &[Side],
+        key: &Key,
+    ) -> Result<LegsDraft, AllocError>
+        requires { length sides.now < 2 ^ 32 }
+        ensures { IfOk result (λ draft. draft ≡ sheets_from routing.now op 0 (targets_of sides.now (Delete key.now ∷ []))) }
+    {
+        let mut draft = LegsDraft::new(alloc, sides.len())?;
+        for side in sides {
+            draft.add(routing, op, *side, NodeCommand::Delete(key.copy()?))?;
+        }
+        Ok(draft)
+    }
+
+    /// The legs of a request that is judged by this reading.
+    #[tactic(auto, using(crate::proofs::DraftLemmas::few_keys))]
+    pub(crate) fn of(
+        alloc: Global,
+        routing: &Routing,
+        schedule: Schedule,
+        op: OpId,
+        reading: u64,
+        request: &Request,
+    ) -> Result<LegsDraft, AllocError>
+        ensures sheets { IfOk result (λ draft. draft ≡ sheets_by routing.now schedule op reading request.now) }
+        ensures legs { OnOk result (request.now ≢ Request.Quit → HasLegs request.now) }
+    {
+        let judged = judge(schedule, reading);
+        match request {
+            Request::Get { keys } => {
+                LegsDraft::of_gets(alloc, routing, op, judged.read_side(), keys.as_slice())
+            }
+            Request::Set {
+                key,
+                flags,
+                exptime,
+                block,
+                noreply: _,
+            } => {
+                let command = set_command(key, *flags, *exptime, block)?;
+                LegsDraft::of_one(alloc, routing, op, judged.read_side(), command)
+            }
+            Request::Delete { key, noreply: _ } => {
+                let sides = judged.sides(RequestKind::Delete);
+                LegsDraft::of_deletes(alloc, routing, op, sides.as_slice(), key)
+            }
+            Request::Quit => LegsDraft::new(alloc, 0),
+        }
+    }
+
+    /// The slots, and the legs.
+    pub(crate) fn into_parts(self) -> (Vec<Slot>, Vec<Leg>)
+        ensures slots { result.0.items ≡ map open_slot self }
+        ensures legs { result.1.items ≡ self }
+    {
+        (self.slots, self.legs)
+    }
+}

@@ -1,0 +1,103 @@
+//! The commands of the program, and the services that it begins.
+use super::plan::config;
+use super::pools::routing;
+use super::proxy::core;
+use super::text::get;
+use mr_clock::FixedClock;
+use mr_node::CacheNode;
+use mr_sockets::{HostServers, OverListener};
+use mr_text::{OverReader, OverWriter};
+use mr_tool::{
+    HostFiles, SocketCarrier, WRONG_WORDS, Wanted, read_words, run_words, serve_node, serve_proxy,
+    write_plan,
+};
+use mr_workers::{Desk, SharedNode, SharedProxy};
+use std::alloc::Global;
+use std::net::{Net, TcpListener, TcpStream};
+use std::sync::Wait;
+use std::test::Fail;
+use std::thread::Threads;
+use std::time::Clock;
+
+#[test]
+fn words_are_read(rt: HostRuntime) -> Result<(), Fail> {
+    let wanted = read_words(rt.alloc(), &["run"])?;
+    assert!(rt; matches!(wanted, Wanted::Run(None)));
+    Ok(())
+}
+
+#[test]
+fn a_plan_is_written(rt: HostRuntime) -> Result<(), Fail> {
+    let mut output = OverWriter::new(Vec::new(rt.alloc()));
+    let config = config(rt.alloc())?;
+    write_plan(rt.alloc(), &config, 999, get(rt.alloc())?, &mut output)?;
+    let written = output.into_inner();
+    assert_eq!(rt;
+        written.as_slice(),
+        b"phase old-only at 999\nleg 0 old 7002\n".as_slice()
+    );
+    Ok(())
+}
+
+#[test]
+fn wrong_words_have_their_status(rt: HostRuntime) {
+    let status = run_words(
+        rt.alloc(),
+        &mut HostServers::new(&rt),
+        &["no command"],
+        &mut HostFiles::new(&rt),
+        &mut OverReader::new(&b""[..]),
+        &mut OverWriter::new(Vec::new(rt.alloc())),
+        &mut OverWriter::new(Vec::new(rt.alloc())),
+    );
+    assert_eq!(rt; status, WRONG_WORDS);
+}
+
+/// A listener on a free port of this machine.
+fn listener<R: Net<Listener = TcpListener, Stream = TcpStream>>(
+    rt: &R,
+) -> Result<OverListener, Fail> {
+    Ok(OverListener::new(TcpListener::bind(rt, "127.0.0.1:0")?))
+}
+
+/// Serves a proxy to nobody.
+fn serve_nobody<
+    N: Net<Listener = TcpListener, Stream = TcpStream> + Copy + Send + Sync,
+    D: Desk<SocketCarrier<N>> + Sync,
+    R: Threads + Wait + Clock + Sync,
+>(rt: &R, alloc: Global, net: N, listener: OverListener, desk: &D) -> Result<u64, Fail> {
+    let routing = routing(alloc)?;
+    let (_, served) = serve_proxy(
+        rt,
+        alloc,
+        net,
+        listener,
+        desk,
+        &routing,
+        0,
+        1,
+        &FixedClock(999),
+    );
+    Ok(served)
+}
+
+#[test]
+fn services_without_clients_end_at_once(rt: HostRuntime) -> Result<(), Fail> {
+    let node = SharedNode::new(CacheNode::new(rt.alloc(), 1)?);
+    let (_, served) = serve_node(
+        &rt,
+        rt.alloc(),
+        listener(&rt)?,
+        &node,
+        0,
+        1,
+        &FixedClock(999),
+    );
+    assert_eq!(rt; served, 0);
+    let desk = SharedProxy::new(core(rt.alloc())?);
+    assert_eq!(rt;
+        serve_nobody(&rt, rt.alloc(), &rt, listener(&rt)?, &desk)?,
+        0
+    );
+    Ok(())
+}

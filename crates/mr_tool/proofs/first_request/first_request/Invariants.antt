@@ -1,5 +1,0 @@
-use Rattle.mr_tool.proofs.RequestLemmas.{HasFed}
-use Rattle.mr_tool.proofs.first_request.first_request.Given as goal
-
-abbrev pub invariant-loop-turn : goal.invariant-loop-turn
-invariant-loop-turn g l = HasFed (g.I.Source.told l.initial.input) (g.I.Source.told l.input) l.reader l.turn
