@@ -1,3 +1,4 @@
+pub mod FaultLemmas
 pub mod FewReads
 pub mod GivenLemmas
 pub mod InputLemmas

@@ -2,6 +2,8 @@
 use Rattle.std.specs.Prelude.{◌≡◌, ℕ, List, Result, Ok, Err}
 use Rattle.mr_text.specs.Sink.{SinkView, IsOneWrite}
 use Rattle.mr_text.specs.declared.error.WriteFault.{WriteFault}
+use Rattle.mr_tool.specs.declared.fault.Fault.{Fault}
+use Rattle.mr_tool.specs.declared.fault.Fault.TheVariants as told
 use Rattle.mr_tool.specs.declared.printing.PrintFault.{PrintFault}
 use Rattle.mr_tool.specs.declared.printing.PrintFault.TheVariants.{Memory, Write}
 
@@ -10,3 +12,8 @@ abbrev pub WritesAtOnce : List ℕ → SinkView → Result (Unit {0}) PrintFault
 WritesAtOnce text old (Ok _) new = IsOneWrite text old (Ok tt) new
 WritesAtOnce text old (Err Write) new = (fault : WriteFault) × IsOneWrite text old (Err fault) new
 WritesAtOnce text old (Err Memory) new = new ≡ old
+
+-- the fault of a command whose text wasn't printed
+abbrev pub fault_of_printing : PrintFault → Fault
+fault_of_printing Memory = told.Memory
+fault_of_printing Write = told.Output

@@ -18,7 +18,7 @@ use crate::explain::write_explanation;
 use crate::fault::Fault;
 use crate::input::{first_request, given_bytes, load_config};
 use crate::plan::write_plan;
-use crate::printing::{PrintFault, write_at_once};
+use crate::printing::write_at_once;
 use crate::script_text::text_of_play;
 use crate::sources::Sources;
 use crate::timeline::write_timeline;
@@ -41,11 +41,8 @@ pub fn run_plan<S: Sources, I: Source, O: Sink>(
 {
     let config = load_config(alloc, values.config, sources)?;
     let request = first_request(alloc, input)?;
-    match write_plan(alloc, &config, values.at, request, output) {
-        Ok(()) => Ok(Ended::Done),
-        Err(PrintFault::Memory) => Err(Fault::Memory),
-        Err(PrintFault::Write) => Err(Fault::Output),
-    }
+    write_plan(alloc, &config, values.at, request, output)?;
+    Ok(Ended::Done)
 }
 
 /// Writes the timeline of a configuration.
@@ -60,11 +57,8 @@ pub fn run_timeline<S: Sources, O: Sink>(
         (devices (S.told sources.new) input (O.told output.new) faults) result }
 {
     let config = load_config(alloc, values.config, sources)?;
-    match write_timeline(alloc, &config, values.readings(), output) {
-        Ok(()) => Ok(Ended::Done),
-        Err(PrintFault::Memory) => Err(Fault::Memory),
-        Err(PrintFault::Write) => Err(Fault::Output),
-    }
+    write_timeline(alloc, &config, values.readings(), output)?;
+    Ok(Ended::Done)
 }
 
 /// Writes the transcript of the script in a file, or of the one on the input.
@@ -81,11 +75,8 @@ pub fn run_script<S: Sources, I: Source, O: Sink>(
 {
     let bytes = given_bytes(alloc, file, sources, input)?;
     let text = text_of_play(alloc, bytes.as_slice())?;
-    match write_at_once(text.as_slice(), output) {
-        Ok(()) => Ok(Ended::Done),
-        Err(PrintFault::Memory) => Err(Fault::Memory),
-        Err(PrintFault::Write) => Err(Fault::Output),
-    }
+    write_at_once(text.as_slice(), output)?;
+    Ok(Ended::Done)
 }
 
 /// Writes what is found of the transcript in a file, or of the one on the input.
@@ -101,15 +92,9 @@ pub fn run_check<S: Sources, I: Source, O: Sink>(
         (devices (S.told sources.new) (I.told input.new) (O.told output.new) faults) result }
 {
     let bytes = given_bytes(alloc, file, sources, input)?;
-    let checked = match check_transcript(alloc, bytes.as_slice()) {
-        Ok(checked) => checked,
-        Err(refusal) => return Err(Fault::Plan(refusal)),
-    };
-    match write_check(alloc, &checked, output) {
-        Ok(()) => Ok(end_of(checked.outcome)),
-        Err(PrintFault::Memory) => Err(Fault::Memory),
-        Err(PrintFault::Write) => Err(Fault::Output),
-    }
+    let checked = check_transcript(alloc, bytes.as_slice())?;
+    write_check(alloc, &checked, output)?;
+    Ok(end_of(checked.outcome))
 }
 
 /// Writes what a fault means.
@@ -122,11 +107,8 @@ pub fn run_explain<O: Sink>(
         (devices sources input (O.told output.old) faults)
         (devices sources input (O.told output.new) faults) result }
 {
-    match write_explanation(alloc, explanation, output) {
-        Ok(()) => Ok(Ended::Done),
-        Err(PrintFault::Memory) => Err(Fault::Memory),
-        Err(PrintFault::Write) => Err(Fault::Output),
-    }
+    write_explanation(alloc, explanation, output)?;
+    Ok(Ended::Done)
 }
 
 /// Writes the line that tells the version.

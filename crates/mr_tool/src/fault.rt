@@ -1,10 +1,12 @@
 //! What stops a command once its words were read.
 ghost use Rattle.std.specs.Prelude.{◌≡◌};
 
+use crate::printing::PrintFault;
 use mr_configs::PlanError;
 use mr_node::NodeError;
 use mr_text::{ReadFault, Sink, TextError};
 use mr_words::{node_line, plan_line, text_line};
+use std::alloc::AllocError;
 use thiserror::Error;
 
 /// Why a command stopped. Its text says it without what is printed around it.
@@ -64,6 +66,17 @@ impl Fault {
     }
 }
 
+impl From<AllocError> for Fault {
+    ghost use Rattle.std.specs.Prelude.{◌≡◌};
+    ghost use Rattle.mr_tool.specs.declared.fault.Fault.TheVariants.{Memory};
+
+    ghost from_gives = { λ _ fault. fault ≡ Memory };
+
+    fn from(_error: AllocError) -> Fault {
+        Fault::Memory
+    }
+}
+
 impl From<ReadFault> for Fault {
     ghost use Rattle.std.specs.Prelude.{◌≡◌};
     ghost use Rattle.mr_tool.specs.declared.fault.Fault.TheVariants.{Input};
@@ -72,5 +85,52 @@ impl From<ReadFault> for Fault {
 
     fn from(_fault: ReadFault) -> Fault {
         Fault::Input
+    }
+}
+
+impl From<PrintFault> for Fault {
+    ghost use Rattle.std.specs.Prelude.{◌≡◌};
+    ghost use Rattle.mr_tool.specs.Printing.{fault_of_printing};
+
+    ghost from_gives = { λ failed fault. fault ≡ fault_of_printing failed };
+
+    fn from(failed: PrintFault) -> Fault {
+        match failed {
+            PrintFault::Memory => Fault::Memory,
+            PrintFault::Write => Fault::Output,
+        }
+    }
+}
+
+impl From<PlanError> for Fault {
+    ghost use Rattle.std.specs.Prelude.{◌≡◌};
+    ghost use Rattle.mr_tool.specs.declared.fault.Fault.TheVariants.{Plan};
+
+    ghost from_gives = { λ refusal fault. fault ≡ Plan refusal };
+
+    fn from(refusal: PlanError) -> Fault {
+        Fault::Plan(refusal)
+    }
+}
+
+impl From<NodeError> for Fault {
+    ghost use Rattle.std.specs.Prelude.{◌≡◌};
+    ghost use Rattle.mr_tool.specs.declared.fault.Fault.TheVariants.{Node};
+
+    ghost from_gives = { λ refusal fault. fault ≡ Node refusal };
+
+    fn from(refusal: NodeError) -> Fault {
+        Fault::Node(refusal)
+    }
+}
+
+impl From<TextError> for Fault {
+    ghost use Rattle.std.specs.Prelude.{◌≡◌};
+    ghost use Rattle.mr_tool.specs.declared.fault.Fault.TheVariants.{Text};
+
+    ghost from_gives = { λ refusal fault. fault ≡ Text refusal };
+
+    fn from(refusal: TextError) -> Fault {
+        Fault::Text(refusal)
     }
 }

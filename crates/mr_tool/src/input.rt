@@ -38,10 +38,8 @@ fn add_piece<I: Source>(bytes: &mut Vec<u8>, input: &mut I) -> Result<bool, Faul
     if count == 0 {
         return Ok(true);
     }
-    match bytes.extend_from_slice(&piece[..count]) {
-        Ok(()) => Ok(false),
-        Err(_) => Err(Fault::Memory),
-    }
+    bytes.extend_from_slice(&piece[..count])?;
+    Ok(false)
 }
 
 /// The bytes of an input up to its end, or the first `MOST_TAKEN` of them. Nothing is read after the end or after a
@@ -84,30 +82,19 @@ pub fn given_bytes<S: Sources, I: Source>(
 pub fn load_config<S: Sources>(alloc: Global, path: &str, sources: &mut S) -> Result<Config, Fault>
     ensures { LoadsConfig path.now (S.told sources.old) result (S.told sources.new) }
 {
-    let bytes = match load_bytes(alloc, path, sources) {
-        Ok(bytes) => bytes,
-        Err(fault) => return Err(fault),
-    };
+    let bytes = load_bytes(alloc, path, sources)?;
     if bytes.len() > MOST_CONFIG_BYTES {
         return Err(Fault::Plan(PlanError::TooLarge));
     }
-    match Config::read(alloc, bytes.as_slice()) {
-        Ok(config) => Ok(config),
-        Err(refusal) => Err(Fault::Plan(refusal)),
-    }
+    Ok(Config::read(alloc, bytes.as_slice())?)
 }
 
 /// The request that the input holds with one more piece of it, if it holds one yet.
 fn next_with(reader: &mut RequestReader, piece: &[u8]) -> Result<Option<Request>, Fault>
     ensures { (fed : List ℕ) → Becomes reader.old fed false false → IsNextOf reader.new (fed ++ piece.now) result }
 {
-    if let Err(refusal) = reader.feed(piece) {
-        return Err(Fault::Text(refusal));
-    }
-    match reader.next() {
-        Ok(request) => Ok(request),
-        Err(refusal) => Err(Fault::Text(refusal)),
-    }
+    reader.feed(piece)?;
+    Ok(reader.next()?)
 }
 
 /// The first request of an input, read no further than the piece that completes it. The first line that is refused is
@@ -123,10 +110,8 @@ pub fn first_request<I: Source>(alloc: Global, input: &mut I) -> Result<Request,
         if count == 0 {
             return Err(Fault::Text(TextError::Truncated));
         }
-        match next_with(&mut reader, &buffer[..count]) {
-            Ok(Some(request)) => return Ok(request),
-            Ok(None) => {}
-            Err(fault) => return Err(fault),
+        if let Some(request) = next_with(&mut reader, &buffer[..count])? {
+            return Ok(request);
         }
     }
     unreachable!() // so many bytes hold a request or a refusal

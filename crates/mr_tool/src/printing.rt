@@ -2,7 +2,6 @@
 ghost use Rattle.std.specs.Prelude.{◌≡◌, IsErrOf};
 ghost use Rattle.mr_tool.specs.Printing.{WritesAtOnce};
 
-use crate::fault::Fault;
 use mr_text::Sink;
 use std::alloc::AllocError;
 use thiserror::Error;

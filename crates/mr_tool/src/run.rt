@@ -85,6 +85,49 @@ fn finish<F: Sink>(gave: Result<Ended, Fault>, faults: &mut F) -> u8
     }
 }
 
+/// Runs the command that the words ask for, as `run_words` does.
+fn run_wanted<
+    R: Net<Listener = TcpListener, Stream = TcpStream> + Threads + Wait + time::Clock + Sync,
+    S: Sources,
+    I: Source,
+    O: Sink,
+    F: Sink,
+>(
+    alloc: Global,
+    servers: &mut HostServers<'_, R>,
+    words: &[&str],
+    sources: &mut S,
+    input: &mut I,
+    output: &mut O,
+    faults: &mut F,
+) -> u8
+    ensures { Runs (map (λ word. word.now) words.now)
+        (devices (S.told sources.old) (I.told input.old) (O.told output.old) (F.told faults.old))
+        (devices (S.told sources.new) (I.told input.new) (O.told output.new) (F.told faults.new)) servers.old servers.new result }
+{
+    match read_words(alloc, words) {
+        Ok(Wanted::Plan(values)) => {
+            finish(run_plan(alloc, &values, sources, input, output), faults)
+        }
+        Ok(Wanted::Timeline(values)) => {
+            finish(run_timeline(alloc, &values, sources, output), faults)
+        }
+        Ok(Wanted::Run(file)) => finish(run_script(alloc, file, sources, input, output), faults),
+        Ok(Wanted::Check(file)) => finish(run_check(alloc, file, sources, input, output), faults),
+        Ok(Wanted::Node(values)) => finish(run_node(alloc, &values, servers, output), faults),
+        Ok(Wanted::Proxy(values)) => {
+            finish(run_proxy(alloc, &values, servers, sources, output), faults)
+        }
+        Ok(Wanted::Explain(explanation)) => {
+            finish(run_explain(alloc, &explanation, output), faults)
+        }
+        Err(WordsFault::Wrong(error)) => tell_wrong_words(alloc, &error, faults),
+        Err(WordsFault::Version) => finish(write_version(output), faults),
+        Err(WordsFault::Readings) => tell_bad_readings(faults),
+        Err(WordsFault::Memory) => tell_fault(&Fault::Memory, faults),
+    }
+}
+
 /// Runs the command that the words ask for, of which the first names it, and gives the program's status. A node or a proxy
 /// is served by `servers`. Files come from `sources`; what the command is to print goes to `output`, and a fault to `faults`.
 /// Faults are looked for in this order: the words; then for a plan the file, the configuration, the request; for a timeline
@@ -118,25 +161,5 @@ pub fn run_words<
         (devices (S.told sources.new) (I.told input.new) (O.told output.new) (F.told faults.new))
         × (servers.new.failures ≡ servers.old.failures) }
 {
-    match read_words(alloc, words) {
-        Ok(Wanted::Plan(values)) => {
-            finish(run_plan(alloc, &values, sources, input, output), faults)
-        }
-        Ok(Wanted::Timeline(values)) => {
-            finish(run_timeline(alloc, &values, sources, output), faults)
-        }
-        Ok(Wanted::Run(file)) => finish(run_script(alloc, file, sources, input, output), faults),
-        Ok(Wanted::Check(file)) => finish(run_check(alloc, file, sources, input, output), faults),
-        Ok(Wanted::Node(values)) => finish(run_node(alloc, &values, servers, output), faults),
-        Ok(Wanted::Proxy(values)) => {
-            finish(run_proxy(alloc, &values, servers, sources, output), faults)
-        }
-        Ok(Wanted::Explain(explanation)) => {
-            finish(run_explain(alloc, &explanation, output), faults)
-        }
-        Err(WordsFault::Wrong(error)) => tell_wrong_words(alloc, &error, faults),
-        Err(WordsFault::Version) => finish(write_version(output), faults),
-        Err(WordsFault::Readings) => tell_bad_readings(faults),
-        Err(WordsFault::Memory) => tell_fault(&Fault::Memory, faults),
-    }
+    run_wanted(alloc, servers, words, sources, input, output, faults)
 }

@@ -13,16 +13,8 @@ pub fn text_of_play(alloc: Global, bytes: &[u8]) -> Result<Vec<u8>, Fault>
     ensures played { IfOk result (λ text. IsPlayed bytes.now text.items) }
     ensures refused { IfErr result (λ fault. IsPlayFault bytes.now fault) }
 {
-    let script = match read_events(alloc, bytes) {
-        Ok(script) => script,
-        Err(refusal) => return Err(Fault::Plan(refusal)),
-    };
-    let mut text = match write_transcript(alloc, script) {
-        Ok(text) => text,
-        Err(refusal) => return Err(Fault::Plan(refusal)),
-    };
-    match text.extend_from_slice(b"\n") {
-        Ok(()) => Ok(text),
-        Err(_) => Err(Fault::Memory),
-    }
+    let script = read_events(alloc, bytes)?;
+    let mut text = write_transcript(alloc, script)?;
+    text.extend_from_slice(b"\n")?;
+    Ok(text)
 }

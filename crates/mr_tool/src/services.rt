@@ -12,7 +12,7 @@ use crate::ended::Ended;
 use crate::fault::Fault;
 use crate::input::load_config;
 use crate::line::push_number;
-use crate::printing::{PrintFault, write_at_once};
+use crate::printing::write_at_once;
 use crate::sources::Sources;
 use mr_node::CacheNode;
 use mr_proxy::ProxyCore;
@@ -60,14 +60,12 @@ fn end_service<O: Sink>(
         Ok(served) => served,
         Err(OpenFault::Net) => return Err(net_fault(alloc, listen)),
     };
-    let Ok(line) = line_of(alloc, served) else {
-        return Err(Fault::Memory);
-    };
-    match write_at_once(line.as_slice(), output) {
-        Ok(()) if served == clients => Ok(Ended::Done),
-        Ok(()) => Ok(Ended::Faulted),
-        Err(PrintFault::Memory) => Err(Fault::Memory),
-        Err(PrintFault::Write) => Err(Fault::Output),
+    let line = line_of(alloc, served)?;
+    write_at_once(line.as_slice(), output)?;
+    if served == clients {
+        Ok(Ended::Done)
+    } else {
+        Ok(Ended::Faulted)
     }
 }
 
@@ -85,10 +83,7 @@ pub fn run_node<
         (devices sources input (O.told output.old) faults)
         (devices sources input (O.told output.new) faults) servers.old servers.new result }
 {
-    let node = match CacheNode::new(alloc, values.capacity as usize) {
-        Ok(node) => node,
-        Err(refusal) => return Err(Fault::Node(refusal)),
-    };
+    let node = CacheNode::new(alloc, values.capacity as usize)?;
     let served = servers.serve_node(alloc, values.listen, node, values.clients, values.turns);
     end_service(alloc, values.listen, values.clients, served, output)
 }
@@ -110,9 +105,7 @@ pub fn run_proxy<
         (devices (S.told sources.new) input (O.told output.new) faults) servers.old servers.new result }
 {
     let config = load_config(alloc, values.config, sources)?;
-    let Ok(routing) = config.routing().copy() else {
-        return Err(Fault::Memory);
-    };
+    let routing = config.routing().copy()?;
     let core = ProxyCore::new(alloc, 0, 0, routing, config.schedule(), values.room);
     let served = servers.serve_proxy(
         alloc,

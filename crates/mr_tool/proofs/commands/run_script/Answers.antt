@@ -1,8 +1,9 @@
 use Rattle.std.proofs.Common.{inr, refl}
+use Rattle.mr_tool.proofs.FaultLemmas.{print_fails}
 use Rattle.mr_tool.proofs.GivenLemmas.{ends_not_given, ends_not_played}
 use Rattle.mr_tool.specs.Devices.{devices}
 use Rattle.mr_words.specs.Words.{path_in}
-use Rattle.mr_tool.specs.RunCommand.{MakesTranscript, RefusesPlay}
+use Rattle.mr_tool.specs.RunCommand.{MakesTranscript, RefusesPlay, RunGives}
 use Rattle.mr_tool.specs.declared.ended.Ended.TheVariants.{Done}
 use Rattle.mr_tool.proofs.commands.run_script.Goals as goal
 
@@ -21,35 +22,25 @@ returns-in_err-text g c = λ faults.
     c.from_residual-in_err-text.ensures.1 (c.in_ok-bytes.ensures.given (g.O.Sink.told c.args.output.now) (g.O.Sink.told c.args.output.now) faults) c.as_slice.ensures.value
     c.in_err-text.ensures.refused refl
 
-pub returns-in-Ok : goal.returns-in-Ok
-returns-in-Ok g c = λ faults. record {
-  bytes = c.in_ok-bytes.bytes.items;
-  text = c.in_ok-text.text.items;
-  given = c.in_ok-bytes.ensures.given (g.O.Sink.told c.args.output.now) (g.O.Sink.told c.write_at_once.new.writer) faults;
-  made = (rw c.as_slice.ensures.value at c.in_ok-text.ensures.played, refl);
-  writes = rw c.as_slice-2.ensures.value at c.in-Ok.ensures.text;
-}
-
-pub returns-in-Err-Memory : goal.returns-in-Err-Memory
-returns-in-Err-Memory g c = λ faults. inr (record {
-  bytes = c.in_ok-bytes.bytes.items;
-  text = c.in_ok-text.text.items;
-  ended = Done;
-  given = c.in_ok-bytes.ensures.given (g.O.Sink.told c.args.output.now) (g.O.Sink.told c.write_at_once.new.writer) faults;
-  due = (rw c.as_slice.ensures.value at c.in_ok-text.ensures.played, refl);
-  unwritten = rw c.in-Err-Memory.field-0-is at c.in-Err-Memory.ensures.text;
-})
-
-pub returns : goal.returns
-returns g c = λ faults.
-    let writes = rw (c.in-Err-Write.field-0-is, c.as_slice-2.ensures.value) at c.in-Err-Write.ensures.text in (
+pub returns-in_err-write_at_once : goal.returns-in_err-write_at_once
+returns-in_err-write_at_once g c = λ faults.
+    let before = devices (g.S.Sources.told c.args.sources.now) (g.I.Source.told c.args.input.now) (g.O.Sink.told c.args.output.now) faults in
+    let after = devices (g.S.Sources.told c.given_bytes.new.sources) (g.I.Source.told c.given_bytes.new.input) (g.O.Sink.told c.write_at_once.new.writer) faults in
+    let given = c.in_ok-bytes.ensures.given (g.O.Sink.told c.args.output.now) (g.O.Sink.told c.write_at_once.new.writer) faults in
+    let made : MakesTranscript c.in_ok-bytes.bytes.items c.in_ok-text.text.items Done = (rw c.as_slice.ensures.value at c.in_ok-text.ensures.played, refl) in
+    print_fails (RunGives (path_in c.args.file) before after) c.from_residual-in_err-write_at_once.result c.in_err-write_at_once.field-0.0
+    c.in_ok-text.text.items before.output after.output c.from_residual-in_err-write_at_once.ensures.1
+    (rw c.as_slice-2.ensures.value at c.in_err-write_at_once.ensures.text)
+    (λ same. inr (record {
+      bytes = c.in_ok-bytes.bytes.items;
+      text = c.in_ok-text.text.items;
+      ended = Done;
+      given = given;
+      due = made;
+      unwritten = same;
+    }))
+    (λ fault writes. (
       Done,
-      writes.0,
-      record {
-        bytes = c.in_ok-bytes.bytes.items;
-        text = c.in_ok-text.text.items;
-        given = c.in_ok-bytes.ensures.given (g.O.Sink.told c.args.output.now) (g.O.Sink.told c.write_at_once.new.writer) faults;
-        made = (rw c.as_slice.ensures.value at c.in_ok-text.ensures.played, refl);
-        writes = writes.1;
-      },
-    )
+      fault,
+      record { bytes = c.in_ok-bytes.bytes.items; text = c.in_ok-text.text.items; given = given; made = made; writes = writes },
+    ))

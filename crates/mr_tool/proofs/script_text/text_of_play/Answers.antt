@@ -1,17 +1,24 @@
-use Rattle.std.proofs.Common.{◌++◌, codes, inr, refl}
+use Rattle.std.proofs.Common.{◌++◌, codes, IfErr, inr, refl}
+use Rattle.mr_tool.proofs.FaultLemmas.{faulted}
+use Rattle.mr_tool.specs.RunCommand.{IsPlayFault}
+use Rattle.mr_tool.specs.declared.fault.Fault.TheVariants.{Memory, Plan}
 use Rattle.mr_tool.proofs.script_text.text_of_play.Goals as goal
 
-pub returns-in-Err-write_transcript-clause-refused : goal.returns-in-Err-write_transcript-clause-refused
-returns-in-Err-write_transcript-clause-refused c = inr (c.in-Ok.script, c.in-Ok.ensures, c.in-Err-write_transcript.ensures.refused)
+pub returns-in_err-text-clause-refused : goal.returns-in_err-text-clause-refused
+returns-in_err-text-clause-refused c =
+    faulted (λ other. IfErr other (IsPlayFault c.args.bytes.now)) c.from_residual-in_err-text.result (Plan c.in_err-text.field-0.0)
+    c.from_residual-in_err-text.ensures.1 (inr (c.in_ok-script.script, c.in_ok-script.ensures, c.in_err-text.ensures.refused))
 
-pub returns-in-Err-extend_from_slice-clause-refused : goal.returns-in-Err-extend_from_slice-clause-refused
-returns-in-Err-extend_from_slice-clause-refused c = (
-  c.in-Ok-write_transcript.text.items ++ codes "\n",
-  record {
-    script = c.in-Ok.script;
-    transcript = c.in-Ok-write_transcript.text.items;
-    reads = c.in-Ok.ensures;
-    is_transcript = c.in-Ok-write_transcript.ensures.written;
-    text_is = refl;
-  },
-)
+pub returns-in_err-extend_from_slice-clause-refused : goal.returns-in_err-extend_from_slice-clause-refused
+returns-in_err-extend_from_slice-clause-refused c =
+    faulted (λ other. IfErr other (IsPlayFault c.args.bytes.now)) c.from_residual-in_err-extend_from_slice.result Memory
+    c.from_residual-in_err-extend_from_slice.ensures.1 (
+      c.in_ok-text.text.items ++ codes "\n",
+      record {
+        script = c.in_ok-script.script;
+        transcript = c.in_ok-text.text.items;
+        reads = c.in_ok-script.ensures;
+        is_transcript = c.in_ok-text.ensures.written;
+        text_is = refl;
+      },
+    )
