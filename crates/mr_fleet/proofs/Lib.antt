@@ -1,3 +1,3 @@
 pub mod ClientEndLemmas
-pub mod EndLemmas
+pub mod FleetEndLemmas
 pub mod TurnLemmas

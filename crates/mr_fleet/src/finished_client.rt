@@ -56,7 +56,7 @@ impl<C: Carrier, K: Clock, S: Source, W: Sink> FinishedClient<C, K, S, W> {
     }
 
     /// What a client came to that had a session.
-    pub(crate) fn served(
+    pub(crate) fn after_session(
         ended: Result<Ended, WorkerError>,
         reader: S,
         writer: W,

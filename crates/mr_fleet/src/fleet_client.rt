@@ -83,11 +83,11 @@ impl<K: Clock + Drop, S: Source, W: Sink> FleetClient<K, S, W> {
             &mut carriers,
             turns,
         );
-        FinishedClient::served(ended, reader, writer, turns, share, answers)
+        FinishedClient::after_session(ended, reader, writer, turns, share, answers)
     }
 
     /// Ends a client for which no thread could be made. It takes no memory.
-    pub fn unserved<C: Carrier>(
+    pub fn without_thread<C: Carrier>(
         self,
         alloc: Global,
         desk: &RecordedProxy<C>,

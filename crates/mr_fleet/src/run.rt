@@ -73,7 +73,7 @@ fn close_all<C: Carrier + Drop, K: Clock + Drop, S: Source + Drop, W: Sink + Dro
 }
 
 /// Starts the threads of all proxies, and waits for all of them.
-fn serve_all<
+fn serve_fleet<
     C: Carrier + Send + Drop,
     K: Clock + Send + Drop,
     S: Source + Send + Drop,
@@ -142,7 +142,7 @@ fn run_in<
         ends,
     } = room;
     let (desks, prepared) = take_apart(proxies, rooms, desks, prepared);
-    let endings = serve_all(rt, alloc, &desks, prepared, underway, endings, gate);
+    let endings = serve_fleet(rt, alloc, &desks, prepared, underway, endings, gate);
     close_all(alloc, desks, endings, ends)
 }
 

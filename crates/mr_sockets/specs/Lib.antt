@@ -1,5 +1,5 @@
 pub mod Address
-pub mod Asks
+pub mod AskedServices
 pub mod Carriers
 pub mod Listener
 pub mod Servers

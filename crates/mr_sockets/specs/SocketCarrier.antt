@@ -30,14 +30,14 @@ fresh_carrier turns name = record { name = name; turns = turns; link = None; fau
 abbrev pub unread_source : Option (List ℕ) → SourceView
 unread_source left = record { taken = []; left = left; reads = 0; failures = 0; least_room = None }
 
-abbrev pub unwritten : Option (List ℕ) → SinkView
-unwritten contents = record { written = []; handed = []; calls = 0; failures = 0; last_failed = false; contents = contents }
+abbrev pub unwritten_sink : Option (List ℕ) → SinkView
+unwritten_sink contents = record { written = []; handed = []; calls = 0; failures = 0; last_failed = false; contents = contents }
 
 -- a link by a new connection
 pub record IsNewLink (turns : ℕ) (link : LinkView) : Type 0 where
   pub left : Option (List ℕ)
   pub contents : Option (List ℕ)
-  pub new : link ≡ record { wire = wire (unread_source left) (unwritten contents) []; turns = turns; broken = false; faults = 0 }
+  pub new : link ≡ record { wire = wire (unread_source left) (unwritten_sink contents) []; turns = turns; broken = false; faults = 0 }
 
 -- A link carried the leg, and is kept; or it didn't, and is given away.
 abbrev pub CarriesOver : NodeCommand → LinkView → Result LegReply WorkerError → Option LinkView → Type 0

@@ -59,12 +59,11 @@ fn accept_all<'s, 'e, L: Listener + Drop, S: Service + Sync, R: Threads + Wait +
 
 /// Accepts so many connections, serves each in a thread of its own, and gives the listener back, with how many connections
 /// ended without a fault, once all have ended. Nothing is kept of a connection that has ended.
-pub(crate) fn serve_all<L: Listener + Drop, S: Service + Sync, R: Threads + Wait + Clock + Sync>(
-    rt: &R,
-    listener: L,
-    service: &S,
-    clients: u64,
-) -> (L, u64)
+pub(crate) fn serve_connections<
+    L: Listener + Drop,
+    S: Service + Sync,
+    R: Threads + Wait + Clock + Sync,
+>(rt: &R, listener: L, service: &S, clients: u64) -> (L, u64)
     ensures { AreAccepted clients (L.told listener) result.1 (L.told result.0) }
 {
     let well = Mutex::new(0);

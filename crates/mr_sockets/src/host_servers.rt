@@ -3,7 +3,7 @@ ghost use Rattle.std.specs.Prelude.{◌≡◌};
 ghost use Rattle.mr_proxy.specs.ProxyView.{IsFresh};
 ghost use Rattle.mr_sockets.specs.Servers.{IsOneService, NodeAt, ProxyAt, ServiceGives};
 
-use crate::asks::GhostAsks;
+use crate::asked_services::GhostServices;
 use crate::fault::OpenFault;
 use crate::listener::OverListener;
 use crate::listening::listener_at;
@@ -29,7 +29,7 @@ pub struct HostServers<
     R: Net<Listener = TcpListener, Stream = TcpStream> + Threads + Wait + time::Clock + Sync,
 > {
     rt: &'a R,
-    asked: GhostAsks,
+    asked: GhostServices,
     failures: GhostCount,
 }
 
@@ -58,7 +58,7 @@ impl<
 }
 
 /// Serves a node at an address until all its clients have ended, and gives how many ended without a fault.
-fn node_at<
+fn serve_node_at<
     R: Net<Listener = TcpListener, Stream = TcpStream> + Threads + Wait + time::Clock + Sync,
 >(
     rt: &R,
@@ -88,7 +88,7 @@ fn node_at<
 }
 
 /// Serves a proxy at an address until all its clients have ended, and gives how many ended without a fault.
-fn proxy_at<
+fn serve_proxy_at<
     R: Net<Listener = TcpListener, Stream = TcpStream> + Threads + Wait + time::Clock + Sync,
 >(
     rt: &R,
@@ -133,7 +133,7 @@ impl<
     {
         HostServers {
             rt,
-            asked: GhostAsks::new(),
+            asked: GhostServices::new(),
             failures: GhostCount::new(),
         }
     }
@@ -151,7 +151,7 @@ impl<
         ensures { IsOneService (NodeAt listen.now node clients turns) self.old result self.new }
     {
         self.asked.add_node(listen, &node, clients, turns);
-        let served = node_at(self.rt, alloc, listen, node, clients, turns);
+        let served = serve_node_at(self.rt, alloc, listen, node, clients, turns);
         if served.is_err() {
             self.failures.add_one();
         }
@@ -174,7 +174,7 @@ impl<
         ensures { IsOneService (ProxyAt listen.now core routing.now clients turns) self.old result self.new }
     {
         self.asked.add_proxy(listen, &core, routing, clients, turns);
-        let served = proxy_at(self.rt, alloc, listen, core, routing, clients, turns);
+        let served = serve_proxy_at(self.rt, alloc, listen, core, routing, clients, turns);
         if served.is_err() {
             self.failures.add_one();
         }

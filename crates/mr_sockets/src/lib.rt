@@ -3,7 +3,7 @@
 #![tactic(auto)]
 
 mod address;
-mod asks;
+mod asked_services;
 mod carriers;
 mod connections;
 mod fault;

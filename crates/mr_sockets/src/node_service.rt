@@ -1,7 +1,7 @@
 //! The service of a node's connections.
 ghost use Rattle.mr_sockets.specs.Listener.{AreAccepted};
 
-use crate::connections::{Service, serve_all};
+use crate::connections::{Service, serve_connections};
 use crate::listener::Listener;
 use mr_clock::Clock;
 use mr_desks::SharedNode;
@@ -83,5 +83,5 @@ pub fn serve_node<
         turns,
         clock,
     };
-    serve_all(rt, listener, &service, clients)
+    serve_connections(rt, listener, &service, clients)
 }

@@ -2,7 +2,7 @@
 ghost use Rattle.mr_sockets.specs.Listener.{AreAccepted};
 
 use crate::carriers::node_carriers;
-use crate::connections::{Service, serve_all};
+use crate::connections::{Service, serve_connections};
 use crate::listener::Listener;
 use crate::socket_carrier::SocketCarrier;
 use mr_clock::Clock;
@@ -104,5 +104,5 @@ pub fn serve_proxy<
         turns,
         clock,
     };
-    serve_all(rt, listener, &service, clients)
+    serve_connections(rt, listener, &service, clients)
 }

@@ -2,7 +2,7 @@
 use Rattle.std.proofs.Common.{arith, ◌≡◌, ◌≤◌, ◌+◌, ℕ, List, Option, Some, None, Result, Ok, Err, refl, ap, subst, inl, inr}
 use Rattle.mr_text.specs.Source.{SourceView}
 use Rattle.mr_tool.proofs.RequestLemmas.{few_reads}
-use Rattle.mr_words.proofs.WordLemmas.{one_said}
+use Rattle.mr_words.proofs.WordLemmas.{no_version_said, one_said}
 use Rattle.mr_tool.specs.Devices.{Devices}
 use Rattle.mr_words.specs.Explain.{Told, told_by}
 use Rattle.mr_tool.specs.ExplainCommand.{ExplainGives}
@@ -217,7 +217,8 @@ pub few : (words : List (List ℕ)) (before after : Devices) (idle busy : Server
 few words before after idle busy status (inl runs) = run_reads words before after idle busy status runs
 few words before after idle busy status (inr (inl refuses, same)) = λ command says. unread _ _ _ refuses.tells.unread
 few words before after idle busy status (inr (inr (inl refuses), same)) = λ command says. unread _ _ _ refuses.tells.unread
-few words before after idle busy status (inr (inr (inr memory), same)) = λ command says. unread _ _ _ memory.1.unread
+few words before after idle busy status (inr (inr (inr (inl memory)), same)) = λ command says. unread _ _ _ memory.1.unread
+few words before after idle busy status (inr (inr (inr (inr tells)), same)) = λ command says. absurd (no_version_said words command says tells.says)
 
 -- words that are the same read as few
 pub same_words_few : (words others : List (List ℕ)) (before after : Devices) → words ≡ others → ReadsFew words before after → ReadsFew others before after

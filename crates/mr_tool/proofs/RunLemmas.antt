@@ -27,7 +27,8 @@ use Rattle.mr_sockets.specs.Servers.{Asked, IsOneService, ServersView, clients_o
 use Rattle.mr_sockets.specs.declared.fault.OpenFault.{OpenFault}
 use Rattle.mr_tool.specs.Fault.{fault_line, readings_line}
 use Rattle.mr_tool.specs.Sources.{SourcesView}
-use Rattle.mr_words.specs.Words.{Say, SayBadReadings, SayNothing, path_in}
+use Rattle.mr_tool.specs.VersionCommand.{VersionGives}
+use Rattle.mr_words.specs.Words.{Say, SayBadReadings, SayNothing, SayVersion, path_in}
 
 -- a command that did what was wanted met no failure
 config_steady : (path : List ℕ) (before after : SourcesView) (config : ConfigView) → LoadsConfig path before (Ok config) after
@@ -153,13 +154,31 @@ ended_steady wanted before between after idle busy (Ok ended) status gives silen
     subst (λ (d : Devices). AllSteady before d idle busy) (sym ends.1) (command_steady wanted ended before between idle busy gives silent)
 ended_steady wanted before between after idle busy (Err fault) status gives silent ends done = absurd (no_fault status ends.0 done)
 
+version_steady : (before between : Devices) (ended : Ended) → VersionGives before between (Ok ended) → between.faults ≡ before.faults → NoneFailed before between
+version_steady before between Done h silent = record {
+  sources = ap (λ (s : SourcesView). s.failures) h.unasked;
+  input = ap (λ (s : SourceView). s.failures) h.unread;
+  output = h.writes.0.steady;
+  faults = ap (λ (s : SinkView). s.failures) silent;
+}
+version_steady before between NotAccepted h silent = absurd h
+version_steady before between Faulted h silent = absurd h
+
+told_steady : (before between after : Devices) (result : Result Ended Fault) (status : ℕ) → VersionGives before between result → between.faults ≡ before.faults
+    → EndsWith result status between after → (status ≡ 0) ⊎ (status ≡ 3) → NoneFailed before after
+told_steady before between after (Ok ended) status gives silent ends done =
+    subst (λ (d : Devices). NoneFailed before d) (sym ends.1) (version_steady before between ended gives silent)
+told_steady before between after (Err fault) status gives silent ends done = absurd (no_fault status ends.0 done)
+
 pub done_steady : (words : List (List ℕ)) (before after : Devices) (idle busy : ServersView) (status : ℕ) → Runs words before after idle busy status
     → (status ≡ 0) ⊎ (status ≡ 3) → NoneFailed before after × (busy.failures ≡ idle.failures)
 done_steady words before after idle busy status (inl runs) done =
     ended_steady runs.wanted before runs.between after idle busy runs.result status runs.gives runs.silent runs.ends done
 done_steady words before after idle busy status (inr (inl refuses, same)) done = absurd (not_wrong status refuses.is_status done)
 done_steady words before after idle busy status (inr (inr (inl refuses), same)) done = absurd (not_wrong status refuses.is_status done)
-done_steady words before after idle busy status (inr (inr (inr memory), same)) done = absurd (no_fault status memory.0 done)
+done_steady words before after idle busy status (inr (inr (inr (inl memory)), same)) done = absurd (no_fault status memory.0 done)
+done_steady words before after idle busy status (inr (inr (inr (inr tells)), same)) done =
+    idle_steady before after idle busy (told_steady before tells.between after tells.result status tells.gives tells.silent tells.ends done) same
 
 -- one call tells the text that it hands over
 pub told_by_call : (text bytes : List ℕ) (old new : SinkView) (answer : Result (Unit {0}) WriteFault) → bytes ≡ text → IsOneWrite bytes old answer new
@@ -192,7 +211,7 @@ pub refused_words_run : (words : List (List ℕ)) (sources : SourcesView) (input
 refused_words_run words sources input output old new servers status says (inl wrong) =
     inr (inl (record { says_nothing = says; is_status = wrong.0; text = wrong.1.0; tells = tells_alone wrong.1.0 sources input output old new wrong.1.1 }), refl)
 refused_words_run words sources input output old new servers status says (inr memory) =
-    inr (inr (inr (memory.0, tells_alone (fault_line Memory) sources input output old new memory.1)), refl)
+    inr (inr (inr (inl (memory.0, tells_alone (fault_line Memory) sources input output old new memory.1))), refl)
 
 -- the run of words whose readings are no list of numbers
 pub refused_readings_run : (words : List (List ℕ)) (sources : SourcesView) (input : SourceView) (output old new : SinkView) (servers : ServersView) (status : ℕ)
@@ -205,7 +224,13 @@ refused_readings_run words sources input output old new servers status says is t
 pub memory_run : (words : List (List ℕ)) (sources : SourcesView) (input : SourceView) (output old new : SinkView) (servers : ServersView) (status : ℕ) → status ≡ 1
     → IsToldAtOnce (fault_line Memory) old new → Runs words (devices sources input output old) (devices sources input output new) servers servers status
 memory_run words sources input output old new servers status is told =
-    inr (inr (inr (is, tells_alone (fault_line Memory) sources input output old new told)), refl)
+    inr (inr (inr (inl (is, tells_alone (fault_line Memory) sources input output old new told))), refl)
+
+-- the run of words that call for the version
+pub version_run : (words : List (List ℕ)) (before between after : Devices) (servers : ServersView) (result : Result Ended Fault) (status : ℕ) → SayVersion words
+    → VersionGives before between result → between.faults ≡ before.faults → EndsWith result status between after → Runs words before after servers servers status
+version_run words before between after servers result status says gives silent ends =
+    inr (inr (inr (inr (record { says = says; between = between; result = result; gives = gives; silent = silent; ends = ends }))), refl)
 
 -- words that are the same run the same
 pub same_words_run : (words others : List (List ℕ)) (before after : Devices) (idle busy : ServersView) (status : ℕ) → words ≡ others

@@ -16,3 +16,4 @@ pub mod Services
 pub mod Sources
 pub mod TimelineCommand
 pub mod TimelineText
+pub mod VersionCommand

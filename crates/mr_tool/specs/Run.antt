@@ -10,7 +10,8 @@ use Rattle.mr_tool.specs.PlanCommand.{PlanGives}
 use Rattle.mr_tool.specs.RunCommand.{RunGives}
 use Rattle.mr_tool.specs.Services.{NodeGives, ProxyGives}
 use Rattle.mr_tool.specs.TimelineCommand.{TimelineGives}
-use Rattle.mr_words.specs.Words.{Say, SayBadReadings, SayNothing, path_in}
+use Rattle.mr_tool.specs.VersionCommand.{VersionGives}
+use Rattle.mr_words.specs.Words.{Say, SayBadReadings, SayNothing, SayVersion, path_in}
 use Rattle.mr_tool.specs.declared.ended.Ended.{Ended}
 use Rattle.mr_tool.specs.declared.ended.Ended.TheVariants.{Done, NotAccepted, Faulted}
 use Rattle.mr_tool.specs.declared.fault.Fault.{Fault}
@@ -79,10 +80,20 @@ pub record RefusesReadings (words : List (List ℕ)) (before after : Devices) (s
   pub is_status : status ≡ WRONG_WORDS
   pub tells : Tells readings_line before after
 
--- what is told where no command is run: of wrong words, or that memory was refused while they were read
+-- the words call for the version, and it was written; the device for faults has nothing of it
+pub record TellsVersion (words : List (List ℕ)) (before after : Devices) (status : ℕ) : Type 0 where
+  pub says : SayVersion words
+  pub between : Devices
+  pub result : Result Ended Fault
+  pub gives : VersionGives before between result
+  pub silent : between.faults ≡ before.faults
+  pub ends : EndsWith result status between after
+
+-- what is told where no command is run: of wrong words, that memory was refused while they were read, or the version
 abbrev pub RunsNothing : List (List ℕ) → Devices → Devices → ℕ → Type 0
 RunsNothing words before after status =
     RefusesWords words before after status ⊎ RefusesReadings words before after status ⊎ EndsWith (Err Memory) status before after
+    ⊎ TellsVersion words before after status
 
 -- the run of these words: their command, or nothing, and then no service is asked for
 abbrev pub Runs : List (List ℕ) → Devices → Devices → ServersView → ServersView → ℕ → Type 0

@@ -10,6 +10,7 @@ ghost use Rattle.mr_tool.specs.PlanCommand.{PlanGives};
 ghost use Rattle.mr_tool.specs.RunCommand.{RunGives};
 ghost use Rattle.mr_tool.specs.Sources.{SourcesView};
 ghost use Rattle.mr_tool.specs.TimelineCommand.{TimelineGives};
+ghost use Rattle.mr_tool.specs.VersionCommand.{VersionGives};
 
 use crate::check_text::{end_of, write_check};
 use crate::ended::Ended;
@@ -23,7 +24,7 @@ use crate::sources::Sources;
 use crate::timeline::write_timeline;
 use mr_text::{Sink, Source};
 use mr_transcripts::check_transcript;
-use mr_words::{Explanation, PlanValues, TimelineValues};
+use mr_words::{Explanation, PlanValues, TimelineValues, VERSION};
 use std::alloc::Global;
 
 /// Writes the plan of the first request of the input.
@@ -125,5 +126,17 @@ pub fn run_explain<O: Sink>(
         Ok(()) => Ok(Ended::Done),
         Err(PrintFault::Memory) => Err(Fault::Memory),
         Err(PrintFault::Write) => Err(Fault::Output),
+    }
+}
+
+/// Writes the line that tells the version.
+pub fn write_version<O: Sink>(output: &mut O) -> Result<Ended, Fault>
+    ensures { (sources : SourcesView) (input : SourceView) (faults : SinkView) → VersionGives
+        (devices sources input (O.told output.old) faults)
+        (devices sources input (O.told output.new) faults) result }
+{
+    match output.write_all(VERSION.line.as_bytes()) {
+        Ok(()) => Ok(Ended::Done),
+        Err(_) => Err(Fault::Output),
     }
 }

@@ -7,7 +7,7 @@ ghost use Rattle.mr_tool.specs.Fault.{fault_line, not_text_line, readings_line};
 ghost use Rattle.mr_tool.specs.Run.{EndsWith, ReadsFew, Runs};
 ghost use Rattle.mr_tool.specs.Sources.{SourcesView};
 
-use crate::commands::{run_check, run_explain, run_plan, run_script, run_timeline};
+use crate::commands::{run_check, run_explain, run_plan, run_script, run_timeline, write_version};
 use crate::ended::Ended;
 use crate::fault::Fault;
 use crate::services::{run_node, run_proxy};
@@ -135,6 +135,7 @@ pub fn run_words<
             finish(run_explain(alloc, &explanation, output), faults)
         }
         Err(WordsFault::Wrong(error)) => tell_wrong_words(alloc, &error, faults),
+        Err(WordsFault::Version) => finish(write_version(output), faults),
         Err(WordsFault::Readings) => tell_bad_readings(faults),
         Err(WordsFault::Memory) => tell_fault(&Fault::Memory, faults),
     }

@@ -7,8 +7,8 @@ use Rattle.clap.specs.Simple.{Shape, built_leaf, inherited, marked_built, with_l
 use Rattle.clap.specs.Walk.{Held, Walk, walked, nothing_held, finished}
 use Rattle.clap.specs.Words.{Row, Text, fault_of, subcommand_of}
 use Rattle.mr_words.proofs.PlainPlan.{IsTakenNumber, number_is_taken, value_taken}
-use Rattle.mr_words.proofs.PlainWalk.{IsPlainWord, IsWalked, Leads, after_walk, all_walked, asking, no_words, option_before, plain_word, standing, with_given, with_named}
-use Rattle.mr_words.specs.Command.{node_app, program_app}
+use Rattle.mr_words.proofs.PlainWalk.{IsPlainWord, IsWalked, Leads, after_walk, all_walked, asking, flag_before, no_words, option_before, plain_word, standing, with_flag, with_given, with_named}
+use Rattle.mr_words.specs.Command.{forever_rule, node_app, program_app}
 use Rattle.mr_words.specs.Words.{Say, SaysPlainly}
 use Rattle.mr_words.specs.declared.service_words.NodeValues.{NodeValues}
 use Rattle.mr_words.specs.declared.words.Wanted.TheVariants.{Node}
@@ -33,6 +33,11 @@ held_4 listen capacity clients turns = with_given leaf (codes "turns") turns (he
 listen_named : walked leaf.rules [] (standing nothing_held) (codes "--listen") ≡ asking (codes "listen") (with_named leaf (codes "listen") nothing_held)
 unfolding clap_on_literals
 listen_named = refl
+
+capacity_named : (listen : Text) → walked leaf.rules [] (standing (held_1 listen)) (codes "--capacity")
+    ≡ asking (codes "capacity") (with_named leaf (codes "capacity") (held_1 listen))
+unfolding clap_on_literals
+capacity_named listen = refl
 
 -- where the node listens alone
 module _ (listen : Text) (listen_plain : IsPlainWord listen) where
@@ -64,11 +69,6 @@ module _ (listen capacity clients turns : Text) (listen_plain : IsPlainWord list
 
   abbrev end : Walk
   end = standing (held_4 listen capacity clients turns)
-
-  capacity_named : walked leaf.rules [] (standing (held_1 listen)) (codes "--capacity")
-      ≡ asking (codes "capacity") (with_named leaf (codes "capacity") (held_1 listen))
-  unfolding clap_on_literals
-  capacity_named = refl
 
   clients_named : walked leaf.rules [] (standing (held_2 listen capacity)) (codes "--clients")
       ≡ asking (codes "clients") (with_named leaf (codes "clients") (held_2 listen capacity))
@@ -103,7 +103,7 @@ module _ (listen capacity clients turns : Text) (listen_plain : IsPlainWord list
   after_listen : Leads leaf (standing (held_1 listen)) (codes "--capacity" ∷ capacity ∷ codes "--clients" ∷ clients ∷ codes "--turns" ∷ turns ∷ []) end
   after_listen =
       option_before leaf (codes "--capacity") (codes "capacity") capacity (held_1 listen) (with_named leaf (codes "capacity") (held_1 listen))
-      (codes "--clients" ∷ clients ∷ codes "--turns" ∷ turns ∷ []) end capacity_named refl capacity_taken.plain after_capacity
+      (codes "--clients" ∷ clients ∷ codes "--turns" ∷ turns ∷ []) end (capacity_named listen) refl capacity_taken.plain after_capacity
 
   words_walked : IsWalked leaf words end
   words_walked = all_walked leaf words end
@@ -119,6 +119,48 @@ module _ (listen capacity clients turns : Text) (listen_plain : IsPlainWord list
   unfolding clap_on_literals
   rows_found = ap (λ (w : Walk). Some (codes "node", finished leaf.rules w.held)) words_walked.ends
 
+-- how many items it holds, and that it goes on for good
+module _ (listen capacity : Text) (listen_plain : IsPlainWord listen) (capacity_taken : IsTakenNumber capacity) where
+  abbrev forever_words : List Text
+  forever_words = codes "--listen" ∷ listen ∷ codes "--capacity" ∷ capacity ∷ codes "--forever" ∷ []
+
+  abbrev held_forever : Held
+  held_forever = with_flag leaf forever_rule (held_2 listen capacity)
+
+  abbrev forever_end : Walk
+  forever_end = standing held_forever
+
+  forever_named : walked leaf.rules [] (standing (held_2 listen capacity)) (codes "--forever") ≡ forever_end
+  unfolding clap_on_literals
+  forever_named = refl
+
+  forever_turn : turn_fault leaf [] (standing (held_2 listen capacity)) (codes "--forever") ≡ []
+  forever_turn = ap (λ (kinds : Kinds). or_else (or_else kinds []) []) (value_taken capacity capacity_taken.accepted)
+
+  forever_end_taken : after_walk leaf forever_end ≡ []
+  unfolding clap_on_literals
+  forever_end_taken = refl
+
+  forever_after_listen : Leads leaf (standing (held_1 listen)) (codes "--capacity" ∷ capacity ∷ codes "--forever" ∷ []) forever_end
+  forever_after_listen =
+      option_before leaf (codes "--capacity") (codes "capacity") capacity (held_1 listen) (with_named leaf (codes "capacity") (held_1 listen))
+      (codes "--forever" ∷ []) forever_end (capacity_named listen) refl capacity_taken.plain
+      (flag_before leaf (codes "--forever") (held_2 listen capacity) held_forever [] forever_end forever_named forever_turn (no_words leaf forever_end))
+
+  forever_walked : IsWalked leaf forever_words forever_end
+  forever_walked = all_walked leaf forever_words forever_end
+      (option_before leaf (codes "--listen") (codes "listen") listen nothing_held (with_named leaf (codes "listen") nothing_held)
+      (codes "--capacity" ∷ capacity ∷ codes "--forever" ∷ []) forever_end listen_named refl listen_plain forever_after_listen)
+      forever_end_taken
+
+  forever_taken : fault_of program_app (codes "node" ∷ forever_words) ≡ []
+  unfolding clap_on_literals
+  forever_taken = ap (λ (below : Kinds). or_else below []) forever_walked.fits
+
+  forever_found : subcommand_of program_app (codes "node" ∷ forever_words) ≡ Some (codes "node", finished leaf.rules held_forever)
+  unfolding clap_on_literals
+  forever_found = ap (λ (w : Walk). Some (codes "node", finished leaf.rules w.held)) forever_walked.ends
+
 -- words that plainly say a node say it to `clap`
 pub node_said : (said : List Text) (values : NodeValues) → SaysPlainly said (Node values) → Say said (Node values)
 node_said said values (inl says) =
@@ -133,7 +175,7 @@ node_said said values (inl says) =
         record { listen_is = refl; capacity_is = says.capacity_is; clients_is = says.clients_is; turns_is = says.turns_is },
       );
     }
-node_said said values (inr says) =
+node_said said values (inr (inl says)) =
     let listen = values.listen.now in
     let listen_plain = plain_word listen says.listen_is_none in
     let capacity_taken = number_is_taken says.capacity values.capacity says.capacity_is in
@@ -147,6 +189,20 @@ node_said said values (inr says) =
         rows,
         subst (λ (w : List Text). subcommand_of program_app w ≡ Some (codes "node", rows)) (sym says.words_are)
             (rows_found listen says.capacity says.clients says.turns listen_plain capacity_taken clients_taken turns_taken),
+        record { listen_is = refl; capacity_is = says.capacity_is; clients_is = says.clients_is; turns_is = says.turns_is },
+      );
+    }
+node_said said values (inr (inr says)) =
+    let listen = values.listen.now in
+    let listen_plain = plain_word listen says.listen_is_none in
+    let capacity_taken = number_is_taken says.capacity values.capacity says.capacity_is in
+    let rows : List Row = finished leaf.rules (held_forever listen says.capacity listen_plain capacity_taken) in
+    record {
+      fits = subst (λ (w : List Text). fault_of program_app w ≡ []) (sym says.words_are) (forever_taken listen says.capacity listen_plain capacity_taken);
+      finds = (
+        rows,
+        subst (λ (w : List Text). subcommand_of program_app w ≡ Some (codes "node", rows)) (sym says.words_are)
+            (forever_found listen says.capacity listen_plain capacity_taken),
         record { listen_is = refl; capacity_is = says.capacity_is; clients_is = says.clients_is; turns_is = says.turns_is },
       );
     }

@@ -7,8 +7,8 @@ use Rattle.clap.specs.Simple.{Shape, built_leaf, inherited, marked_built, with_l
 use Rattle.clap.specs.Walk.{Held, Walk, walked, nothing_held, finished}
 use Rattle.clap.specs.Words.{Row, Text, fault_of, subcommand_of}
 use Rattle.mr_words.proofs.PlainPlan.{IsTakenNumber, number_is_taken, value_taken}
-use Rattle.mr_words.proofs.PlainWalk.{IsPlainWord, IsWalked, Leads, after_walk, all_walked, asking, no_words, option_before, plain_word, standing, with_given, with_named}
-use Rattle.mr_words.specs.Command.{program_app, proxy_app}
+use Rattle.mr_words.proofs.PlainWalk.{IsPlainWord, IsWalked, Leads, after_walk, all_walked, asking, flag_before, no_words, option_before, plain_word, standing, with_flag, with_given, with_named}
+use Rattle.mr_words.specs.Command.{forever_rule, program_app, proxy_app}
 use Rattle.mr_words.specs.Words.{Say, SaysPlainly}
 use Rattle.mr_words.specs.declared.service_words.ProxyValues.{ProxyValues}
 use Rattle.mr_words.specs.declared.words.Wanted.TheVariants.{Proxy}
@@ -73,6 +73,11 @@ module _ (config listen : Text) (config_plain : IsPlainWord config) (listen_plai
   unfolding clap_on_literals
   short_found = ap (λ (w : Walk). Some (codes "proxy", finished leaf.rules w.held)) short_walked.ends
 
+room_named : (config listen : Text) → walked leaf.rules [] (standing (held_2 config listen)) (codes "--room")
+    ≡ asking (codes "room") (with_named leaf (codes "room") (held_2 config listen))
+unfolding clap_on_literals
+room_named config listen = refl
+
 -- the numbers behind them
 module _ (config listen room clients turns : Text) (config_plain : IsPlainWord config) (listen_plain : IsPlainWord listen) (room_taken : IsTakenNumber room)
     (clients_taken : IsTakenNumber clients) (turns_taken : IsTakenNumber turns) where
@@ -84,11 +89,6 @@ module _ (config listen room clients turns : Text) (config_plain : IsPlainWord c
 
   abbrev end : Walk
   end = standing (held_5 config listen room clients turns)
-
-  room_named : walked leaf.rules [] (standing (held_2 config listen)) (codes "--room")
-      ≡ asking (codes "room") (with_named leaf (codes "room") (held_2 config listen))
-  unfolding clap_on_literals
-  room_named = refl
 
   clients_named : walked leaf.rules [] (standing (held_3 config listen room)) (codes "--clients")
       ≡ asking (codes "clients") (with_named leaf (codes "clients") (held_3 config listen room))
@@ -123,7 +123,7 @@ module _ (config listen room clients turns : Text) (config_plain : IsPlainWord c
   after_listen : Leads leaf (standing (held_2 config listen)) numbers_said end
   after_listen =
       option_before leaf (codes "--room") (codes "room") room (held_2 config listen) (with_named leaf (codes "room") (held_2 config listen))
-      (codes "--clients" ∷ clients ∷ codes "--turns" ∷ turns ∷ []) end room_named refl room_taken.plain after_room
+      (codes "--clients" ∷ clients ∷ codes "--turns" ∷ turns ∷ []) end (room_named config listen) refl room_taken.plain after_room
 
   words_walked : IsWalked leaf words end
   words_walked = all_walked leaf words end (both_before config listen config_plain listen_plain numbers_said end after_listen) end_taken
@@ -135,6 +135,49 @@ module _ (config listen room clients turns : Text) (config_plain : IsPlainWord c
   rows_found : subcommand_of program_app (codes "proxy" ∷ words) ≡ Some (codes "proxy", finished leaf.rules (held_5 config listen room clients turns))
   unfolding clap_on_literals
   rows_found = ap (λ (w : Walk). Some (codes "proxy", finished leaf.rules w.held)) words_walked.ends
+
+-- how many requests may be under way, and that it goes on for good
+module _ (config listen room : Text) (config_plain : IsPlainWord config) (listen_plain : IsPlainWord listen) (room_taken : IsTakenNumber room) where
+  abbrev forever_said : List Text
+  forever_said = codes "--room" ∷ room ∷ codes "--forever" ∷ []
+
+  abbrev forever_words : List Text
+  forever_words = codes "--config" ∷ config ∷ codes "--listen" ∷ listen ∷ forever_said
+
+  abbrev held_forever : Held
+  held_forever = with_flag leaf forever_rule (held_3 config listen room)
+
+  abbrev forever_end : Walk
+  forever_end = standing held_forever
+
+  forever_named : walked leaf.rules [] (standing (held_3 config listen room)) (codes "--forever") ≡ forever_end
+  unfolding clap_on_literals
+  forever_named = refl
+
+  forever_turn : turn_fault leaf [] (standing (held_3 config listen room)) (codes "--forever") ≡ []
+  forever_turn = ap (λ (kinds : Kinds). or_else (or_else kinds []) []) (value_taken room room_taken.accepted)
+
+  forever_end_taken : after_walk leaf forever_end ≡ []
+  unfolding clap_on_literals
+  forever_end_taken = refl
+
+  forever_after_listen : Leads leaf (standing (held_2 config listen)) forever_said forever_end
+  forever_after_listen =
+      option_before leaf (codes "--room") (codes "room") room (held_2 config listen) (with_named leaf (codes "room") (held_2 config listen))
+      (codes "--forever" ∷ []) forever_end (room_named config listen) refl room_taken.plain
+      (flag_before leaf (codes "--forever") (held_3 config listen room) held_forever [] forever_end forever_named forever_turn (no_words leaf forever_end))
+
+  forever_walked : IsWalked leaf forever_words forever_end
+  forever_walked = all_walked leaf forever_words forever_end
+      (both_before config listen config_plain listen_plain forever_said forever_end forever_after_listen) forever_end_taken
+
+  forever_taken : fault_of program_app (codes "proxy" ∷ forever_words) ≡ []
+  unfolding clap_on_literals
+  forever_taken = ap (λ (below : Kinds). or_else below []) forever_walked.fits
+
+  forever_found : subcommand_of program_app (codes "proxy" ∷ forever_words) ≡ Some (codes "proxy", finished leaf.rules held_forever)
+  unfolding clap_on_literals
+  forever_found = ap (λ (w : Walk). Some (codes "proxy", finished leaf.rules w.held)) forever_walked.ends
 
 -- words that plainly say a proxy say it to `clap`
 pub proxy_said : (said : List Text) (values : ProxyValues) → SaysPlainly said (Proxy values) → Say said (Proxy values)
@@ -153,7 +196,7 @@ proxy_said said values (inl says) =
         record { config_is = refl; listen_is = refl; room_is = says.room_is; clients_is = says.clients_is; turns_is = says.turns_is },
       );
     }
-proxy_said said values (inr says) =
+proxy_said said values (inr (inl says)) =
     let config = values.config.now in
     let listen = values.listen.now in
     let config_plain = plain_word config says.config_is_none in
@@ -169,6 +212,23 @@ proxy_said said values (inr says) =
         rows,
         subst (λ (w : List Text). subcommand_of program_app w ≡ Some (codes "proxy", rows)) (sym says.words_are)
             (rows_found config listen says.room says.clients says.turns config_plain listen_plain room_taken clients_taken turns_taken),
+        record { config_is = refl; listen_is = refl; room_is = says.room_is; clients_is = says.clients_is; turns_is = says.turns_is },
+      );
+    }
+proxy_said said values (inr (inr says)) =
+    let config = values.config.now in
+    let listen = values.listen.now in
+    let config_plain = plain_word config says.config_is_none in
+    let listen_plain = plain_word listen says.listen_is_none in
+    let room_taken = number_is_taken says.room values.room says.room_is in
+    let rows : List Row = finished leaf.rules (held_forever config listen says.room config_plain listen_plain room_taken) in
+    record {
+      fits = subst (λ (w : List Text). fault_of program_app w ≡ []) (sym says.words_are)
+          (forever_taken config listen says.room config_plain listen_plain room_taken);
+      finds = (
+        rows,
+        subst (λ (w : List Text). subcommand_of program_app w ≡ Some (codes "proxy", rows)) (sym says.words_are)
+            (forever_found config listen says.room config_plain listen_plain room_taken),
         record { config_is = refl; listen_is = refl; room_is = says.room_is; clients_is = says.clients_is; turns_is = says.turns_is },
       );
     }

@@ -6,8 +6,8 @@ use Rattle.std.specs.Str.{bytes_eq}
 use Rattle.clap.specs.Faults.{walk_fault, turn_fault, settle_fault, defaults_fault, check_fault, level_fault}
 use Rattle.clap.specs.Kinds.{Kinds, or_else}
 use Rattle.clap.specs.Lexer.{long_of, short_of}
-use Rattle.clap.specs.Simple.{Shape}
-use Rattle.clap.specs.Walk.{Held, Rule, Walk, walk, walked, arg_by_id, finished, idle, nothing_held, option, option_word, settled}
+use Rattle.clap.specs.Simple.{Shape, filled}
+use Rattle.clap.specs.Walk.{Held, Rule, Walk, walk, walked, arg_by_id, finished, idle, nothing_held, option, option_word, reacted, settled}
 use Rattle.clap.specs.Words.{Text}
 use Rattle.mr_words.specs.Words.{IsNoOption}
 
@@ -74,6 +74,10 @@ with_named s id h = record (settled s.rules h) { pending = Some (id, []) }
 abbrev pub with_given : Shape → Text → Text → Held → Held
 with_given s id value h = record (settled s.rules h) { pending = Some (id, value ∷ []) }
 
+-- what is held once a flag of this rule was given
+abbrev pub with_flag : Shape → Rule → Held → Held
+with_flag s rule h = reacted s.rules (filled rule) [] h
+
 -- the words lead from one walk to another, and no fault is found in them
 pub record Leads (s : Shape) (start : Walk) (words : List Text) (end : Walk) : Type 0 where
   pub ends : fold (walked s.rules []) start words ≡ end
@@ -94,6 +98,17 @@ option_before s name id value h named rest end is none plain more =
           ∙ (ap (λ (w : Walk). fold (walked rules []) w rest) (value_walked rules id named value plain) ∙ more.ends);
       taken = word_step s (standing h) name (value ∷ rest) none
           ∙ (ap (λ (w : Walk). walk_fault s [] w (value ∷ rest)) is ∙ (value_step s id named value rest plain ∙ more.taken));
+    }
+
+-- a flag before the words
+pub flag_before : (s : Shape) (name : Text) (h after : Held) (rest : List Text) (end : Walk)
+    → walked s.rules [] (standing h) name ≡ standing after → turn_fault s [] (standing h) name ≡ []
+    → Leads s (standing after) rest end → Leads s (standing h) (name ∷ rest) end
+flag_before s name h after rest end is none more =
+    let rules : List Rule = s.rules in
+    record {
+      ends = ap (λ (w : Walk). fold (walked rules []) w rest) is ∙ more.ends;
+      taken = word_step s (standing h) name rest none ∙ (ap (λ (w : Walk). walk_fault s [] w rest) is ∙ more.taken);
     }
 
 -- the words of a command that walks to an end without a fault

@@ -1,19 +1,22 @@
 -- What a parse by `clap` says of the words.
 use Rattle.std.proofs.Common.{◌≡◌, ℕ, ◌<◌, ◌^◌, ◌&&◌, ◌∙◌, Bool, true, false, not, List, [], ◌∷◌, Option, Some, None, ap, ap₂, refl, subst, sym, codes}
-use Rattle.std.specs.Prelude.{Box, IfNone, IfSome, option_map}
+use Rattle.std.specs.Prelude.{Box, IfNone, IfSome, find, option_and_then, option_map, slice_get}
 use Rattle.std.specs.Box.{box_value}
+use Rattle.std.specs.Option.{option_map_or}
 use Rattle.std.specs.Str.{bytes_eq}
 use Rattle.std.specs.Str.Parse.{IsNumeral, digits_value, without_leading_plus}
 use Rattle.clap.specs.Matches.{subcommand_name_of}
 use Rattle.clap.specs.Simple.{subcommand_rows}
-use Rattle.clap.specs.Words.{Row, Text, first_of, one_of, subcommand_rows_of}
+use Rattle.clap.specs.Walk.{row_text}
+use Rattle.clap.specs.declared.error.kind.ErrorKind.TheVariants.{DisplayVersion}
+use Rattle.clap.specs.Words.{IsAmong, Row, Text, first_of, one_of, read_as, subcommand_rows_of}
 use Rattle.clap.specs.declared.parser.matches.ArgMatches.{ArgMatches}
 use Rattle.clap.specs.declared.parser.matches.ArgMatches.TheViews.{out-ArgMatches, out-SubCommand}
 use Rattle.clap.specs.declared.parser.matches.SubCommand.{SubCommand}
 use Rattle.mr_words.proofs.TableLemmas.{table_complete}
 use Rattle.mr_words.specs.Explain.{Told, explanation_of, told_by}
 use Rattle.mr_words.specs.declared.explain.Explanation.{Explanation}
-use Rattle.mr_words.specs.Words.{AgreesWith, AreNumberWords, AreReadings, FindsBadReadings, FindsCommand, Found, HasBadReadings, HasExplanation, HasNodeValues, HasPlan, HasProxyValues, HasTimeline, IsNumberList, IsNumberOr, IsNumberWord, Say, SayBadReadings, readings_in}
+use Rattle.mr_words.specs.Words.{AgreesWith, AreNumberWords, AreReadings, FindsBadReadings, FindsCommand, Found, HasBadReadings, HasExplanation, HasNodeValues, HasPlan, HasProxyValues, HasTimeline, IsBoundOr, IsNumberList, IsNumberOr, IsNumberWord, Say, SayBadReadings, SayVersion, readings_in, without_end}
 use Rattle.mr_words.specs.declared.service_words.NodeValues.{NodeValues}
 use Rattle.mr_words.specs.declared.service_words.ProxyValues.{ProxyValues}
 use Rattle.mr_words.specs.declared.words.PlanValues.{PlanValues}
@@ -55,6 +58,38 @@ number_missing text unread word number is number_is = unread word is (number_is.
 abbrev IsNumeral64 : List ℕ → Type 0
 IsNumeral64 text = IsNumeral 10 (without_leading_plus text) × (digits_value 10 (without_leading_plus text) < 2 ^ 64)
 
+-- whether the flag was given, by its first value
+pub flag_given : (found : Option Text) (word : Text) → Some word ≡ found
+    → bytes_eq word (codes "true") ≡ option_map_or (λ (w : Text). bytes_eq w (codes "true")) found false
+flag_given found word is = ap (λ (o : Option Text). option_map_or (λ (w : Text). bytes_eq w (codes "true")) o false) is
+
+pub flag_left_out : (found : Option Text) → None ≡ found → false ≡ option_map_or (λ (w : Text). bytes_eq w (codes "true")) found false
+flag_left_out found none = ap (λ (o : Option Text). option_map_or (λ (w : Text). bytes_eq w (codes "true")) o false) none
+
+-- an option that has no first value has no number, and one that has one has some word for it
+none_of_row : (row : Option Row) → None ≡ option_and_then (λ (r : Row). slice_get r.values 0) row → option_and_then row_text row ≡ None
+none_of_row None none = refl
+none_of_row (Some row) none = ap (option_map (read_as row.reading)) (sym none)
+
+some_of_row : (row : Option Row) (first : Text) → Some first ≡ option_and_then (λ (r : Row). slice_get r.values 0) row
+    → (word : Text) × (option_and_then row_text row ≡ Some word)
+some_of_row None first some = cc
+some_of_row (Some row) first some = (read_as row.reading first, ap (option_map (read_as row.reading)) (sym some))
+
+-- the number of an option that `--forever` stands in place of: the greatest one, or none where both were given
+pub bound_without_end : (usual : ℕ) (forever : Bool) (id : Text) (rows : List Row) → forever ≡ true → None ≡ first_of id rows
+    → IsBoundOr usual forever (one_of id rows) without_end
+bound_without_end usual forever id rows is none =
+    subst (λ (b : Bool). IsBoundOr usual b (one_of id rows) without_end) (sym is)
+    (subst (λ (o : Option Text). IsBoundOr usual true o without_end) (sym (none_of_row (find (λ (r : Row). bytes_eq r.id id) rows) none)) refl)
+
+pub no_bound_beside : (usual : ℕ) (forever : Bool) (first id : Text) (rows : List Row) → forever ≡ true → Some first ≡ first_of id rows → (number : ℕ)
+    → ¬ IsBoundOr usual forever (one_of id rows) number
+no_bound_beside usual forever first id rows is given number bound =
+    let word = some_of_row (find (λ (r : Row). bytes_eq r.id id) rows) first given in
+    let beside : IsBoundOr usual true (one_of id rows) number = subst (λ (b : Bool). IsBoundOr usual b (one_of id rows) number) is bound in
+    subst (λ (o : Option Text). IsBoundOr usual true o number) word.1 beside
+
 -- the number of an option that may be left out: its word's, or the usual one, or none where the word is no number
 pub number_given : (usual number : ℕ) (text : Option (List ℕ)) → ¬ (text ≡ None)
     → ((t : List ℕ) → text ≡ Some t → IsNumeral64 t × (number ≡ digits_value 10 (without_leading_plus t))) → IsNumberOr usual text number
@@ -87,6 +122,12 @@ same_number word other number same e is other_is =
 same_number_or : (usual : ℕ) (text : Option Text) (number same : ℕ) → IsNumberOr usual text number → IsNumberOr usual text same → number ≡ same
 same_number_or usual None number same is other_is = is ∙ sym other_is
 same_number_or usual (Some word) number same is other_is = same_number word word number same refl is other_is
+
+same_bound : (usual : ℕ) (forever : Bool) (text : Option Text) (number same : ℕ) → IsBoundOr usual forever text number → IsBoundOr usual forever text same
+    → number ≡ same
+same_bound usual true None number same is other_is = is ∙ sym other_is
+same_bound usual true (Some word) number same is other_is = absurd is
+same_bound usual false text number same is other_is = same_number_or usual text number same is other_is
 
 same_numbers : (words : List Text) (numbers same : List ℕ) → AreNumberWords words numbers → AreNumberWords words same → numbers ≡ same
 same_numbers [] [] [] are also = refl
@@ -167,16 +208,16 @@ one_found found (Node read) (Node values) r p =
     let also : HasNodeValues r.0 values = subst (λ (rows : List Row). HasNodeValues rows values) (same_rows found _ p.0 r.0 p.1 r.1) p.2 in (
       same_inside _ _ _ r.2.listen_is also.listen_is,
       same_number_or _ _ _ _ r.2.capacity_is also.capacity_is,
-      same_number_or _ _ _ _ r.2.clients_is also.clients_is,
-      same_number_or _ _ _ _ r.2.turns_is also.turns_is,
+      same_bound _ _ _ _ _ r.2.clients_is also.clients_is,
+      same_bound _ _ _ _ _ r.2.turns_is also.turns_is,
     )
 one_found found (Proxy read) (Proxy values) r p =
     let also : HasProxyValues r.0 values = subst (λ (rows : List Row). HasProxyValues rows values) (same_rows found _ p.0 r.0 p.1 r.1) p.2 in (
       same_inside _ _ _ r.2.config_is also.config_is,
       same_inside _ _ _ r.2.listen_is also.listen_is,
       same_number_or _ _ _ _ r.2.room_is also.room_is,
-      same_number_or _ _ _ _ r.2.clients_is also.clients_is,
-      same_number_or _ _ _ _ r.2.turns_is also.turns_is,
+      same_bound _ _ _ _ _ r.2.clients_is also.clients_is,
+      same_bound _ _ _ _ _ r.2.turns_is also.turns_is,
     )
 one_found found (Explain read) (Explain explanation) r p =
     let also : HasExplanation r.0 (told_by explanation) =
@@ -189,6 +230,10 @@ one_found found read wanted r p =
 -- words say one command
 pub one_said : (words : List Text) (read wanted : Wanted) → Say words read → Say words wanted → AgreesWith wanted read
 one_said words read wanted r p = one_found _ read wanted r.finds p.finds
+
+-- words that say a command don't call for the version
+pub no_version_said : (words : List Text) (wanted : Wanted) → Say words wanted → SayVersion words → ⊥
+no_version_said words wanted says version = subst (IsAmong DisplayVersion) says.fits version
 
 some_readings : (text : Option Text) (readings : Option (List ℕ)) (word : Text) → text ≡ Some word
     → ((numbers : List ℕ) → ¬ AreReadings (Some word) (Some numbers)) → AreReadings text readings → ⊥

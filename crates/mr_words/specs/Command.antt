@@ -1,7 +1,7 @@
 -- The command line of the program, as `clap` reads it.
 use Rattle.std.specs.Prelude.{ℕ, List, Option, Some, None, Bool, true, false, codes}
 use Rattle.clap.specs.Words.{App, Rule, new_app, new_rule, with_rule, with_subcommand}
-use Rattle.clap.specs.declared.builder.ArgAction.TheVariants.{Set}
+use Rattle.clap.specs.declared.builder.ArgAction.TheVariants.{Set, SetTrue}
 use Rattle.clap.specs.declared.builder.value_parser.ValueParser.{ValueParser}
 use Rattle.clap.specs.declared.builder.value_parser.ValueParser.TheVariants as parser
 
@@ -34,6 +34,10 @@ listen_rule = option_rule (codes "listen") None true
 abbrev pub number_rule : List ℕ → Rule
 number_rule name = option_rule name (Some numbers) false
 
+-- the flag that stands in place of the numbers of clients and turns
+abbrev pub forever_rule : Rule
+forever_rule = record (new_rule (codes "forever")) { long = Some (codes "forever"); action = Some SetTrue }
+
 -- a file, which may be left out; help gives it one name
 abbrev pub file_rule : Rule
 file_rule = record (new_rule (codes "file")) { value_names = 1; action = Some Set }
@@ -64,7 +68,8 @@ node_app =
     let with_listen = with_rule (new_app (codes "node")) listen_rule in
     let with_capacity = with_rule with_listen (number_rule (codes "capacity")) in
     let with_clients = with_rule with_capacity (number_rule (codes "clients")) in
-    with_rule with_clients (number_rule (codes "turns"))
+    let with_turns = with_rule with_clients (number_rule (codes "turns")) in
+    with_rule with_turns forever_rule
 
 -- the command `proxy`
 abbrev pub proxy_app : App
@@ -73,7 +78,8 @@ proxy_app =
     let with_listen = with_rule with_config listen_rule in
     let with_room = with_rule with_listen (number_rule (codes "room")) in
     let with_clients = with_rule with_room (number_rule (codes "clients")) in
-    with_rule with_clients (number_rule (codes "turns"))
+    let with_turns = with_rule with_clients (number_rule (codes "turns")) in
+    with_rule with_turns forever_rule
 
 -- a word of its own, by its name, which has to be there
 abbrev pub word_rule : List ℕ → Option ValueParser → Rule
@@ -83,7 +89,7 @@ word_rule name read_by = record (new_rule name) { action = Some Set; parser = re
 abbrev pub explain_app : App
 explain_app = with_rule (with_rule (new_app (codes "explain")) (word_rule (codes "layer") None)) (word_rule (codes "number") (Some numbers))
 
--- the program, whose words begin with the command, and which asks for one
+-- the program, which has a version, whose words begin with the command, and which asks for one
 abbrev pub program_app : App
 program_app =
     let with_plan = with_subcommand (new_app (codes "migctl")) plan_app.top in
@@ -93,4 +99,4 @@ program_app =
     let with_node = with_subcommand with_check node_app.top in
     let with_proxy = with_subcommand with_node proxy_app.top in
     let whole = with_subcommand with_proxy explain_app.top in
-    record whole { top = record whole.top { no_binary_name = true; subcommand_required = true; arg_required_else_help = true } }
+    record whole { top = record whole.top { has_version = true; no_binary_name = true; subcommand_required = true; arg_required_else_help = true } }

@@ -3,18 +3,19 @@ use Rattle.std.specs.Prelude.{◌≡◌, ◌≢◌, ⊤, ℕ, List, Option, Some
 use Rattle.clap.specs.Values.{kind_of}
 use Rattle.clap.specs.Words.{Row, first_of}
 use Rattle.clap.specs.declared.error.Error.{Error}
-use Rattle.clap.specs.declared.error.kind.ErrorKind.TheVariants.{OutOfMemory}
+use Rattle.clap.specs.declared.error.kind.ErrorKind.TheVariants.{OutOfMemory, DisplayVersion}
 use Rattle.mr_words.specs.Words.{AreReadings, HasTimeline, HasBadReadings, Found, FindsCommand, FindsBadReadings}
 use Rattle.mr_words.specs.declared.words.TimelineValues.{TimelineValues}
 use Rattle.mr_words.specs.declared.words.Wanted.{Wanted}
 use Rattle.mr_words.specs.declared.words.WordsFault.{WordsFault}
-use Rattle.mr_words.specs.declared.words.WordsFault.TheVariants.{Wrong, Readings, Memory}
+use Rattle.mr_words.specs.declared.words.WordsFault.TheVariants.{Wrong, Version, Readings, Memory}
 
 -- the readings in rows, or that they are no list of numbers
 abbrev pub GivesReadings : {Z : Type 0} → List Row → Result (Option (Vec ℕ Z)) WordsFault → Type 0
 GivesReadings rows (Ok readings) = AreReadings (first_of (codes "readings") rows) (option_map (λ numbers. numbers.items) readings)
 GivesReadings rows (Err Readings) = HasBadReadings rows
 GivesReadings rows (Err Memory) = ⊤
+GivesReadings rows (Err Version) = ⊥
 GivesReadings rows (Err (Wrong error)) = ⊥
 
 -- the timeline of rows, or why they hold none
@@ -23,6 +24,7 @@ GivesTimeline rows (Ok (Some values)) = HasTimeline rows values
 GivesTimeline rows (Ok None) = ((values : TimelineValues) → ¬ HasTimeline rows values) × ¬ HasBadReadings rows
 GivesTimeline rows (Err Readings) = HasBadReadings rows
 GivesTimeline rows (Err Memory) = ⊤
+GivesTimeline rows (Err Version) = ⊥
 GivesTimeline rows (Err (Wrong error)) = ⊥
 
 -- the command of what was found, or why that is none
@@ -31,10 +33,20 @@ GivesCommand found (Ok (Some wanted)) = FindsCommand found wanted
 GivesCommand found (Ok None) = ((wanted : Wanted) → ¬ FindsCommand found wanted) × ¬ FindsBadReadings found
 GivesCommand found (Err Readings) = FindsBadReadings found
 GivesCommand found (Err Memory) = ⊤
+GivesCommand found (Err Version) = ⊥
 GivesCommand found (Err (Wrong error)) = ⊥
 
 -- the fault that an error of `clap` becomes
 abbrev pub IsFaultOf : Error → WordsFault → Type 0
-IsFaultOf error (Wrong text) = kind_of error ≢ OutOfMemory
+IsFaultOf error (Wrong text) = (kind_of error ≢ OutOfMemory) × (kind_of error ≢ DisplayVersion)
+IsFaultOf error Version = kind_of error ≡ DisplayVersion
 IsFaultOf error Memory = kind_of error ≡ OutOfMemory
 IsFaultOf error Readings = ⊥
+
+-- what is said where `explain` names no fault
+abbrev pub no_such_fault : List ℕ
+no_such_fault = codes "no layer has a fault of this number: 'migctl explain --help' names the layers"
+
+-- what is said where a service is given `--forever` beside what it stands in place of
+abbrev pub both_given : List ℕ
+both_given = codes "'--forever' stands in place of '--clients' and '--turns', and neither goes with it"

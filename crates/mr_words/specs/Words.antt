@@ -1,9 +1,12 @@
 -- What the words of the command line say.
-use Rattle.std.specs.Prelude.{◌≡◌, ◌≢◌, ℕ, ◌<◌, ◌^◌, ◌==◌, ◌⊎◌, ⊤, List, [], ◌∷◌, Option, Some, None, option_map, Result, Ok, Err, codes}
+use Rattle.std.specs.Prelude.{◌≡◌, ◌≢◌, ℕ, ◌<◌, ◌^◌, ◌==◌, ◌⊎◌, ⊤, Bool, true, false, List, [], ◌∷◌, Option, Some, None, option_map, Result, Ok, Err, codes}
 use Rattle.std.specs.Borrow.{Bor}
 use Rattle.std.specs.List.{slice_split}
+use Rattle.std.specs.Option.{option_map_or}
+use Rattle.std.specs.Str.{bytes_eq}
 use Rattle.std.specs.Str.Parse.{IsNumeral, digits_value, without_leading_plus}
-use Rattle.clap.specs.Words.{Row, Text, fault_of, first_of, one_of, subcommand_of}
+use Rattle.clap.specs.Words.{IsAmong, Row, Text, fault_of, first_of, one_of, subcommand_of}
+use Rattle.clap.specs.declared.error.kind.ErrorKind.TheVariants.{DisplayVersion}
 use Rattle.mr_words.specs.Command.{program_app}
 use Rattle.mr_words.specs.Explain.{Told, told_by, explanation_of}
 use Rattle.mr_words.specs.declared.service_words.NodeValues.{NodeValues}
@@ -13,7 +16,7 @@ use Rattle.mr_words.specs.declared.words.TimelineValues.{TimelineValues}
 use Rattle.mr_words.specs.declared.words.Wanted.{Wanted}
 use Rattle.mr_words.specs.declared.words.Wanted.TheVariants.{Plan, Timeline, Run, Check, Node, Proxy, Explain}
 use Rattle.mr_words.specs.declared.words.WordsFault.{WordsFault}
-use Rattle.mr_words.specs.declared.words.WordsFault.TheVariants.{Wrong, Readings, Memory}
+use Rattle.mr_words.specs.declared.words.WordsFault.TheVariants.{Wrong, Version, Readings, Memory}
 
 -- the word is this number, in decimal digits, with or without a plus sign before them
 pub record IsNumberWord (word : List ℕ) (number : ℕ) : Type 0 where
@@ -92,20 +95,35 @@ abbrev pub IsNumberOr : ℕ → Option Text → ℕ → Type 0
 IsNumberOr usual None number = number ≡ usual
 IsNumberOr usual (Some word) number = IsNumberWord word number
 
+-- how many clients are served, and how many reads are made of each, where that goes on for good
+abbrev pub without_end : ℕ
+without_end = 18446744073709551615
+
+-- the flag `--forever` was given
+abbrev pub is_forever : List Row → Bool
+is_forever rows = option_map_or (λ word. bytes_eq word (codes "true")) (first_of (codes "forever") rows) false
+
+-- The number of an option that `--forever` stands in place of: with the flag the option is left out, and the number is the
+-- greatest one; else it is as the option says.
+abbrev pub IsBoundOr : ℕ → Bool → Option Text → ℕ → Type 0
+IsBoundOr usual true None number = number ≡ without_end
+IsBoundOr usual true (Some word) number = ⊥
+IsBoundOr usual false word number = IsNumberOr usual word number
+
 -- the rows that a parse found hold the values of a node
 pub record HasNodeValues (rows : List Row) (values : NodeValues) : Type 0 where
   pub listen_is : first_of (codes "listen") rows ≡ Some values.listen.now
   pub capacity_is : IsNumberOr usual_capacity (one_of (codes "capacity") rows) values.capacity
-  pub clients_is : IsNumberOr usual_clients (one_of (codes "clients") rows) values.clients
-  pub turns_is : IsNumberOr usual_turns (one_of (codes "turns") rows) values.turns
+  pub clients_is : IsBoundOr usual_clients (is_forever rows) (one_of (codes "clients") rows) values.clients
+  pub turns_is : IsBoundOr usual_turns (is_forever rows) (one_of (codes "turns") rows) values.turns
 
 -- the rows that a parse found hold the values of a proxy
 pub record HasProxyValues (rows : List Row) (values : ProxyValues) : Type 0 where
   pub config_is : first_of (codes "config") rows ≡ Some values.config.now
   pub listen_is : first_of (codes "listen") rows ≡ Some values.listen.now
   pub room_is : IsNumberOr usual_room (one_of (codes "room") rows) values.room
-  pub clients_is : IsNumberOr usual_clients (one_of (codes "clients") rows) values.clients
-  pub turns_is : IsNumberOr usual_turns (one_of (codes "turns") rows) values.turns
+  pub clients_is : IsBoundOr usual_clients (is_forever rows) (one_of (codes "clients") rows) values.clients
+  pub turns_is : IsBoundOr usual_turns (is_forever rows) (one_of (codes "turns") rows) values.turns
 
 -- the rows that a parse found name a refusal that is told of
 pub record HasExplanation (rows : List Row) (told : Told) : Type 0 where
@@ -150,16 +168,26 @@ Say words wanted = SayWhat words (λ found. FindsCommand found wanted)
 abbrev pub SayBadReadings : List Text → Type 0
 SayBadReadings words = SayWhat words FindsBadReadings
 
--- the words say no command, nor one with such readings
+-- the words call for the version: the program's command line finds that in them
+abbrev pub SayVersion : List Text → Type 0
+SayVersion words = IsAmong DisplayVersion (fault_of program_app words)
+
+-- it finds nothing else in them
+abbrev pub SayVersionAlone : List Text → Type 0
+SayVersionAlone words = fault_of program_app words ≡ DisplayVersion ∷ []
+
+-- the words say no command, nor one with such readings, and a call for the version isn't all that they are
 pub record SayNothing (words : List Text) : Type 0 where
   pub no_command : (wanted : Wanted) → ¬ Say words wanted
   pub no_readings : ¬ SayBadReadings words
+  pub no_version : ¬ SayVersionAlone words
 
--- What comes of reading words: the command that they say, or that their readings are no list of numbers, or that they
--- say neither, unless memory is refused.
+-- What comes of reading words: the command that they say, or that they call for the version, or that their readings are no
+-- list of numbers, or that they say none of these, unless memory is refused.
 abbrev pub ReadsWords : List Text → Result Wanted WordsFault → Type 0
 ReadsWords words (Ok wanted) = Say words wanted
 ReadsWords words (Err (Wrong error)) = SayNothing words
+ReadsWords words (Err Version) = SayVersion words
 ReadsWords words (Err Readings) = SayBadReadings words
 ReadsWords words (Err Memory) = ⊤
 
@@ -206,6 +234,16 @@ pub record SaysNode (words : List Text) (values : NodeValues) : Type 0 where
   pub clients_is : IsNumberWord clients values.clients
   pub turns_is : IsNumberWord turns values.turns
 
+-- the words are `node`, where it listens, how many items it holds, and `--forever`, and where it listens doesn't look like an
+-- option
+pub record SaysNodeForever (words : List Text) (values : NodeValues) : Type 0 where
+  pub capacity : Text
+  pub words_are : words ≡ codes "node" ∷ codes "--listen" ∷ values.listen.now ∷ codes "--capacity" ∷ capacity ∷ codes "--forever" ∷ []
+  pub listen_is_none : IsNoOption values.listen.now
+  pub capacity_is : IsNumberWord capacity values.capacity
+  pub clients_is : values.clients ≡ without_end
+  pub turns_is : values.turns ≡ without_end
+
 -- the words are `proxy`, the file's name and where it listens, neither of which looks like an option, and the numbers are
 -- the usual ones
 pub record SaysProxyAlone (words : List Text) (values : ProxyValues) : Type 0 where
@@ -229,6 +267,18 @@ pub record SaysProxy (words : List Text) (values : ProxyValues) : Type 0 where
   pub clients_is : IsNumberWord clients values.clients
   pub turns_is : IsNumberWord turns values.turns
 
+-- the words are `proxy`, the file's name, where it listens, how many requests may be under way, and `--forever`, and neither
+-- the file's name nor where it listens looks like an option
+pub record SaysProxyForever (words : List Text) (values : ProxyValues) : Type 0 where
+  pub room : Text
+  pub words_are : words ≡ codes "proxy" ∷ codes "--config" ∷ values.config.now ∷ codes "--listen" ∷ values.listen.now
+      ∷ codes "--room" ∷ room ∷ codes "--forever" ∷ []
+  pub config_is_none : IsNoOption values.config.now
+  pub listen_is_none : IsNoOption values.listen.now
+  pub room_is : IsNumberWord room values.room
+  pub clients_is : values.clients ≡ without_end
+  pub turns_is : values.turns ≡ without_end
+
 -- the words are `explain`, and the layer and the number of a refusal that is told of
 pub record SaysExplain (words : List Text) (told : Told) : Type 0 where
   pub number : Text
@@ -243,8 +293,8 @@ SaysPlainly words (Timeline values) =
     (readings : Option Text) × SaysTimeline words values.config.now readings × AreReadings readings (readings_in values)
 SaysPlainly words (Run file) = SaysFile (codes "run") words (path_in file)
 SaysPlainly words (Check file) = SaysFile (codes "check") words (path_in file)
-SaysPlainly words (Node values) = SaysNodeAlone words values ⊎ SaysNode words values
-SaysPlainly words (Proxy values) = SaysProxyAlone words values ⊎ SaysProxy words values
+SaysPlainly words (Node values) = SaysNodeAlone words values ⊎ SaysNode words values ⊎ SaysNodeForever words values
+SaysPlainly words (Proxy values) = SaysProxyAlone words values ⊎ SaysProxy words values ⊎ SaysProxyForever words values
 SaysPlainly words (Explain explanation) = SaysExplain words (told_by explanation)
 
 -- both are the same command with the same values
@@ -265,3 +315,13 @@ abbrev pub ReadsAs : Wanted → Result Wanted WordsFault → Type 0
 ReadsAs wanted (Ok read) = AgreesWith wanted read
 ReadsAs wanted (Err Memory) = ⊤
 ReadsAs wanted (Err fault) = ⊥
+
+-- the words are one that calls for the version
+abbrev pub SaysVersion : List Text → Type 0
+SaysVersion words = (words ≡ codes "--version" ∷ []) ⊎ (words ≡ codes "-V" ∷ [])
+
+-- that they call for the version was read, unless memory was refused
+abbrev pub TellsVersion : Result Wanted WordsFault → Type 0
+TellsVersion (Err Version) = ⊤
+TellsVersion (Err Memory) = ⊤
+TellsVersion read = ⊥

@@ -1,4 +1,4 @@
-//! What the help of each command says below its options.
+//! What the help of the program and of each command says below its options.
 
 /// The notes of a command: its units and its input, what its statuses mean, and an example. Where it has more statuses
 /// than the common ones, they stand between.
@@ -9,24 +9,35 @@ macro_rules! notes {
     ($about:literal, $statuses:literal, $example:literal) => {
         concat!(
             $about,
-            "\n\nStatus: 0 done, 1 a fault, 2 wrong words or help",
+            "\n\nStatus: 0 done, 1 a fault, 2 invalid arguments or a call for help",
             $statuses,
-            ". A fault is one line on the standard error.\n\nExample:\n  ",
+            ".\nA fault is one line on the standard error.\n\nExample:\n  ",
             $example
         )
     };
 }
 
+/// The notes of the program.
+pub const PROGRAM_NOTES: &str = notes!(
+    "Times are whole seconds since the epoch, sizes are bytes. Configurations and scripts are JSON;\n\
+    docs/FORMATS.md says all of both, and docs/OPERATING.md how a migration is run.\n\
+    Results go to the standard output. 'migctl explain' says what the line of a fault means.",
+    ", 3 not accepted by 'check'",
+    "printf 'delete k\\r\\n' | migctl plan --config fleet.json --at 1000"
+);
+
 /// The notes of `plan`.
 pub const PLAN_NOTES: &str = notes!(
     "Seconds are whole seconds since the epoch, 1970-01-01 00:00:00 UTC.\n\
-    The standard input holds one request in memcached's text protocol. What follows it is ignored.",
+    The standard input holds one request in memcached's text protocol: a key has at most 250 bytes, a value\n\
+    at most 8,192. What follows it is ignored.",
     "printf 'delete k\\r\\n' | migctl plan --config fleet.json --at 1000"
 );
 
 /// The notes of `timeline`.
 pub const TIMELINE_NOTES: &str = notes!(
     "Seconds are whole seconds since the epoch, 1970-01-01 00:00:00 UTC.\n\
+    With readings, it also says how far they are apart, and whether the interval allows that.\n\
     The standard input isn't read.",
     "migctl timeline --config fleet.json --readings 999,1100"
 );
@@ -34,7 +45,8 @@ pub const TIMELINE_NOTES: &str = notes!(
 /// The notes of `explain`.
 pub const EXPLAIN_NOTES: &str = notes!(
     "The line of a fault is 'migctl: <layer> <number> <name>'. The layers are text, pools, clock,\n\
-    phases, node, proxy, world, workers and plan. Neither word is a time. The standard input isn't read.",
+    phases, node, proxy, world, workers and plan; each counts its faults from 1.\n\
+    The standard input isn't read.",
     "migctl explain plan 5"
 );
 
@@ -59,18 +71,20 @@ pub const CHECK_NOTES: &str = notes!(
 pub const NODE_NOTES: &str = notes!(
     "The host is an address, as 127.0.0.1, or localhost. The node is empty at first, and speaks memcached's text protocol.\n\
     Connections are accepted one after another, and each is served in a thread of its own. At 0 clients none is.\n\
-    The capacity is a number of items; an item that is used least recently makes way for a new one.\n\
+    The capacity counts items, not bytes: a key has at most 250 bytes, a value at most 8,192. An item that is used\n\
+    least recently makes way for a new one.\n\
     The standard input isn't read. Once all connections have ended, 'served <n>' is printed: the number of those that\n\
-    ended without a fault. Where that isn't all of them, the status is 1.",
-    "migctl node --listen 127.0.0.1:11211 --capacity 4096 --clients 8"
+    ended without a fault. Where that isn't all of them, the status is 1. With --forever it serves until a signal ends it.",
+    "migctl node --listen 127.0.0.1:11211 --capacity 4096 --forever"
 );
 
 /// The notes of `proxy`.
 pub const PROXY_NOTES: &str = notes!(
     "The host is an address, as 127.0.0.1, or localhost. The nodes are those of the configuration, by host and port.\n\
+    Its start and its interval are whole seconds, by the clock of this machine.\n\
     Connections are accepted one after another, and each is served in a thread of its own. At 0 clients none is.\n\
     The turns bound the reads of a node too, for each leg of a request.\n\
     The standard input isn't read. Once all connections have ended, 'served <n>' is printed: the number of those that\n\
-    ended without a fault. Where that isn't all of them, the status is 1.",
-    "migctl proxy --config fleet.json --listen 127.0.0.1:11210 --clients 8"
+    ended without a fault. Where that isn't all of them, the status is 1. With --forever it serves until a signal ends it.",
+    "migctl proxy --config fleet.json --listen 127.0.0.1:11210 --room 256 --forever"
 );

@@ -9,9 +9,11 @@ mod lines;
 mod options;
 mod readings;
 mod service_words;
+mod version;
 mod words;
 
 pub use explain::{Explanation, find_explanation};
 pub use lines::{node_line, plan_line, text_line};
 pub use service_words::{NodeValues, ProxyValues};
+pub use version::VERSION;
 pub use words::{PlanValues, TimelineValues, Wanted, WordsFault, read_words};

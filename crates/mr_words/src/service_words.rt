@@ -1,12 +1,12 @@
 //! The words of the commands that serve clients: a node, and a proxy.
-ghost use Rattle.std.specs.Prelude.{◌≡◌, false, IfOk, IfSome, IfNone, codes};
-ghost use Rattle.clap.specs.Words.{app_of, found_of, rows_of, rule_of};
-ghost use Rattle.mr_words.specs.Command.{node_app, proxy_app, number_rule};
-ghost use Rattle.mr_words.specs.Words.{HasNodeValues, HasProxyValues};
+ghost use Rattle.std.specs.Prelude.{◌≡◌, ℕ, false, IfOk, IfSome, IfNone, codes};
+ghost use Rattle.clap.specs.Words.{app_of, found_of, one_of, rows_of, rule_of};
+ghost use Rattle.mr_words.specs.Command.{node_app, proxy_app, forever_rule, number_rule};
+ghost use Rattle.mr_words.specs.Words.{HasNodeValues, HasProxyValues, IsBoundOr, is_forever};
 
 use crate::help::{NODE_NOTES, PROXY_NOTES};
 use crate::options::{config_option, listen_option, number_option, number_or, with_option};
-use clap::{Arg, ArgMatches, Command};
+use clap::{Arg, ArgAction, ArgMatches, Command};
 use std::alloc::{AllocError, Global};
 
 /// How many items a node holds, where its words don't say it.
@@ -20,6 +20,9 @@ const USUAL_TURNS: u64 = 1_000_000;
 
 /// How many requests may be under way in a proxy, where its words don't say it.
 const USUAL_ROOM: u64 = 64;
+
+/// How many clients are served, and how many reads are made of each, where that goes on for good.
+const WITHOUT_END: u64 = u64::MAX;
 
 /// The values of the command `node`.
 #[derive(Clone, Copy, Debug)]
@@ -73,6 +76,19 @@ fn turns_option<'a>(alloc: Global) -> Arg<'a>
     )
 }
 
+/// The flag that stands in place of both.
+fn forever_flag<'a>(alloc: Global) -> Arg<'a>
+    ensures rule { rule_of result ≡ forever_rule }
+    ensures local { result.global ≡ false }
+{
+    Arg::new(alloc, "forever")
+        .long("forever")
+        .action(ArgAction::SetTrue)
+        .help(
+            "Serve as many connections as come, each for as long as it lasts; in place of --clients and --turns",
+        )
+}
+
 /// The command `node`.
 pub fn node_command<'a>(alloc: Global) -> Result<Command<'a>, AllocError>
     ensures { IfOk result (λ command. app_of command ≡ node_app) }
@@ -88,7 +104,8 @@ pub fn node_command<'a>(alloc: Global) -> Result<Command<'a>, AllocError>
     let node = with_option(Ok(node), listen_option(alloc));
     let node = with_option(node, capacity);
     let node = with_option(node, clients_option(alloc));
-    with_option(node, turns_option(alloc))
+    let node = with_option(node, turns_option(alloc));
+    with_option(node, forever_flag(alloc))
 }
 
 /// The command `proxy`.
@@ -107,7 +124,34 @@ pub fn proxy_command<'a>(alloc: Global) -> Result<Command<'a>, AllocError>
     let proxy = with_option(proxy, listen_option(alloc));
     let proxy = with_option(proxy, room);
     let proxy = with_option(proxy, clients_option(alloc));
-    with_option(proxy, turns_option(alloc))
+    let proxy = with_option(proxy, turns_option(alloc));
+    with_option(proxy, forever_flag(alloc))
+}
+
+/// Whether the flag `--forever` was given.
+fn asks_forever(matches: &ArgMatches) -> bool
+    ensures { result ≡ is_forever (rows_of (found_of matches.now)) }
+{
+    match matches.get_str("forever") {
+        Some(word) => word == "true",
+        None => false,
+    }
+}
+
+/// The number of an option that `--forever` stands in place of: the greatest one with that flag, and else the option's or
+/// the usual one. It is none where both were given, or where the option's word is no number.
+fn bound_or(matches: &ArgMatches, name: &str, usual: u64) -> Option<u64>
+    ensures found { IfSome result (IsBoundOr usual (is_forever (rows_of (found_of matches.now))) (one_of name.now (rows_of (found_of matches.now)))) }
+    ensures missing { IfNone result ((number : ℕ)
+        → ¬ IsBoundOr usual (is_forever (rows_of (found_of matches.now))) (one_of name.now (rows_of (found_of matches.now))) number) }
+{
+    if !asks_forever(matches) {
+        return number_or(matches, name, usual);
+    }
+    match matches.get_str(name) {
+        Some(_) => None,
+        None => Some(WITHOUT_END),
+    }
 }
 
 /// The values of the command `node`, where each of them was found or is the usual one.
@@ -118,8 +162,8 @@ pub fn node_values<'a>(matches: &ArgMatches<'a>) -> Option<NodeValues<'a>>
     Some(NodeValues {
         listen: matches.get_str("listen")?,
         capacity: number_or(matches, "capacity", USUAL_CAPACITY)?,
-        clients: number_or(matches, "clients", USUAL_CLIENTS)?,
-        turns: number_or(matches, "turns", USUAL_TURNS)?,
+        clients: bound_or(matches, "clients", USUAL_CLIENTS)?,
+        turns: bound_or(matches, "turns", USUAL_TURNS)?,
     })
 }
 
@@ -132,7 +176,7 @@ pub fn proxy_values<'a>(matches: &ArgMatches<'a>) -> Option<ProxyValues<'a>>
         config: matches.get_str("config")?,
         listen: matches.get_str("listen")?,
         room: number_or(matches, "room", USUAL_ROOM)?,
-        clients: number_or(matches, "clients", USUAL_CLIENTS)?,
-        turns: number_or(matches, "turns", USUAL_TURNS)?,
+        clients: bound_or(matches, "clients", USUAL_CLIENTS)?,
+        turns: bound_or(matches, "turns", USUAL_TURNS)?,
     })
 }

@@ -1,18 +1,21 @@
 //! The words of the command line.
-ghost use Rattle.std.specs.Prelude.{◌≡◌, None, false, map, IfOk, IsOkAnd, IfSome, IfNone, option_map};
-ghost use Rattle.clap.specs.Words.{AddsSubcommand, app_of, found_of, rows_of, rule_of, subcommand_rows_of};
+ghost use Rattle.std.specs.Prelude.{◌≡◌, ◌≢◌, None, Some, false, map, IfOk, IsOkAnd, IfSome, IfNone, codes, option_map};
+ghost use Rattle.clap.specs.Words.{AddsSubcommand, app_of, found_of, rows_of, rule_of, subcommand_name_of, subcommand_rows_of};
 ghost use Rattle.mr_words.specs.Command.{at_rule, file_app, word_rule, plan_app, timeline_app, run_app, check_app, explain_app, program_app};
 ghost use Rattle.mr_words.specs.Explain.{told_by};
-ghost use Rattle.mr_words.specs.Words.{HasPlan, HasExplanation, ReadsWords, SaysPlainly, ReadsAs};
-ghost use Rattle.mr_words.specs.WordSteps.{IsFaultOf, GivesReadings, GivesTimeline, GivesCommand};
+ghost use Rattle.mr_words.specs.Words.{HasPlan, HasExplanation, ReadsWords, SaysPlainly, SaysVersion, ReadsAs, TellsVersion};
+ghost use Rattle.mr_words.specs.WordSteps.{IsFaultOf, GivesReadings, GivesTimeline, GivesCommand, both_given, no_such_fault};
 
 use crate::explain::{Explanation, find_explanation};
-use crate::help::{CHECK_NOTES, EXPLAIN_NOTES, PLAN_NOTES, RUN_NOTES, TIMELINE_NOTES};
+use crate::help::{
+    CHECK_NOTES, EXPLAIN_NOTES, PLAN_NOTES, PROGRAM_NOTES, RUN_NOTES, TIMELINE_NOTES,
+};
 use crate::options::{config_option, option};
 use crate::readings::numbers_in;
 use crate::service_words::{
     NodeValues, ProxyValues, node_command, node_values, proxy_command, proxy_values,
 };
+use crate::version::VERSION;
 use clap::error::ErrorKind;
 use clap::{Arg, ArgAction, ArgMatches, Command, Error, value_parser};
 use std::alloc::{AllocError, Global};
@@ -73,6 +76,8 @@ pub enum Wanted<'a> {
 pub enum WordsFault {
     /// The words are wrong, or call for help: its text is for the user.
     Wrong(Error),
+    /// The words call for the version, which one line tells.
+    Version,
     /// The readings are no list of numbers.
     Readings,
     /// Memory was refused.
@@ -95,6 +100,8 @@ impl From<Error> for WordsFault {
     fn from(error: Error) -> WordsFault {
         if error.kind() == ErrorKind::OutOfMemory {
             WordsFault::Memory
+        } else if error.kind() == ErrorKind::DisplayVersion {
+            WordsFault::Version
         } else {
             WordsFault::Wrong(error)
         }
@@ -219,7 +226,11 @@ fn program<'a>(alloc: Global) -> Result<Command<'a>, AllocError>
     ensures { IfOk result (λ command. app_of command ≡ program_app) }
 {
     let named = Command::new(alloc, "migctl").bin_name("migctl")?;
-    let program = Ok(named.about("Plans the migration of a memcached pool"));
+    let program = Ok(
+        named
+            .about("Plans, plays, checks and serves the migration of a memcached pool to a new one")
+            .after_help(PROGRAM_NOTES),
+    );
     let program = with_command(program, plan_command(alloc));
     let program = with_command(program, timeline_command(alloc));
     let program = with_command(program, run_command(alloc));
@@ -229,6 +240,7 @@ fn program<'a>(alloc: Global) -> Result<Command<'a>, AllocError>
     let program = with_command(program, explain_command(alloc))?;
     Ok(
         program
+            .version(VERSION.number)
             .no_binary_name(true)
             .subcommand_required(true)
             .arg_required_else_help(true),
@@ -324,22 +336,34 @@ fn wanted_of<'a>(alloc: Global, matches: &ArgMatches<'a>) -> Result<Option<Wante
     Ok(None)
 }
 
+/// Why no command has these values, though the command line took each of them: `explain` names no fault, or a service is
+/// given `--forever` beside what it stands in place of.
+fn refusal_of_values(matches: &ArgMatches) -> &'static str
+    ensures explain { (subcommand_name_of matches.now ≡ Some (codes "explain")) → (result.now ≡ no_such_fault) }
+    ensures service { (subcommand_name_of matches.now ≢ Some (codes "explain")) → (result.now ≡ both_given) }
+{
+    match matches.subcommand_matches("explain") {
+        Some(_) => "no layer has a fault of this number: 'migctl explain --help' names the layers",
+        None =>
+            "'--forever' stands in place of '--clients' and '--turns', and neither goes with it",
+    }
+}
+
 /// Reads the words after the program's name, of which the first names the command. Wrong words are those that the
-/// command line has no place for; readings that are no list of numbers, and want of memory, are the other faults.
+/// command line has no place for; a call for the version, readings that are no list of numbers, and want of memory are the
+/// other faults.
 pub fn read_words<'a>(alloc: Global, words: &'a [&'a str]) -> Result<Wanted<'a>, WordsFault>
     ensures exactly { ReadsWords (map (λ word. word.now) words.entry.now) result }
     ensures plainly { (wanted : Wanted) → SaysPlainly (map (λ word. word.now) words.entry.now) wanted → ReadsAs wanted result }
+    ensures version { SaysVersion (map (λ word. word.now) words.entry.now) → TellsVersion result }
 {
     let mut program = program(alloc)?;
     let matches = program.try_get_matches_from_mut(words)?;
     match wanted_of(alloc, &matches)? {
         Some(wanted) => Ok(wanted),
-        // The command line asks for a command and its values, so what is missing is the fault that `explain` names.
+        // The command line asks for a command and its values, so there are some, and no command has them together.
         None => {
-            let error = program.error(
-                ErrorKind::InvalidValue,
-                "no layer has a fault of this number: 'migctl explain --help' names the layers",
-            )?;
+            let error = program.error(ErrorKind::InvalidValue, refusal_of_values(&matches))?;
             Err(WordsFault::Wrong(error))
         }
     }

@@ -221,6 +221,22 @@ def one_client_is_served_where_the_words_do_not_say_how_many():
 
 
 @case
+def a_service_without_an_end_goes_on_after_its_first_clients():
+    """With --forever it serves one client after another, and those at once, and says nothing of whom it served."""
+    with Fleet() as fleet:
+        node = fleet.serve("node", "--forever")
+        proxy = fleet.serve("proxy", "--config", str(fleet.config([fleet.node()])), "--forever")
+        for service in (node, proxy):
+            for number in range(3):
+                client = service.client()
+                client.ask(set_of("k", f"{number}"), STORED)
+                client.quit()
+            for client in service.clients(3):
+                client.ask(get_of("k"), hits(("k", "2")))
+            check(f"what {service.name()} printed so far", (b"", b""), service.printed())
+
+
+@case
 def a_connection_ends_once_its_turns_are_spent():
     """So many reads are made of a connection, each of all that has come; where one more is needed that is a fault."""
     with Fleet() as fleet:

@@ -60,6 +60,7 @@ def a_command_says_by_its_status_how_it_ended():
             (0, fleet.run("plan", "--config", config, *at, stdin=delete_of("k"))),
             (0, fleet.run("timeline", "--config", config)),
             (0, fleet.run("explain", "plan", "5")),
+            (0, fleet.run("--version")),
             (0, fleet.run("run", stdin=compact(script([1, 2])))),
             (0, fleet.run("check", stdin=transcript([1, 2]))),
             (1, fleet.run("plan", "--config", bad, *at, stdin=delete_of("k"))),

@@ -42,7 +42,7 @@ fn attend<C: Carrier, K: Clock + Drop, S: Source, W: Sink, R: Wait>(
     refused: &AtomicBool,
 ) -> FinishedClient<C, K, S, W> {
     if refused.load(Ordering::SeqCst) {
-        client.unserved(alloc, desk)
+        client.without_thread(alloc, desk)
     } else {
         client.serve(rt, alloc, desk, links)
     }
@@ -83,7 +83,7 @@ where
     W: 's,
 {
     let Ok((links, refused, same)) = own_parts(alloc, links) else {
-        return Started::Over(client.unserved(alloc, desk));
+        return Started::Over(client.without_thread(alloc, desk));
     };
     match scope.spawn(move || attend(rt, alloc, desk, links, client, &same)) {
         Ok(thread) => Started::Thread(thread),

@@ -5,4 +5,4 @@ pub returns-clause-openings : goal.returns-clause-openings
 returns-clause-openings g c = c.close_all.ensures.openings ∙ c.take_apart-desks.ensures.desks
 
 pub returns-clause-clients : goal.returns-clause-clients
-returns-clause-clients g c = c.close_all.ensures.clients ∙ c.serve_all-endings.ensures.clients ∙ c.take_apart-desks.ensures.clients
+returns-clause-clients g c = c.close_all.ensures.clients ∙ c.serve_fleet-endings.ensures.clients ∙ c.take_apart-desks.ensures.clients

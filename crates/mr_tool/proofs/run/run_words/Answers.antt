@@ -1,6 +1,6 @@
 use Rattle.std.proofs.Common.{inl, refl}
 use Rattle.mr_tool.proofs.FewReads.{few}
-use Rattle.mr_tool.proofs.RunLemmas.{command_run, done_steady, memory_run, refused_readings_run, refused_words_run}
+use Rattle.mr_tool.proofs.RunLemmas.{command_run, done_steady, memory_run, refused_readings_run, refused_words_run, version_run}
 use Rattle.mr_words.specs.declared.words.Wanted.TheVariants.{Plan, Timeline, Run, Check, Node, Proxy, Explain}
 use Rattle.mr_tool.proofs.run.run_words.Goals as goal
 
@@ -49,6 +49,18 @@ returns-in-Err-Wrong-clause-reads g c = few _ _ _ _ _ _ (returns-in-Err-Wrong-cl
 
 pub returns-in-Err-Wrong-clause-done : goal.returns-in-Err-Wrong-clause-done
 returns-in-Err-Wrong-clause-done g c = λ done. done_steady _ _ _ _ _ _ (returns-in-Err-Wrong-clause-runs g c) done
+
+pub returns-in-Err-Version-clause-runs : goal.returns-in-Err-Version-clause-runs
+returns-in-Err-Version-clause-runs g c =
+    version_run _ _ _ _ _ _ _ (rw c.in-Err-Version.field-0-is at c.in-Err-Version.ensures.exactly)
+    (c.write_version.ensures (g.S.Sources.told c.args.sources.now) (g.I.Source.told c.args.input.now) (g.F.Sink.told c.args.faults.now)) refl
+    (c.finish-in-Err-Version.ensures (g.S.Sources.told c.args.sources.now) (g.I.Source.told c.args.input.now) (g.O.Sink.told c.write_version.new.output))
+
+pub returns-in-Err-Version-clause-reads : goal.returns-in-Err-Version-clause-reads
+returns-in-Err-Version-clause-reads g c = few _ _ _ _ _ _ (returns-in-Err-Version-clause-runs g c)
+
+pub returns-in-Err-Version-clause-done : goal.returns-in-Err-Version-clause-done
+returns-in-Err-Version-clause-done g c = λ done. done_steady _ _ _ _ _ _ (returns-in-Err-Version-clause-runs g c) done
 
 pub returns-in-Err-Readings-clause-runs : goal.returns-in-Err-Readings-clause-runs
 returns-in-Err-Readings-clause-runs g c =

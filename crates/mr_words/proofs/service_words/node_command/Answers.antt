@@ -1,6 +1,6 @@
 use Rattle.std.proofs.Common.{◌≡◌, codes, Ok}
 use Rattle.clap.specs.Words.{app_of, new_app}
-use Rattle.mr_words.specs.Command.{listen_rule, number_rule}
+use Rattle.mr_words.specs.Command.{forever_rule, listen_rule, number_rule}
 use Rattle.mr_words.proofs.CommandLemmas.{option_added}
 use Rattle.mr_words.proofs.service_words.node_command.Goals as goal
 
@@ -13,4 +13,5 @@ returns c =
     c.number_option-capacity.ensures.rule in
     let clients = option_added _ _ _ _ (number_rule (codes "clients")) c.with_option-node-3.ensures c.clients_option.ensures.local capacity
     c.clients_option.ensures.rule in
-    option_added _ _ _ _ (number_rule (codes "turns")) c.with_option.ensures c.turns_option.ensures.local clients c.turns_option.ensures.rule
+    let turns = option_added _ _ _ _ (number_rule (codes "turns")) c.with_option-node-4.ensures c.turns_option.ensures.local clients c.turns_option.ensures.rule in
+    option_added _ _ _ _ forever_rule c.with_option.ensures c.forever_flag.ensures.local turns c.forever_flag.ensures.rule

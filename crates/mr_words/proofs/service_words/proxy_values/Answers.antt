@@ -9,8 +9,8 @@ returns-clause-found c = record {
   config_is = sym (c.in_ok-get_str.ensures ∙ first_value-rows (found_of c.args.matches.now) (codes "config"));
   listen_is = sym (c.in_ok-get_str-2.ensures ∙ first_value-rows (found_of c.args.matches.now) (codes "listen"));
   room_is = c.in_ok-number_or.ensures.found;
-  clients_is = c.in_ok-number_or-2.ensures.found;
-  turns_is = c.in_ok-number_or-3.ensures.found;
+  clients_is = c.in_ok-bound_or.ensures.found;
+  turns_is = c.in_ok-bound_or-2.ensures.found;
 }
 
 pub returns-in_err-get_str-clause-missing : goal.returns-in_err-get_str-clause-missing

@@ -1,8 +1,8 @@
 use Rattle.std.proofs.Common.{refl}
 use Rattle.mr_fleet.proofs.fleet_client.FleetClient.serve.Goals as goal
 
-pub served-requires : goal.served-requires
-served-requires g c = record {
+pub after_session-requires : goal.after_session-requires
+after_session-requires g c = record {
   reader_before = g.S.Source.told c.args.self.reader;
   writer_before = g.W.Sink.told c.args.self.writer;
   clock_before = c.args.self.clock;

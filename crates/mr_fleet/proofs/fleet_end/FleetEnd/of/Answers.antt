@@ -1,5 +1,5 @@
 use Rattle.std.proofs.Common.{◌∙◌}
-use Rattle.mr_fleet.proofs.EndLemmas.{closed_beside}
+use Rattle.mr_fleet.proofs.FleetEndLemmas.{closed_beside}
 use Rattle.mr_fleet.proofs.fleet_end.FleetEnd.of.Goals as goal
 
 pub invariant_of-result : goal.invariant_of-result

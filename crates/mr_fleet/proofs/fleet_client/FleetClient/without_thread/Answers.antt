@@ -1,5 +1,5 @@
 use Rattle.mr_fleet.proofs.ClientEndLemmas.{had_no_thread}
-use Rattle.mr_fleet.proofs.fleet_client.FleetClient.unserved.Goals as goal
+use Rattle.mr_fleet.proofs.fleet_client.FleetClient.without_thread.Goals as goal
 
 pub of-requires : goal.of-requires
 of-requires g c =

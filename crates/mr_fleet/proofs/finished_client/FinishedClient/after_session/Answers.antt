@@ -1,6 +1,6 @@
 use Rattle.std.proofs.Common.{inl, sym, ◌∙◌}
 use Rattle.mr_fleet.proofs.ClientEndLemmas.{had_a_thread}
-use Rattle.mr_fleet.proofs.finished_client.FinishedClient.served.Goals as goal
+use Rattle.mr_fleet.proofs.finished_client.FinishedClient.after_session.Goals as goal
 
 pub of-requires : goal.of-requires
 of-requires g c = inl c.requires

@@ -11,14 +11,20 @@ use std::snapshot::Snapshot;
 
 /// What was asked for: nothing, or one more service after those that contracts remember.
 #[derive(Drop)]
-pub(crate) enum Asks {
+pub(crate) enum AskedServices {
     /// Nothing yet.
     Nothing,
     /// A node: its address, its cache, its clients and their turns.
-    Node(Snapshot<Asks>, Snapshot<GhostBytes>, Snapshot<CacheNode>, Snapshot<u64>, Snapshot<u64>),
+    Node(
+        Snapshot<AskedServices>,
+        Snapshot<GhostBytes>,
+        Snapshot<CacheNode>,
+        Snapshot<u64>,
+        Snapshot<u64>,
+    ),
     /// A proxy: its address, its core, the routing of its carriers, its clients and their turns.
     Proxy(
-        Snapshot<Asks>,
+        Snapshot<AskedServices>,
         Snapshot<GhostBytes>,
         Snapshot<ProxyCore>,
         Snapshot<Routing>,
@@ -29,18 +35,18 @@ pub(crate) enum Asks {
 
 /// The services that were asked for, which contracts see as a list and the program doesn't keep.
 #[derive(Drop)]
-pub(crate) struct GhostAsks {
-    asks: Asks,
+pub(crate) struct GhostServices {
+    services: AskedServices,
 }
 
-impl Model for GhostAsks {
+impl Model for GhostServices {
     ghost use Rattle.std.specs.Prelude.{List};
     ghost use Rattle.mr_sockets.specs.Servers.{Asked};
-    ghost use Rattle.mr_sockets.specs.Asks.{asked_of};
+    ghost use Rattle.mr_sockets.specs.AskedServices.{asked_of};
 
     ghost Value = { List Asked };
 
-    ghost view = { λ a. asked_of a.asks };
+    ghost view = { λ s. asked_of s.services };
 }
 
 /// An address as contracts see it.
@@ -52,13 +58,13 @@ fn address(listen: &str) -> Snapshot<GhostBytes>
     Snapshot::of(&bytes)
 }
 
-impl GhostAsks {
+impl GhostServices {
     /// None yet.
-    pub(crate) fn new() -> GhostAsks
+    pub(crate) fn new() -> GhostServices
         ensures { result ≡ [] }
     {
-        GhostAsks {
-            asks: Asks::Nothing,
+        GhostServices {
+            services: AskedServices::Nothing,
         }
     }
 
@@ -66,8 +72,8 @@ impl GhostAsks {
     pub(crate) fn add_node(&mut self, listen: &str, node: &CacheNode, clients: u64, turns: u64)
         ensures { self.new ≡ self.old ++ NodeAt listen.now node.now clients turns ∷ [] }
     {
-        let before = Snapshot::of(&self.asks);
-        self.asks = Asks::Node(
+        let before = Snapshot::of(&self.services);
+        self.services = AskedServices::Node(
             before,
             address(listen),
             Snapshot::of(node),
@@ -87,8 +93,8 @@ impl GhostAsks {
     )
         ensures { self.new ≡ self.old ++ ProxyAt listen.now core.now routing.now clients turns ∷ [] }
     {
-        let before = Snapshot::of(&self.asks);
-        self.asks = Asks::Proxy(
+        let before = Snapshot::of(&self.services);
+        self.services = AskedServices::Proxy(
             before,
             address(listen),
             Snapshot::of(core),
