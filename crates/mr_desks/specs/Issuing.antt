@@ -46,12 +46,12 @@ abbrev pub ClockRelation : Type 0 → Type 1
 ClockRelation K = K → Option ℕ → K → Type 0
 
 -- the clock was read once, and the request was issued at that reading
-abbrev pub DeskIssues : {K : Type 0} → ClockRelation K → (K → ℕ) → K → K → Recorded → ℕ → Request → OpId → List LegSheet → Recorded → ℕ → Type 0
-DeskIssues reads failures clock clock' old share request op legs new raised =
+abbrev pub RecordedIssues : {K : Type 0} → ClockRelation K → (K → ℕ) → K → K → Recorded → ℕ → Request → OpId → List LegSheet → Recorded → ℕ → Type 0
+RecordedIssues reads failures clock clock' old share request op legs new raised =
     (t : ℕ) × reads clock (Some t) clock' × (failures clock' ≡ failures clock) × IssuesAt old share t request op legs new raised
 
 -- the clock was read once, and the request was refused at that reading, or there was none
-abbrev pub DeskRefuses : {K : Type 0} → ClockRelation K → (K → ℕ) → K → K → Recorded → ℕ → Request → DeskError → Type 0
-DeskRefuses reads failures clock clock' old share request e =
+abbrev pub RecordedRefuses : {K : Type 0} → ClockRelation K → (K → ℕ) → K → K → Recorded → ℕ → Request → DeskError → Type 0
+RecordedRefuses reads failures clock clock' old share request e =
     ((t : ℕ) × reads clock (Some t) clock' × (failures clock' ≡ failures clock) × IsDeskRefusal (why_refused old share t request) e) ⊎
     (reads clock None clock' × (failures clock' ≡ failures clock + 1) × (e ≡ ClockFault))

@@ -6,7 +6,7 @@ ghost use Rattle.mr_proxy.specs.Transitions.{open_sheet, taken_of, given_up_of};
 ghost use Rattle.mr_proxy.specs.Sound.{IsSound};
 ghost use Rattle.mr_desks.specs.Recorded.{AnswerStands};
 ghost use Rattle.mr_desks.specs.Taking.{BecomesOf, after_taken, after_given_up, TakenStands, TakenInTime};
-ghost use Rattle.mr_desks.specs.Issuing.{steps_needed, why_refused, IsDeskRefusal, after_issued, DeskIssues, DeskRefuses};
+ghost use Rattle.mr_desks.specs.Issuing.{steps_needed, why_refused, IsDeskRefusal, after_issued, RecordedIssues, RecordedRefuses};
 
 use crate::awaiting::awaits;
 use crate::book::Book;
@@ -202,9 +202,9 @@ impl<C: Carrier> RecordedState<C> {
         request: &Request,
     ) -> Result<Issued, DeskError>
         requires { request.now ≢ Request.Quit }
-        ensures issued { IfOk result (λ issued. DeskIssues K.reads K.failures clock.old clock.new self.old share.old request.now issued.op issued.legs.items self.new share.new) }
+        ensures issued { IfOk result (λ issued. RecordedIssues K.reads K.failures clock.old clock.new self.old share.old request.now issued.op issued.legs.items self.new share.new) }
         ensures has_leg { IfOk result (λ issued. 1 ≤ length issued.legs.items) }
-        ensures refused { IfErr result (DeskRefuses K.reads K.failures clock.old clock.new self.old share.old request.now) }
+        ensures refused { IfErr result (RecordedRefuses K.reads K.failures clock.old clock.new self.old share.old request.now) }
         ensures unchanged { OnErr result ((self.new ≡ self.old) × (share.new ≡ share.old)) }
     {
         let reading = clock.now()?;

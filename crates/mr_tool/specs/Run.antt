@@ -81,7 +81,7 @@ pub record RefusesReadings (words : List (List ℕ)) (before after : Devices) (s
   pub tells : Tells readings_line before after
 
 -- the words call for the version, and it was written; the device for faults has nothing of it
-pub record TellsVersion (words : List (List ℕ)) (before after : Devices) (status : ℕ) : Type 0 where
+pub record PrintsVersion (words : List (List ℕ)) (before after : Devices) (status : ℕ) : Type 0 where
   pub says : SayVersion words
   pub between : Devices
   pub result : Result Ended Fault
@@ -93,7 +93,7 @@ pub record TellsVersion (words : List (List ℕ)) (before after : Devices) (stat
 abbrev pub RunsNothing : List (List ℕ) → Devices → Devices → ℕ → Type 0
 RunsNothing words before after status =
     RefusesWords words before after status ⊎ RefusesReadings words before after status ⊎ EndsWith (Err Memory) status before after
-    ⊎ TellsVersion words before after status
+    ⊎ PrintsVersion words before after status
 
 -- the run of these words: their command, or nothing, and then no service is asked for
 abbrev pub Runs : List (List ℕ) → Devices → Devices → ServersView → ServersView → ℕ → Type 0
