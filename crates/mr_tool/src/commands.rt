@@ -24,7 +24,7 @@ use crate::sources::Sources;
 use crate::timeline::write_timeline;
 use mr_text::{Sink, Source};
 use mr_transcripts::check_transcript;
-use mr_words::{Explanation, PlanValues, TimelineValues, VERSION};
+use mr_words::{Explanation, PlanValues, TimelineValues, version_line};
 use std::alloc::Global;
 
 /// Writes the plan of the first request of the input.
@@ -117,7 +117,7 @@ pub fn write_version<O: Sink>(output: &mut O) -> Result<Ended, Fault>
         (devices sources input (O.told output.old) faults)
         (devices sources input (O.told output.new) faults) result }
 {
-    match output.write_all(VERSION.line.as_bytes()) {
+    match output.write_all(version_line().as_bytes()) {
         Ok(()) => Ok(Ended::Done),
         Err(_) => Err(Fault::Output),
     }

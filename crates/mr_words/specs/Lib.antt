@@ -3,3 +3,4 @@ pub mod Explain
 pub mod Command
 pub mod WordSteps
 pub mod Words
+pub mod Version

@@ -15,5 +15,5 @@ mod words;
 pub use explain::{Explanation, find_explanation};
 pub use lines::{node_line, plan_line, text_line};
 pub use service_words::{NodeValues, ProxyValues};
-pub use version::VERSION;
+pub use version::version_line;
 pub use words::{PlanValues, TimelineValues, Wanted, WordsFault, read_words};

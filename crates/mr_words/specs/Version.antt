@@ -1,0 +1,6 @@
+-- What is told of the program's version.
+use Rattle.std.specs.Prelude.{ℕ, List, codes}
+
+-- the line that tells it
+abbrev pub told_version : List ℕ
+told_version = codes "migctl 0.4.0\n"
