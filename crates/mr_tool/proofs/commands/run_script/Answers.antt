@@ -1,4 +1,5 @@
-use Rattle.std.proofs.Common.{inr, refl}
+use Rattle.std.proofs.Common.{ℕ, List, Err, inr, refl, subst}
+use Rattle.mr_text.specs.Sink.{IsOneWrite}
 use Rattle.mr_tool.proofs.FaultLemmas.{print_fails}
 use Rattle.mr_tool.proofs.GivenLemmas.{ends_not_given, ends_not_played}
 use Rattle.mr_tool.specs.Devices.{devices}
@@ -29,8 +30,7 @@ returns-in_err-write_at_once g c = λ faults.
     let given = c.in_ok-bytes.ensures.given (g.O.Sink.told c.args.output.now) (g.O.Sink.told c.write_at_once.new.writer) faults in
     let made : MakesTranscript c.in_ok-bytes.bytes.items c.in_ok-text.text.items Done = (rw c.as_slice.ensures.value at c.in_ok-text.ensures.played, refl) in
     print_fails (RunGives (path_in c.args.file) before after) c.from_residual-in_err-write_at_once.result c.in_err-write_at_once.field-0.0
-    c.in_ok-text.text.items before.output after.output c.from_residual-in_err-write_at_once.ensures.1
-    (rw c.as_slice-2.ensures.value at c.in_err-write_at_once.ensures.text)
+    c.as_slice-2.result.now before.output after.output c.from_residual-in_err-write_at_once.ensures.1 c.in_err-write_at_once.ensures.text
     (λ same. inr (record {
       bytes = c.in_ok-bytes.bytes.items;
       text = c.in_ok-text.text.items;
@@ -42,5 +42,11 @@ returns-in_err-write_at_once g c = λ faults.
     (λ fault writes. (
       Done,
       fault,
-      record { bytes = c.in_ok-bytes.bytes.items; text = c.in_ok-text.text.items; given = given; made = made; writes = writes },
+      record {
+        bytes = c.in_ok-bytes.bytes.items;
+        text = c.in_ok-text.text.items;
+        given = given;
+        made = made;
+        writes = subst (λ (text : List ℕ). IsOneWrite text before.output (Err fault) after.output) c.as_slice-2.ensures.value writes;
+      },
     ))
