@@ -1,4 +1,7 @@
 //! Keys, items, requests and replies, and the devices that they are read from and written to.
+ghost use Rattle.std.specs.Prelude.{◌≢◌, IfOk};
+ghost use Rattle.mr_text.specs.declared.request.Request.{Request};
+
 use mr_text::{
     Block, Cause, FailsAt, Item, ItemList, Key, KeyList, Line, OverReader, OverWriter, ReadFault,
     Reply, ReplyReader, Request, RequestReader, Sink, Source, TextError, WriteFault, write_reply,
@@ -13,7 +16,9 @@ pub(super) fn key(alloc: Global) -> Result<Key, TextError> {
 }
 
 /// The get of that key.
-pub(super) fn get(alloc: Global) -> Result<Request, TextError> {
+pub(super) fn get(alloc: Global) -> Result<Request, TextError>
+    ensures { IfOk result (λ request. request ≢ Request.Quit) }
+{
     let mut keys = Vec::new(alloc);
     keys.push(key(alloc)?)?;
     Ok(Request::Get {
