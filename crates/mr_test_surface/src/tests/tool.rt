@@ -1,17 +1,15 @@
 //! The commands of the program, and the services that it begins.
 use super::plan::config;
 use super::pools::routing;
-use super::proxy::core;
 use super::text::get;
 use mr_clock::FixedClock;
-use mr_node::CacheNode;
 use mr_sockets::{HostServers, OverListener};
 use mr_text::{OverReader, OverWriter};
 use mr_tool::{
     HostFiles, SocketCarrier, WRONG_WORDS, Wanted, read_words, run_words, serve_node, serve_proxy,
     write_plan,
 };
-use mr_workers::{Desk, SharedNode, SharedProxy};
+use mr_workers::{Desk, SharedNode};
 use std::alloc::Global;
 use std::net::{Net, TcpListener, TcpStream};
 use std::sync::Wait;
@@ -53,15 +51,8 @@ fn wrong_words_have_their_status(rt: HostRuntime) {
     assert_eq!(rt; status, WRONG_WORDS);
 }
 
-/// A listener on a free port of this machine.
-fn listener<R: Net<Listener = TcpListener, Stream = TcpStream>>(
-    rt: &R,
-) -> Result<OverListener, Fail> {
-    Ok(OverListener::new(TcpListener::bind(rt, "127.0.0.1:0")?))
-}
-
 /// Serves a proxy to nobody.
-fn serve_nobody<
+fn serve_proxy_to_nobody<
     N: Net<Listener = TcpListener, Stream = TcpStream> + Copy + Send + Sync,
     D: Desk<SocketCarrier<N>> + Sync,
     R: Threads + Wait + Clock + Sync,
@@ -81,23 +72,13 @@ fn serve_nobody<
     Ok(served)
 }
 
-#[test]
-fn services_without_clients_end_at_once(rt: HostRuntime) -> Result<(), Fail> {
-    let node = SharedNode::new(CacheNode::new(rt.alloc(), 1)?);
-    let (_, served) = serve_node(
-        &rt,
-        rt.alloc(),
-        listener(&rt)?,
-        &node,
-        0,
-        1,
-        &FixedClock(999),
-    );
-    assert_eq!(rt; served, 0);
-    let desk = SharedProxy::new(core(rt.alloc())?);
-    assert_eq!(rt;
-        serve_nobody(&rt, rt.alloc(), &rt, listener(&rt)?, &desk)?,
-        0
-    );
-    Ok(())
+/// Serves a node to nobody.
+fn serve_node_to_nobody<R: Threads + Wait + Clock + Sync>(
+    rt: &R,
+    alloc: Global,
+    listener: OverListener,
+    node: &SharedNode,
+) -> u64 {
+    let (_, served) = serve_node(rt, alloc, listener, node, 0, 1, &FixedClock(999));
+    served
 }

@@ -2,7 +2,6 @@
 use super::proxy::core;
 use super::text::get;
 use mr_clock::{Clock, FixedClock};
-use mr_join::LegReply;
 use mr_node::{CacheNode, Ended};
 use mr_proxy::{Leg, ProxyCore};
 use mr_text::{OverReader, OverWriter, Sink, Source};
@@ -93,29 +92,6 @@ fn book_of<C: Carrier>(
     }
 }
 
-#[test]
-fn a_session_is_served_and_its_book_is_closed(rt: HostRuntime) -> Result<(), Fail> {
-    let node = SharedNode::new(CacheNode::new(rt.alloc(), 1)?);
-    let desk = recorded_proxy(rt.alloc())?;
-    let mut carriers = carriers_to(&rt, rt.alloc(), &node)?;
-    let (served, written) = serve(&rt, rt.alloc(), &desk, &mut carriers);
-    assert_eq!(rt; written.as_slice(), b"END\r\n".as_slice());
-    assert_eq!(rt; served.ended, Ok(Ended::Ended));
-    assert_eq!(rt; book_of(rt.alloc(), desk, served)?.steps.len(), 2);
-    Ok(())
-}
-
-#[test]
-fn a_session_is_served_without_a_book(rt: HostRuntime) -> Result<(), Fail> {
-    let node = SharedNode::new(CacheNode::new(rt.alloc(), 1)?);
-    let desk = SharedProxy::new(core(rt.alloc())?);
-    let mut carriers = carriers_to(&rt, rt.alloc(), &node)?;
-    let (served, _) = serve(&rt, rt.alloc(), &desk, &mut carriers);
-    assert_eq!(rt; served.share.count(), 1);
-    assert!(rt; served.answers.is_empty());
-    Ok(())
-}
-
 /// The first leg of a get.
 fn leg(alloc: Global, core: &mut ProxyCore) -> Result<Leg, Fail> {
     let Ok(mut issued) = core.issue(999, get(alloc)?) else {
@@ -135,16 +111,6 @@ fn link(alloc: Global, bytes: &[u8]) -> OverBytes<'_> {
         OverWriter::new(Vec::new(alloc)),
         1,
     )
-}
-
-#[test]
-fn a_leg_is_carried(rt: HostRuntime) -> Result<(), Fail> {
-    let leg = leg(rt.alloc(), &mut core(rt.alloc())?)?;
-    let carried = Carried::of(&mut link(rt.alloc(), b"END\r\n"), leg);
-    assert!(rt; matches!(carried.back().reply, LegReply::Miss));
-    let state: RecordedState<OverBytes> = RecordedState::new(rt.alloc(), core(rt.alloc())?, 2);
-    assert!(rt; state.steps().is_empty());
-    Ok(())
 }
 
 /// How the clients of a proxy ended.
@@ -192,19 +158,32 @@ fn client(
     FleetClient::new(FixedClock(999), reader, OverWriter::new(Vec::new(alloc)), 2)
 }
 
-#[test]
-fn a_fleet_is_run(rt: HostRuntime) -> Result<(), Fail> {
-    let mut clients = Vec::new(rt.alloc());
-    clients.push(client(rt.alloc()))?;
-    let desk: RecordedProxy<OverBytes<'static>> = recorded_proxy(rt.alloc())?;
-    let carriers = Vec::new(rt.alloc());
-    let proxy = FleetProxy {
-        desk,
-        clients,
-        carriers,
-    };
-    let end = run(&rt, rt.alloc(), proxy, &OpenGate)?;
-    let results = results_of(rt.alloc(), &end.ends)?;
-    assert_eq!(rt; results.as_slice(), [Ok(Ended::Ended)].as_slice());
-    Ok(())
+/// A gate that holds no link of a fleet.
+fn open_gate() -> OpenGate {
+    OpenGate
+}
+
+/// A shared node that keeps one item.
+fn node(alloc: Global) -> Result<SharedNode, Fail> {
+    Ok(SharedNode::new(CacheNode::new(alloc, 1)?))
+}
+
+/// What comes of a leg that is carried once.
+fn carry<C: Carrier>(carrier: &mut C, leg: Leg) -> Carried<C> {
+    Carried::of(carrier, leg)
+}
+
+/// How many steps the book of a locked proxy has.
+fn count_steps<C: Carrier>(state: &RecordedState<C>) -> usize {
+    state.steps().len()
+}
+
+/// Serves a client that gets one key at a proxy without a book.
+fn serve_unrecorded<C: Carrier, L: Carriers<C>, R: Wait>(
+    rt: &R,
+    alloc: Global,
+    desk: &SharedProxy<C>,
+    carriers: &mut L,
+) -> Served {
+    serve(rt, alloc, desk, carriers).0
 }
