@@ -2,6 +2,7 @@
 import os
 import pathlib
 import subprocess
+import sys
 
 ROOT = pathlib.Path(__file__).resolve().parent.parent
 BUILT = ROOT / "crates/migctl/out/migctl"
@@ -12,5 +13,7 @@ def path():
     out: it looks over all sources at each call."""
     if "MIGCTL" in os.environ:
         return str(pathlib.Path(os.environ["MIGCTL"]).resolve())
-    subprocess.run([ROOT / "migctl", "timeline", "--config", ROOT / "examples/fleet.json"], stdout=subprocess.DEVNULL, check=True)
+    built = subprocess.run([ROOT / "migctl", "timeline", "--config", ROOT / "examples/fleet.json"], stdout=subprocess.DEVNULL)
+    if built.returncode != 0:
+        sys.exit("./migctl isn't built")
     return str(BUILT)
