@@ -12,6 +12,9 @@ use std::sync::{Arc, Barrier};
 use std::thread;
 use std::time::{Duration, Instant};
 
+// How many requests are sent at once before and after the time that counts.
+const TOGETHER: usize = 64;
+
 type Outcome<T> = Result<T, Box<dyn Error + Send + Sync>>;
 
 #[derive(Clone)]
@@ -44,6 +47,11 @@ impl Client {
         Ok(Client { stream, bytes: work.bytes, held, sent: vec![], wanted: vec![], read: vec![0; 65536] })
     }
 
+    // A place that jumps about among the keys, so that none is used soon after the one that was set before it.
+    fn place(&self, count: u64) -> usize {
+        (count.wrapping_mul(0x9e37_79b9_7f4a_7c15) >> 11) as usize % self.held.len()
+    }
+
     // A block that differs from key to key and from set to set.
     fn push_block(text: &mut Vec<u8>, key: &str, times: u64, bytes: usize) {
         let begin = text.len();
@@ -53,29 +61,23 @@ impl Client {
         text.extend_from_slice(b"\r\n");
     }
 
-    fn set(&mut self, place: usize) -> Outcome<()> {
+    fn add_set(&mut self, place: usize) {
         let (key, times) = &mut self.held[place];
         *times += 1;
-        self.sent.clear();
         let _ = write!(self.sent, "set {key} 0 0 {}\r\n", self.bytes);
         Self::push_block(&mut self.sent, key, *times, self.bytes);
-        self.wanted.clear();
         self.wanted.extend_from_slice(b"STORED\r\n");
-        self.exchange()
     }
 
-    fn get(&mut self, place: usize) -> Outcome<()> {
+    fn add_get(&mut self, place: usize) {
         let (key, times) = &self.held[place];
-        self.sent.clear();
         let _ = write!(self.sent, "get {key}\r\n");
-        self.wanted.clear();
         let _ = write!(self.wanted, "VALUE {key} 0 {}\r\n", self.bytes);
         Self::push_block(&mut self.wanted, key, *times, self.bytes);
         self.wanted.extend_from_slice(b"END\r\n");
-        self.exchange()
     }
 
-    // Sends the request and reads until as much is there as is wanted, or something else.
+    // Sends what was added and reads until as much is there as is wanted, or something else.
     fn exchange(&mut self) -> Outcome<()> {
         self.stream.write_all(&self.sent)?;
         let mut count = 0;
@@ -87,14 +89,28 @@ impl Client {
                 return Err(format!("{} got {}", text(&self.sent), text(&self.read[..count])).into());
             }
         }
+        self.sent.clear();
+        self.wanted.clear();
         Ok(())
+    }
+
+    // Sets every key, or asks for every key, some requests at a time.
+    fn all(&mut self, gets: bool) -> Outcome<()> {
+        for place in 0..self.held.len() {
+            if gets { self.add_get(place) } else { self.add_set(place) }
+            if place % TOGETHER == TOGETHER - 1 {
+                self.exchange()?;
+            }
+        }
+        self.exchange()
     }
 
     fn run(&mut self, gets: bool, stop: &AtomicBool) -> Outcome<u64> {
         let mut count = 0;
         while !stop.load(Ordering::Relaxed) {
-            let place = count as usize % self.held.len();
-            if gets { self.get(place)? } else { self.set(place)? }
+            let place = self.place(count);
+            if gets { self.add_get(place) } else { self.add_set(place) }
+            self.exchange()?;
             count += 1;
         }
         Ok(count)
@@ -104,18 +120,14 @@ impl Client {
 // Sets every key, waits for the others, does the work, and asks for every key at the end.
 fn serve_thread(work: &Work, number: usize, ready: &Barrier, stop: &AtomicBool) -> Outcome<u64> {
     let prepared = Client::connect(work, number).and_then(|mut client| {
-        for place in 0..client.held.len() {
-            client.set(place)?;
-        }
+        client.all(false)?;
         Ok(client)
     });
     // Nobody may wait in vain for one that failed.
     ready.wait();
     let mut client = prepared?;
     let count = client.run(work.gets, stop)?;
-    for place in 0..client.held.len() {
-        client.get(place)?;
-    }
+    client.all(true)?;
     client.stream.write_all(b"quit\r\n")?;
     Ok(count)
 }

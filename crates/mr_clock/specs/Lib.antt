@@ -3,3 +3,4 @@ pub mod Readings
 pub mod Clocks
 pub mod ClockError
 pub mod SystemClock
+pub mod steps

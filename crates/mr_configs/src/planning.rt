@@ -50,6 +50,28 @@ impl RequestPlan {
     {
         self.sheets.as_slice()
     }
+
+    /// An equal plan.
+    pub fn copy(&self) -> Result<RequestPlan, AllocError>
+        ensures { IfOk result (λ plan. plan ≡ self.now) }
+    {
+        Ok(RequestPlan {
+            phase: self.phase,
+            reading: self.reading,
+            sheets: copied_sheets(&self.sheets)?,
+        })
+    }
+}
+
+/// Equal sheets.
+fn copied_sheets(sheets: &Vec<LegSheet>) -> Result<Vec<LegSheet>, AllocError>
+    ensures { IfOk result (λ copied. copied.items ≡ sheets.now.items) }
+{
+    let mut copied = Vec::with_capacity(*sheets.allocator(), sheets.len())?;
+    for sheet in sheets {
+        copied.push(sheet.copy()?)?;
+    }
+    Ok(copied)
 }
 
 /// The sheets of legs, in order.

@@ -109,6 +109,18 @@ impl Advice {
     {
         self.near
     }
+
+    /// Equal advice.
+    pub fn copy(&self) -> Result<Advice, AllocError>
+        ensures { IfOk result (λ advice. advice ≡ self.now) }
+    {
+        Ok(Advice {
+            phases: self.phases.clone()?,
+            spread: self.spread,
+            interval: self.interval,
+            near: self.near,
+        })
+    }
 }
 
 /// The phase of each reading.

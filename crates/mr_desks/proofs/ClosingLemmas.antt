@@ -25,7 +25,7 @@ pub not_all : {X : Type 0} (P : X → Type 0) (xs : List X) (i : ℕ) (x : X) �
 not_all P xs i x in_range is none all = none (subst P (sym is) (all i x in_range))
 
 -- what is left begins with the next one
-rest_is : {X : Type 0} (xs : List X) (i : ℕ) (x : X) → i < length xs → x ≡ slice_index_or xs i x → drop i xs ≡ x ∷ drop (i + 1) xs
+pub rest_is : {X : Type 0} (xs : List X) (i : ℕ) (x : X) → i < length xs → x ≡ slice_index_or xs i x → drop i xs ≡ x ∷ drop (i + 1) xs
 rest_is xs i x in_range is =
     let more : suc i ≡ i + 1 = omega arith in
     drop-cons xs i x in_range ∙ ap (λ y. y ∷ drop (suc i) xs) (sym is) ∙ ap (λ n. x ∷ drop n xs) more

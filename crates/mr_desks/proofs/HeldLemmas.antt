@@ -1,5 +1,5 @@
 -- What a proxy without a book keeps, from step to step.
-use Rattle.std.proofs.Common.{◌≡◌, ◌≢◌, ℕ, ◌+◌, ◌-◌, ◌^◌, ◌==◌, ◌||◌, nat_le, length, Bool, true, false, if◌then◌else◌, Option, Some, None, refl, sym, ap, ◌∙◌}
+use Rattle.std.proofs.Common.{◌≡◌, ℕ, ◌+◌, Option, Some, None, refl, sym, ap, ◌∙◌}
 use Rattle.std.proofs.lemmas.List.Elements.{All-push}
 use Rattle.mr_text.specs.declared.request.Request.{Request}
 use Rattle.mr_history.specs.declared.op_id.OpId.{OpId}
@@ -11,10 +11,7 @@ use Rattle.mr_proxy.specs.Pending.{PendingView, is_complete}
 use Rattle.mr_proxy.specs.ProxyView.{ProxyView}
 use Rattle.mr_proxy.specs.Transitions.{place_of_op, pending_with, open_sheet, noted_by, settled, after_take, after_give_up}
 use Rattle.mr_desks.specs.Recorded.{Gave, PendingStands}
-use Rattle.mr_desks.specs.Issuing.{IsDeskRefusal}
-use Rattle.mr_desks.specs.Shared.{IsSharedCore, why_turned_down}
-use Rattle.mr_desks.specs.declared.desk_error.DeskError.{DeskError}
-use Rattle.mr_desks.specs.declared.desk_error.DeskError.TheVariants.{ClockFault, NumbersSpent, NoRoom}
+use Rattle.mr_desks.specs.Shared.{IsSharedCore}
 use Rattle.mr_desks.proofs.KeptLemmas.{open_stands, noted_stands, settled_as, settled_next, left_stands, left_next}
 
 pub held_issue : (gave : Gave) (core new : ProxyView) (issues t : ℕ) (request : Request) → IsSharedCore gave core issues → new ≡ after_issue core t request
@@ -48,13 +45,3 @@ held_give_up gave core issues op h =
     let n = place_of_op core.outstanding op in
     let o = pending_with core.outstanding op in
     record { stands = left_stands gave core n o h.stands; counted = h.counted ∙ sym (left_next core n o) }
-
-no_fault_in : (spent full : Bool) (e : DeskError) → IsDeskRefusal (if spent then Some NumbersSpent else if full then Some NoRoom else None) e → e ≢ ClockFault
-no_fault_in true full e is = λ fault. cc
-no_fault_in false true e is = λ fault. cc
-no_fault_in false false e is = λ fault. cc
-
--- a refusal at a reading isn't the clock's
-pub refusal_is_no_fault : (core : ProxyView) (share : ℕ) (e : DeskError) → IsDeskRefusal (why_turned_down core share) e → e ≢ ClockFault
-refusal_is_no_fault core share e is =
-    no_fault_in (nat_le (2 ^ 64 - 1) share || (core.next == 2 ^ 64 - 1)) (nat_le core.room (length core.outstanding)) e is

@@ -1,12 +1,13 @@
 -- When the book of a proxy stands with what its sessions did.
-use Rattle.std.specs.Prelude.{◌≡◌, ℕ, ◌&&◌, ◌||◌, List, [], ◌∷◌, Bool, true, false, not, sum, All, Contains, ⊤}
+use Rattle.std.specs.Prelude.{◌≡◌, ℕ, ◌&&◌, ◌||◌, List, [], ◌∷◌, Bool, true, false, not, sum, All, Contains, Result, Ok, Err, ⊤}
 use Rattle.mr_history.specs.declared.op_id.OpId.{OpId}
 use Rattle.mr_proxy.specs.Answer.{AnswerView}
 use Rattle.mr_history.specs.OpIds.{is_same_op}
 use Rattle.mr_proxy.specs.ProxyView.{ProxyView, opening_of, AreAlike}
 use Rattle.mr_desks.specs.Replay.{answers_of}
-use Rattle.mr_desks.specs.declared.closed.Closed.{Closed}
-use Rattle.mr_desks.specs.declared.closed.Closed.TheVariants.{Whole, Differs}
+use Rattle.mr_desks.specs.declared.book.Book.{Book}
+use Rattle.mr_desks.specs.declared.close_error.CloseError.{CloseError}
+use Rattle.mr_desks.specs.declared.close_error.CloseError.TheVariants.{BookDiffers, OutOfMemory}
 use Rattle.mr_desks.specs.declared.step.Step.{Step}
 
 -- one of the answers is that to the request of this op
@@ -46,7 +47,13 @@ pub record StandsWith (opening core : ProxyView) (steps : List Step) (shares : L
   pub counted : CountsIssues opening core shares sessions
   pub among : AreAmong (answers_of (opening_of core) steps) sessions
 
--- what the book came to: it stands with what the sessions did, or it doesn't
-abbrev pub ClosesSo : ProxyView → List ℕ → List (List AnswerView) → Closed → Type 0
-ClosesSo opening shares sessions (Whole book) = StandsWith opening book.core book.steps.items shares sessions
-ClosesSo opening shares sessions (Differs book) = ¬ StandsWith opening book.core book.steps.items shares sessions
+-- What comes of closing a book: it stands with what the sessions did, or it doesn't. Where memory is refused the proxy is the one
+-- that it was, and nothing speaks against the book that shows without memory: the answers are to different requests.
+abbrev pub ClosesSo : {C : Type 0} → ProxyView → List ℕ → List (List AnswerView) → Result Book (CloseError C) → Type 0
+ClosesSo opening shares sessions (Ok book) = StandsWith opening book.core book.steps.items shares sessions
+ClosesSo opening shares sessions (Err (BookDiffers book)) = ¬ StandsWith opening book.core book.steps.items shares sessions
+ClosesSo opening shares sessions (Err (OutOfMemory proxy)) = (proxy ≡ opening) × (have_different_ops sessions ≡ true)
+
+abbrev pub number_of_close_error : {C : Type 0} → CloseError C → ℕ
+number_of_close_error (BookDiffers book) = 4
+number_of_close_error (OutOfMemory proxy) = 8

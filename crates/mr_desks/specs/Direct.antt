@@ -1,18 +1,20 @@
 -- Carriers that carry as a leg is sent.
-use Rattle.std.specs.Prelude.{◌≡◌, ◌⊎◌, ℕ, ◌+◌, List, [], ◌∷◌, ◌++◌, Option, Some, None, slice_get, slice_set}
+use Rattle.std.specs.Prelude.{◌≡◌, ◌⊎◌, ℕ, ◌+◌, ◌≤◌, length, List, [], ◌∷◌, ◌++◌, Option, Some, None, slice_get, slice_set}
 use Rattle.mr_text.specs.declared.cause.Cause.TheVariants.{LegLost}
 use Rattle.mr_join.specs.declared.leg_reply.LegReply.{LegReply}
 use Rattle.mr_join.specs.declared.leg_reply.LegReply.TheVariants.{Failed}
 use Rattle.mr_proxy.specs.Sheets.{pool_at}
 use Rattle.mr_proxy.specs.declared.sheet.LegBack.{LegBack}
 use Rattle.mr_proxy.specs.declared.sheet.LegSheet.{LegSheet}
+use Rattle.mr_desks.specs.Carriers.{CarriersView}
 
--- the carriers, a list for each pool; the legs that were carried and not received yet, in order; and both counts
+-- the carriers, a list for each pool; the legs that were carried and not received yet, in order; how many of them there is
+-- room for without memory; and what is told of what went through
 pub record DirectView (C : Type 0) : Type 0 where
   pub pools : List (List C)
   pub came : List LegBack
-  pub losses : ℕ
-  pub brought : ℕ
+  pub room : ℕ
+  pub told : CarriersView
 
 -- what one call of a carrier does: the carrier before it, the sheet, the reply or none at a fault, and the carrier after it
 abbrev pub CarryRelation : Type 0 → Type 1
@@ -36,6 +38,20 @@ PoolCarries {C} carries faults old back new =
     × NodeCarries carries faults back.sheet.node nodes back nodes' × (new ≡ slice_set old (pool_at back.sheet) nodes')
 
 -- the leg was carried by the carrier that its sheet names, and came back, behind the others
-abbrev pub IsSentDirectly : {C : Type 0} → CarryRelation C → (C → ℕ) → List (List C) → List LegBack → LegSheet → List (List C) → List LegBack → Type 0
-IsSentDirectly carries faults pools came leg pools' came' =
-    (back : LegBack) × (back.sheet ≡ leg) × PoolCarries carries faults pools back pools' × (came' ≡ came ++ back ∷ [])
+pub record IsSentDirectly {C : Type 0} (carries : CarryRelation C) (faults : C → ℕ) (old : DirectView C) (leg : LegSheet) (new : DirectView C) : Type 0 where
+  pub back : LegBack
+  pub of_leg : back.sheet ≡ leg
+  pub carried : PoolCarries carries faults old.pools back new.pools
+  pub came : new.came ≡ old.came ++ back ∷ []
+  pub room : old.room ≤ new.room
+
+-- there is no carrier for the node that the sheet names
+abbrev pub LacksCarrier : {C : Type 0} → List (List C) → LegSheet → Type 0
+LacksCarrier {C} pools leg = (nodes : List C) → slice_get pools (pool_at leg) ≡ Some nodes → slice_get nodes leg.node ≡ None
+
+-- the leg has no carrier, or what comes back has no room without memory; no carrier was called
+pub record IsHandedBack {C : Type 0} (old : DirectView C) (leg : LegSheet) (new : DirectView C) : Type 0 where
+  pub why : LacksCarrier old.pools leg ⊎ (old.room ≤ length old.came)
+  pub pools : new.pools ≡ old.pools
+  pub came : new.came ≡ old.came
+  pub room : old.room ≤ new.room

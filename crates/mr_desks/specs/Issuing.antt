@@ -10,16 +10,43 @@ use Rattle.mr_desks.specs.declared.desk_error.DeskError.{DeskError}
 use Rattle.mr_desks.specs.declared.desk_error.DeskError.TheVariants.{ClockFault, NumbersSpent, NoRoom, BookFull, OutOfMemory}
 use Rattle.mr_desks.specs.declared.step.Step.TheVariants.{Issue}
 
+-- what one call of a clock does: the clock before it, the reading or none at a fault, and the clock after it
+abbrev pub ClockRelation : Type 0 → Type 1
+ClockRelation K = K → Option ℕ → K → Type 0
+
+-- a clock before and after a call: what one call of a clock of its type does, and how often a clock failed
+pub record ClockCall (K : Type 0) : Type 1 where
+  pub reads : ClockRelation K
+  pub failures : K → ℕ
+  pub before : K
+  pub after : K
+
+abbrev pub clock_call : {K : Type 0} → ClockRelation K → (K → ℕ) → K → K → ClockCall K
+clock_call reads failures before after = record { reads = reads; failures = failures; before = before; after = after }
+
+-- the clock was read once, and gave this reading; or it gave none, which is one failure more
+abbrev pub ClockGives : {K : Type 0} → ClockCall K → Option ℕ → Type 0
+ClockGives call (Some t) = call.reads call.before (Some t) call.after × (call.failures call.after ≡ call.failures call.before)
+ClockGives call None = call.reads call.before None call.after × (call.failures call.after ≡ call.failures call.before + 1)
+
+-- a proxy, and how many requests a session issued through it
+pub record WithShare (P : Type 0) : Type 0 where
+  pub proxy : P
+  pub share : ℕ
+
+abbrev pub with_share : {P : Type 0} → P → ℕ → WithShare P
+with_share proxy share = record { proxy = proxy; share = share }
+
 -- the most steps that the book may need once a request of so many legs is issued: one for each leg that may answer yet
 abbrev pub steps_needed : Recorded → ℕ → ℕ
 steps_needed r legs = length r.steps + open_legs_of r.core + 1 + legs
 
 -- why a request isn't issued at this reading, memory aside: the first of these that holds
-abbrev pub why_refused : Recorded → ℕ → ℕ → Request → Option DeskError
-why_refused r share t request =
-    if nat_le (2 ^ 64 - 1) share || (r.core.next == 2 ^ 64 - 1) then Some NumbersSpent
-    else if nat_le r.core.room (length r.core.outstanding) then Some NoRoom
-    else if nat_le (steps_needed r (length (sheets_of r.core t request))) r.limit then None
+abbrev pub why_refused : WithShare Recorded → ℕ → Request → Option DeskError
+why_refused old t request =
+    if nat_le (2 ^ 64 - 1) old.share || (old.proxy.core.next == 2 ^ 64 - 1) then Some NumbersSpent
+    else if nat_le old.proxy.core.room (length old.proxy.core.outstanding) then Some NoRoom
+    else if nat_le (steps_needed old.proxy (length (sheets_of old.proxy.core t request))) old.proxy.limit then None
     else Some BookFull
 
 -- the refusal, or want of memory where there is none
@@ -32,26 +59,20 @@ abbrev pub after_issued : Recorded → ℕ → Request → Recorded
 after_issued r t request =
     record { core = after_issue r.core t request; steps = r.steps ++ Issue t request ∷ []; limit = r.limit }
 
--- The request was issued at this reading of the clock: the proxy and the share before it, the request, its name and its
--- legs, and the proxy and the share after it.
-pub record IssuesAt (old : Recorded) (share t : ℕ) (request : Request) (op : OpId) (legs : List LegSheet) (new : Recorded) (raised : ℕ) : Type 0 where
-  pub accepted : why_refused old share t request ≡ None
-  pub state : new ≡ after_issued old t request
-  pub counted : raised ≡ share + 1
-  pub named : op ≡ next_op old.core
-  pub sent : legs ≡ sheets_of old.core t request
-
--- what one call of a clock does: the clock before it, the reading or none at a fault, and the clock after it
-abbrev pub ClockRelation : Type 0 → Type 1
-ClockRelation K = K → Option ℕ → K → Type 0
+-- The request was issued at this reading, as the core issues it: at the larger of the reading and the last one. The book says
+-- so, and the share counts it.
+pub record IssuesAt (old : WithShare Recorded) (t : ℕ) (request : Request) (op : OpId) (legs : List LegSheet) (new : WithShare Recorded) : Type 0 where
+  pub accepted : why_refused old t request ≡ None
+  pub state : new.proxy ≡ after_issued old.proxy t request
+  pub counted : new.share ≡ old.share + 1
+  pub named : op ≡ next_op old.proxy.core
+  pub sent : legs ≡ sheets_of old.proxy.core t request
 
 -- the clock was read once, and the request was issued at that reading
-abbrev pub RecordedIssues : {K : Type 0} → ClockRelation K → (K → ℕ) → K → K → Recorded → ℕ → Request → OpId → List LegSheet → Recorded → ℕ → Type 0
-RecordedIssues reads failures clock clock' old share request op legs new raised =
-    (t : ℕ) × reads clock (Some t) clock' × (failures clock' ≡ failures clock) × IssuesAt old share t request op legs new raised
+abbrev pub RecordedIssues : {K : Type 0} → ClockCall K → WithShare Recorded → Request → OpId → List LegSheet → WithShare Recorded → Type 0
+RecordedIssues call old request op legs new = (t : ℕ) × ClockGives call (Some t) × IssuesAt old t request op legs new
 
 -- the clock was read once, and the request was refused at that reading, or there was none
-abbrev pub RecordedRefuses : {K : Type 0} → ClockRelation K → (K → ℕ) → K → K → Recorded → ℕ → Request → DeskError → Type 0
-RecordedRefuses reads failures clock clock' old share request e =
-    ((t : ℕ) × reads clock (Some t) clock' × (failures clock' ≡ failures clock) × IsDeskRefusal (why_refused old share t request) e) ⊎
-    (reads clock None clock' × (failures clock' ≡ failures clock + 1) × (e ≡ ClockFault))
+abbrev pub RecordedRefuses : {K : Type 0} → ClockCall K → WithShare Recorded → Request → DeskError → Type 0
+RecordedRefuses call old request e =
+    ((t : ℕ) × ClockGives call (Some t) × IsDeskRefusal (why_refused old t request) e) ⊎ (ClockGives call None × (e ≡ ClockFault))

@@ -1,3 +1,4 @@
+pub mod Carriers
 pub mod Closing
 pub mod Desk
 pub mod DeskError
@@ -6,6 +7,7 @@ pub mod Issuing
 pub mod Local
 pub mod Recorded
 pub mod Replay
+pub mod SentLegs
 pub mod Shared
 pub mod Taking
 pub mod WorkerError

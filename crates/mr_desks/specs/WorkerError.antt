@@ -1,12 +1,11 @@
 -- The numbers of the refusals.
 use Rattle.std.specs.Prelude.{ℕ}
 use Rattle.mr_desks.specs.declared.error.WorkerError.{WorkerError}
-use Rattle.mr_desks.specs.declared.error.WorkerError.TheVariants.{LinkBroken, Mismatch, BookFull, BookDiffers, ReadFault, WriteFault, TurnsSpent, OutOfMemory, NoThread}
+use Rattle.mr_desks.specs.declared.error.WorkerError.TheVariants.{LinkBroken, Mismatch, BookDiffers, ReadFault, WriteFault, TurnsSpent, OutOfMemory, NoThread}
 
 abbrev pub number_of_refusal : WorkerError → ℕ
 number_of_refusal LinkBroken = 1
 number_of_refusal Mismatch = 2
-number_of_refusal BookFull = 3
 number_of_refusal BookDiffers = 4
 number_of_refusal ReadFault = 5
 number_of_refusal WriteFault = 6

@@ -1,5 +1,5 @@
 //! A leg that was carried, with its reply.
-ghost use Rattle.std.specs.Prelude.{◌≡◌, ◌+◌, ◌⊎◌, Some, None};
+ghost use Rattle.std.specs.Prelude.{◌≡◌, ◌+◌, ◌⊎◌, Some, None, IfOk};
 ghost use Rattle.mr_text.specs.declared.cause.Cause.TheVariants.{LegLost};
 ghost use Rattle.mr_join.specs.declared.leg_reply.LegReply.TheVariants.{Failed};
 
@@ -7,6 +7,7 @@ use crate::carrier::Carrier;
 use mr_join::LegReply;
 use mr_proxy::{Leg, LegBack};
 use mr_text::Cause;
+use std::alloc::AllocError;
 use std::marker::PhantomData;
 use std::mem;
 
@@ -49,6 +50,16 @@ impl<C: Carrier> Carried<C> {
         ensures gave { ∥ C.gave result.now.sheet result.now.reply ∥₁ }
     {
         &self.back
+    }
+
+    /// An equal value. It is the same leg: taken twice, the second is a stranger.
+    pub fn copy(&self) -> Result<Carried<C>, AllocError>
+        ensures { IfOk result (λ carried. carried.back ≡ self.now.back) }
+    {
+        Ok(Carried {
+            back: self.back.copy()?,
+            of: PhantomData,
+        })
     }
 
     /// Takes the reply out, and leaves the leg as a lost one.

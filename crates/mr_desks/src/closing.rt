@@ -1,10 +1,11 @@
 //! Whether the book of a proxy stands with what its sessions did.
-ghost use Rattle.std.specs.Prelude.{◌≡◌, ◌↔◌, IsTrue, All, Contains, IfOk, IfErr, sum, map};
+ghost use Rattle.std.specs.Prelude.{◌≡◌, ◌↔◌, IsTrue, All, Contains, IfOk, OnErr, sum, map};
 ghost use Rattle.mr_history.specs.OpIds.{is_same_op};
 ghost use Rattle.mr_desks.specs.Closing.{has_op, some_has_op, are_apart, have_different_ops, AreAmong, CountsIssues, StandsWith, ClosesSo};
 
+use crate::book::Book;
 use crate::carrier::Carrier;
-use crate::closed::Closed;
+use crate::close_error::CloseError;
 use crate::recorded_proxy::RecordedProxy;
 use crate::recorded_state::RecordedState;
 use crate::share::Share;
@@ -140,7 +141,8 @@ fn stands_with<C: Carrier>(
     shares: &[Share],
     sessions: &[Vec<Answer>],
 ) -> Result<bool, AllocError>
-    ensures { IfOk result (λ stands. IsTrue stands ↔ StandsWith opening.now state.now.core state.now.steps shares.now (map (λ session. session.items) sessions.now)) }
+    ensures stands { IfOk result (λ stands. IsTrue stands ↔ StandsWith opening.now state.now.core state.now.steps shares.now (map (λ session. session.items) sessions.now)) }
+    ensures counted { OnErr result (CountsIssues opening.now state.now.core shares.now (map (λ session. session.items) sessions.now)) }
 {
     if !is_counted(state, opening, shares, sessions) {
         return Ok(false);
@@ -150,24 +152,23 @@ fn stands_with<C: Carrier>(
 }
 
 /// Opens the lock of a proxy, and holds its book against what its sessions did: the shares that they were lent, and the
-/// answers that they took, one list for each session. The book is handed out whether it stands with that or not. Where
-/// memory is refused the proxy comes back as it was.
+/// answers that they took, one list for each session. A book that stands with that is given; one that differs is handed out
+/// too, as the error. Where memory is refused the proxy comes back as it was.
 pub fn close<C: Carrier>(
     alloc: Global,
     recorded: RecordedProxy<C>,
     shares: &[Share],
     sessions: &[Vec<Answer>],
-) -> Result<Closed, RecordedProxy<C>>
-    ensures closed { IfOk result (ClosesSo recorded shares.now (map (λ session. session.items) sessions.now)) }
-    ensures back { IfErr result (λ back. back ≡ recorded) }
+) -> Result<Book, CloseError<C>>
+    ensures closed { ClosesSo recorded shares.now (map (λ session. session.items) sessions.now) result }
 {
     let (state, opening) = recorded.into_parts();
-    let Ok(whole) = stands_with(alloc, &state, &opening, shares, sessions) else {
-        return Err(RecordedProxy::of(state, opening));
+    let Ok(stands) = stands_with(alloc, &state, &opening, shares, sessions) else {
+        return Err(CloseError::OutOfMemory(RecordedProxy::of(state, opening)));
     };
-    Ok(if whole {
-        Closed::Whole(state.into_book())
+    if stands {
+        Ok(state.into_book())
     } else {
-        Closed::Differs(state.into_book())
-    })
+        Err(CloseError::BookDiffers(state.into_book()))
+    }
 }

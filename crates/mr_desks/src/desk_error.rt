@@ -1,10 +1,11 @@
-//! Why a desk refuses a request.
+//! Why a desk refuses what it is asked.
 use mr_clock::ClockFault;
+use mr_proxy::ProxyError;
 use mr_text::Cause;
 use std::alloc::AllocError;
 use thiserror::Error;
 
-/// Why a desk didn't issue a request.
+/// Why a desk refuses what it is asked. What its clock and its proxy refuse keeps their numbers.
 #[derive(Clone, Copy, Debug, PartialEq, Eq, Error)]
 pub enum DeskError {
     /// The clock gave no reading.
@@ -22,6 +23,9 @@ pub enum DeskError {
     /// Memory was refused.
     #[error("out of memory")]
     OutOfMemory,
+    /// No request of this name is under way.
+    #[error("no such request is under way")]
+    NoSuchOp,
 }
 
 impl From<AllocError> for DeskError {
@@ -46,13 +50,45 @@ impl From<ClockFault> for DeskError {
     }
 }
 
-impl DeskError {
+impl From<ProxyError> for DeskError {
     ghost use Rattle.std.specs.Prelude.{◌≡◌};
-    ghost use Rattle.mr_desks.specs.DeskError.{cause_of_refusal};
+    ghost use Rattle.mr_desks.specs.DeskError.{desk_refusal_of};
 
-    /// What a client is told whose request was refused.
+    ghost from_gives = { λ refusal e. e ≡ desk_refusal_of refusal };
+
+    fn from(refusal: ProxyError) -> DeskError {
+        match refusal {
+            ProxyError::NumbersSpent => DeskError::NumbersSpent,
+            ProxyError::NoRoom => DeskError::NoRoom,
+            ProxyError::OutOfMemory => DeskError::OutOfMemory,
+            ProxyError::NoSuchOp => DeskError::NoSuchOp,
+        }
+    }
+}
+
+impl DeskError {
+    ghost use Rattle.std.specs.Prelude.{◌≡◌, ◌≢◌, Some};
+    ghost use Rattle.mr_desks.specs.DeskError.{number_of_desk_refusal, cause_of_refusal};
+    ghost use Rattle.mr_desks.specs.declared.desk_error.DeskError.{DeskError};
+
+    /// The refusal's number: a clock's and a proxy's keep their own, BookFull is 3 and OutOfMemory 8.
+    pub fn number(self) -> u8
+        ensures { result ≡ number_of_desk_refusal self }
+    {
+        match self {
+            DeskError::ClockFault => 1,
+            DeskError::NumbersSpent => 3,
+            DeskError::NoRoom => 1,
+            DeskError::BookFull => 3,
+            DeskError::OutOfMemory => 8,
+            DeskError::NoSuchOp => 4,
+        }
+    }
+
+    /// What a client is told whose request was refused. NoSuchOp refuses none.
     pub fn cause(self) -> Cause
-        ensures { result ≡ cause_of_refusal self }
+        requires { self ≢ DeskError.NoSuchOp }
+        ensures { cause_of_refusal self ≡ Some result }
     {
         match self {
             DeskError::ClockFault => Cause::ClockFault,
@@ -60,6 +96,7 @@ impl DeskError {
             DeskError::NoRoom => Cause::Busy,
             DeskError::BookFull => Cause::BookFull,
             DeskError::OutOfMemory => Cause::OutOfMemory,
+            DeskError::NoSuchOp => unreachable!(),
         }
     }
 }

@@ -1,10 +1,12 @@
 //! Carriers that a session uses in its own thread.
-ghost use Rattle.std.specs.Prelude.{◌≡◌, ◌+◌, [], ◌∷◌, MatchOption, IfSome, IfOk, IfErr, OnErr, map};
-ghost use Rattle.mr_desks.specs.Direct.{NodeCarries, PoolCarries, IsSentDirectly};
+ghost use Rattle.std.specs.Prelude.{◌≡◌, [], ◌∷◌, MatchOption, IfOk, IfErr, OnErr, map, option_map, slice_get, None};
+ghost use Rattle.mr_desks.specs.Carriers.{unused, SendIs, ReceiveIs};
+ghost use Rattle.mr_desks.specs.Direct.{NodeCarries, PoolCarries, LacksCarrier, IsSentDirectly, IsHandedBack};
 
 use crate::carried::Carried;
 use crate::carrier::Carrier;
 use crate::carriers::Carriers;
+use crate::ghost_legs::GhostLegs;
 use mr_proxy::Leg;
 use mr_text::GhostCount;
 use std::alloc::Global;
@@ -16,6 +18,7 @@ use std::marker::Model;
 pub struct DirectCarriers<C: Carrier> {
     pools: Vec<Vec<C>>,
     came: VecDeque<Carried<C>>,
+    sent: GhostLegs,
     losses: GhostCount,
     brought: GhostCount,
 }
@@ -25,6 +28,7 @@ impl<C: Carrier + Drop> Drop for DirectCarriers<C> {
         let Self {
             pools: _,
             came: _,
+            sent: _,
             losses: _,
             brought: _,
         } = self;
@@ -34,16 +38,22 @@ impl<C: Carrier + Drop> Drop for DirectCarriers<C> {
 impl<C: Carrier> Model for DirectCarriers<C> {
     ghost use Rattle.mr_desks.specs.Direct.{DirectView};
     ghost use Rattle.std.specs.Prelude.{map};
+    ghost use Rattle.std.specs.VecDeque.{deque_capacity};
 
     ghost Value = { DirectView C };
 
-    ghost view = { λ c. record { pools = map (λ nodes. nodes.items) c.pools.items; came = map (λ carried. carried.back) c.came.items; losses = c.losses; brought = c.brought } };
+    ghost view = { λ c. record {
+      pools = map (λ nodes. nodes.items) c.pools.items;
+      came = map (λ carried. carried.back) c.came.items;
+      room = deque_capacity c.came;
+      told = record { sent = c.sent; losses = c.losses; brought = c.brought };
+    } };
 }
 
 /// Carries a leg by the carrier of a node. A leg whose carrier is missing is handed back.
 fn carry_to<C: Carrier>(nodes: &mut Vec<C>, node: usize, leg: Leg) -> Result<Carried<C>, Leg>
     ensures carried { IfOk result (λ carried. (carried.back.sheet ≡ leg) × NodeCarries C.carries C.faults node nodes.old.items carried.back nodes.new.items) }
-    ensures back { IfErr result (λ back. back ≡ leg) }
+    ensures back { IfErr result (λ back. (back ≡ leg) × (slice_get nodes.old.items node ≡ None)) }
     ensures unchanged { OnErr result (nodes.new.items ≡ nodes.old.items) }
 {
     match nodes.get_mut(node) {
@@ -56,7 +66,7 @@ fn carry_to<C: Carrier>(nodes: &mut Vec<C>, node: usize, leg: Leg) -> Result<Car
 fn carry<C: Carrier>(pools: &mut Vec<Vec<C>>, leg: Leg) -> Result<Carried<C>, Leg>
     ensures carried { IfOk result (λ carried. (carried.back.sheet ≡ leg)
         × PoolCarries C.carries C.faults (map (λ nodes. nodes.items) pools.old.items) carried.back (map (λ nodes. nodes.items) pools.new.items)) }
-    ensures back { IfErr result (λ back. back ≡ leg) }
+    ensures back { IfErr result (λ back. (back ≡ leg) × LacksCarrier (map (λ nodes. nodes.items) pools.old.items) leg) }
     ensures unchanged { OnErr result (map (λ nodes. nodes.items) pools.new.items ≡ map (λ nodes. nodes.items) pools.old.items) }
 {
     let pool = leg.sheet().pool_number();
@@ -68,13 +78,16 @@ fn carry<C: Carrier>(pools: &mut Vec<Vec<C>>, leg: Leg) -> Result<Carried<C>, Le
 }
 
 impl<C: Carrier> DirectCarriers<C> {
-    /// These carriers, which lost and brought nothing yet. It takes no memory.
+    /// These carriers, through which nothing went yet. It takes no memory.
     pub fn new(alloc: Global, pools: Vec<Vec<C>>) -> DirectCarriers<C>
-        ensures { result ≡ record { pools = map (λ nodes. nodes.items) pools.items; came = []; losses = 0; brought = 0 } }
+        ensures pools { result.pools ≡ map (λ nodes. nodes.items) pools.items }
+        ensures came { result.came ≡ [] }
+        ensures told { result.told ≡ unused }
     {
         DirectCarriers {
             pools,
             came: VecDeque::new(alloc),
+            sent: GhostLegs::new(),
             losses: GhostCount::new(),
             brought: GhostCount::new(),
         }
@@ -82,17 +95,15 @@ impl<C: Carrier> DirectCarriers<C> {
 }
 
 impl<C: Carrier> Carriers<C> for DirectCarriers<C> {
-    ghost losses = { λ c. c.losses };
+    ghost told = { λ c. c.told };
 
-    ghost brought = { λ c. c.brought };
-
+    /// Carries a leg, and keeps what came. A leg is handed back only where its carrier is missing, or where there is no room
+    /// for what comes back and memory for it is refused.
     fn send(&mut self, leg: Leg) -> Option<Leg>
-        ensures leg { IfSome result (λ back. back ≡ leg) }
+        ensures told { SendIs self.old.told leg (option_map (λ back. back) result) self.new.told }
         ensures sent { MatchOption result
-            (IsSentDirectly C.carries C.faults self.old.pools self.old.came leg self.new.pools self.new.came)
-            (λ _. (self.new.pools ≡ self.old.pools) × (self.new.came ≡ self.old.came)) }
-        ensures losses { MatchOption result (self.new.losses ≡ self.old.losses) (λ _. self.new.losses ≡ self.old.losses + 1) }
-        ensures brought { self.new.brought ≡ self.old.brought }
+            (IsSentDirectly C.carries C.faults self.old leg self.new)
+            (λ _. IsHandedBack self.old leg self.new) }
     {
         if self.came.reserve(1).is_err() {
             self.losses.add_one();
@@ -100,6 +111,7 @@ impl<C: Carrier> Carriers<C> for DirectCarriers<C> {
         }
         match carry(&mut self.pools, leg) {
             Ok(carried) => {
+                self.sent.add(&carried.back().sheet);
                 self.came.push_back_reserved(carried);
                 None
             }
@@ -110,13 +122,14 @@ impl<C: Carrier> Carriers<C> for DirectCarriers<C> {
         }
     }
 
+    /// The leg that came first of those that weren't received yet. None where there is none.
     fn receive(&mut self) -> Option<Carried<C>>
+        ensures told { ReceiveIs self.old.told (option_map (λ carried. carried.back) result) self.new.told }
         ensures came { MatchOption result
             ((self.old.came ≡ []) × (self.new.came ≡ []))
             (λ carried. self.old.came ≡ carried.back ∷ self.new.came) }
         ensures pools { self.new.pools ≡ self.old.pools }
-        ensures losses { MatchOption result (self.new.losses ≡ self.old.losses + 1) (λ _. self.new.losses ≡ self.old.losses) }
-        ensures brought { MatchOption result (self.new.brought ≡ self.old.brought) (λ _. self.new.brought ≡ self.old.brought + 1) }
+        ensures room { self.new.room ≡ self.old.room }
     {
         match self.came.pop_front() {
             Some(carried) => {

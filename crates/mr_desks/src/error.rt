@@ -1,7 +1,7 @@
 //! Why work of threads fails.
 use thiserror::Error;
 
-/// Why a leg wasn't carried, a request wasn't issued, a session ended early, or a book can't be closed.
+/// Why a leg wasn't carried, or a session ended early.
 #[derive(Clone, Copy, Debug, PartialEq, Eq, Error)]
 pub enum WorkerError {
     /// The link to a node broke, now or before.
@@ -10,10 +10,7 @@ pub enum WorkerError {
     /// What came back is no answer to what was sent.
     #[error("the node answered what wasn't asked")]
     Mismatch,
-    /// The book has no room for the steps of another request.
-    #[error("the book is full")]
-    BookFull,
-    /// A book doesn't stand with what was done.
+    /// A request has no answer, or that of another.
     #[error("the book differs from what was done")]
     BookDiffers,
     /// A read failed.
@@ -37,14 +34,13 @@ impl WorkerError {
     ghost use Rattle.std.specs.Prelude.{◌≡◌};
     ghost use Rattle.mr_desks.specs.WorkerError.{number_of_refusal};
 
-    /// The refusal's number: 1 to 9.
+    /// The refusal's number: 1 to 9, without 3, which is a desk's.
     pub fn number(self) -> u8
         ensures { result ≡ number_of_refusal self }
     {
         match self {
             WorkerError::LinkBroken => 1,
             WorkerError::Mismatch => 2,
-            WorkerError::BookFull => 3,
             WorkerError::BookDiffers => 4,
             WorkerError::ReadFault => 5,
             WorkerError::WriteFault => 6,

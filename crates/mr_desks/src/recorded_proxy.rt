@@ -11,7 +11,7 @@ use mr_clock::Clock;
 use mr_history::OpId;
 use mr_proxy::{Answer, Issued, ProxyCore, Taken};
 use mr_text::Request;
-use std::alloc::{AllocError, Global};
+use std::alloc::Global;
 use std::marker::Model;
 use std::sync::{Mutex, Wait};
 
@@ -108,11 +108,11 @@ impl<C: Carrier> Desk<C> for RecordedProxy<C> {
         self.state.lock(rt).issue(share, clock, request)
     }
 
-    fn take<R: Wait>(&self, rt: &R, carried: &mut Carried<C>) -> Result<Taken, AllocError> {
+    fn take<R: Wait>(&self, rt: &R, carried: &mut Carried<C>) -> Result<Taken, DeskError> {
         self.state.lock(rt).take(carried)
     }
 
-    fn give_up<R: Wait>(&self, rt: &R, op: OpId) -> Option<Answer> {
+    fn give_up<R: Wait>(&self, rt: &R, op: OpId) -> Result<Answer, DeskError> {
         self.state.lock(rt).give_up(op)
     }
 }

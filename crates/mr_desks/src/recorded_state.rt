@@ -1,12 +1,13 @@
 //! A proxy with the book of its steps.
-ghost use Rattle.std.specs.Prelude.{◌≡◌, ◌≢◌, ◌+◌, ◌-◌, ◌≤◌, ◌<◌, ◌^◌, length, Some, None, true, false, nat_le, option_map, MatchOption, IfSome, OnOk, OnErr, IfOk, IfErr, vec_len, vec_capacity};
+ghost use Rattle.std.specs.Prelude.{◌≡◌, ◌≢◌, ◌+◌, ◌-◌, ◌≤◌, ◌<◌, ◌^◌, length, Some, None, true, false, nat_le, OnOk, OnErr, IfOk, IfErr, vec_len, vec_capacity};
 ghost use Rattle.mr_text.specs.declared.request.Request.{Request};
 ghost use Rattle.mr_proxy.specs.Issue.{next_op, sheets_of};
 ghost use Rattle.mr_proxy.specs.Transitions.{open_sheet, taken_of, given_up_of};
-ghost use Rattle.mr_proxy.specs.Sound.{IsSound};
 ghost use Rattle.mr_desks.specs.Recorded.{AnswerStands};
 ghost use Rattle.mr_desks.specs.Taking.{BecomesOf, after_taken, after_given_up, TakenStands, TakenInTime};
-ghost use Rattle.mr_desks.specs.Issuing.{steps_needed, why_refused, IsDeskRefusal, after_issued, RecordedIssues, RecordedRefuses};
+ghost use Rattle.mr_desks.specs.Desk.{IsUnderLock};
+ghost use Rattle.mr_desks.specs.Issuing.{clock_call, with_share, steps_needed, why_refused, IsDeskRefusal, IssuesAt, RecordedIssues, RecordedRefuses};
+ghost use Rattle.mr_desks.specs.declared.desk_error.DeskError.{DeskError};
 
 use crate::awaiting::awaits;
 use crate::book::Book;
@@ -54,13 +55,6 @@ impl<C: Carrier> Model for RecordedState<C> {
     ghost view = { λ s. record { core = s.core; steps = s.book.items; limit = s.limit } };
 
     ghost invariant = { λ s. IsRecordedCore C.gave s.core s.book.items s.issues s.limit (vec_capacity s.book) };
-}
-
-/// Does nothing but tell the prover what the type of a proxy keeps.
-fn is_sound(core: &ProxyCore)
-    ensures { IsSound core.now }
-{
-    let _under_way = core.outstanding();
 }
 
 /// Drops the copy of a leg that isn't noted after all.
@@ -129,14 +123,21 @@ impl<C: Carrier> RecordedState<C> {
         self.book.len() as u128 + open + 1 + u128::from(legs) <= u128::from(self.limit)
     }
 
+    /// Does nothing but tell the prover what the type keeps of its proxy.
+    fn keeps(&self)
+        ensures { IsUnderLock C.gave self.now.core }
+    {
+        let _under_way = self.core.outstanding();
+    }
+
     /// How many legs a request would have that is issued at this reading of the clock, or why it is refused.
     fn legs_of(&self, share: &Share, reading: u64, request: &Request) -> Result<u64, DeskError>
         requires { request.now ≢ Request.Quit }
-        ensures accepted { OnOk result (why_refused self.now share.now reading request.now ≡ None) }
+        ensures accepted { OnOk result (why_refused (with_share self.now share.now) reading request.now ≡ None) }
         ensures legs { IfOk result (λ legs. legs ≡ length (sheets_of self.now.core reading request.now)) }
         ensures fits { IfOk result (λ legs. steps_needed self.now legs ≤ self.now.limit) }
         ensures unspent { OnOk result (share.now < 2 ^ 64 - 1) }
-        ensures refused { IfErr result (λ e. why_refused self.now share.now reading request.now ≡ Some e) }
+        ensures refused { IfErr result (λ e. why_refused (with_share self.now share.now) reading request.now ≡ Some e) }
     {
         if share.is_spent() {
             return Err(DeskError::NumbersSpent);
@@ -164,19 +165,13 @@ impl<C: Carrier> RecordedState<C> {
         request: &Request,
     ) -> Result<Issued, DeskError>
         requires { request.now ≢ Request.Quit }
-        ensures accepted { OnOk result (why_refused self.old share.old reading request.now ≡ None) }
-        ensures state { OnOk result (self.new ≡ after_issued self.old reading request.now) }
-        ensures share { OnOk result (share.new ≡ share.old + 1) }
-        ensures op { IfOk result (λ issued. issued.op ≡ next_op self.old.core) }
-        ensures legs { IfOk result (λ issued. issued.legs.items ≡ sheets_of self.old.core reading request.now) }
+        ensures issued { IfOk result (λ issued.
+            IssuesAt (with_share self.old share.old) reading request.now issued.op issued.legs.items (with_share self.new share.new)) }
         ensures has_leg { IfOk result (λ issued. 1 ≤ length issued.legs.items) }
-        ensures refused { IfErr result (IsDeskRefusal (why_refused self.old share.old reading request.now)) }
+        ensures refused { IfErr result (IsDeskRefusal (why_refused (with_share self.old share.old) reading request.now)) }
         ensures unchanged { OnErr result ((self.new ≡ self.old) × (share.new ≡ share.old)) }
     {
-        let legs = match self.legs_of(share, reading, request) {
-            Ok(legs) => legs,
-            Err(refusal) => return Err(refusal),
-        };
+        let legs = self.legs_of(share, reading, request)?;
         let open = self.core.open_legs() as usize;
         self.book.reserve(open + 1 + legs as usize)?;
         let noted = request.copy()?;
@@ -202,30 +197,36 @@ impl<C: Carrier> RecordedState<C> {
         request: &Request,
     ) -> Result<Issued, DeskError>
         requires { request.now ≢ Request.Quit }
-        ensures issued { IfOk result (λ issued. RecordedIssues K.reads K.failures clock.old clock.new self.old share.old request.now issued.op issued.legs.items self.new share.new) }
+        ensures issued { IfOk result (λ issued. RecordedIssues (clock_call K.reads K.failures clock.old clock.new)
+            (with_share self.old share.old) request.now issued.op issued.legs.items (with_share self.new share.new)) }
         ensures has_leg { IfOk result (λ issued. 1 ≤ length issued.legs.items) }
-        ensures refused { IfErr result (RecordedRefuses K.reads K.failures clock.old clock.new self.old share.old request.now) }
+        ensures refused { IfErr result (RecordedRefuses (clock_call K.reads K.failures clock.old clock.new)
+            (with_share self.old share.old) request.now) }
         ensures unchanged { OnErr result ((self.new ≡ self.old) × (share.new ≡ share.old)) }
+        ensures locked { IsUnderLock C.gave self.old.core }
     {
+        self.keeps();
         let reading = clock.now()?;
         self.issue_at(share, reading, request)
     }
 
     /// Takes a leg that came back, as the proxy does, and notes the step; a stranger changes nothing, and a leg is one too
-    /// where its sheet isn't that of an open leg of the proxy's own. Want of memory comes before all else, and changes
-    /// nothing.
-    pub fn take(&mut self, carried: &Carried<C>) -> Result<Taken, AllocError>
+    /// where its sheet isn't that of an open leg of the proxy's own. OutOfMemory comes before all else, and changes nothing.
+    pub fn take(&mut self, carried: &Carried<C>) -> Result<Taken, DeskError>
         ensures became { IfOk result (BecomesOf self.old.core carried.now.back) }
         ensures state { IfOk result (λ taken. self.new ≡ after_taken self.old carried.now.back taken) }
         ensures stands { IfOk result (TakenStands C.gave) }
         ensures in_time { IfOk result TakenInTime }
+        ensures refused { IfErr result (λ e. e ≡ DeskError.OutOfMemory) }
         ensures unchanged { OnErr result (self.new ≡ self.old) }
+        ensures locked { IsUnderLock C.gave self.old.core }
     {
+        self.keeps();
         let back = carried.back();
         let noted = back.copy()?;
         let Ok(reply) = back.reply.copy() else {
             discard(noted);
-            return Err(AllocError);
+            return Err(DeskError::OutOfMemory);
         };
         if !awaits(&self.core, &back.sheet) {
             discard(noted);
@@ -261,19 +262,18 @@ impl<C: Carrier> RecordedState<C> {
         }
     }
 
-    /// Gives a request up, as the proxy does, and notes the step. None where it isn't under way.
-    pub fn give_up(&mut self, op: OpId) -> Option<Answer>
-        ensures answer { option_map (λ answer. answer) result ≡ given_up_of self.old.core op }
-        ensures state { MatchOption result (self.new ≡ self.old) (λ _. self.new ≡ after_given_up self.old op) }
-        ensures stands { IfSome result (AnswerStands C.gave) }
+    /// Gives a request up, as the proxy does, and notes the step. NoSuchOp where it isn't under way, and nothing changes.
+    pub fn give_up(&mut self, op: OpId) -> Result<Answer, DeskError>
+        ensures answer { IfOk result (λ answer. given_up_of self.old.core op ≡ Some answer) }
+        ensures state { OnOk result (self.new ≡ after_given_up self.old op) }
+        ensures stands { IfOk result (AnswerStands C.gave) }
+        ensures unknown { IfErr result (λ e. (given_up_of self.old.core op ≡ None) × (e ≡ DeskError.NoSuchOp)) }
+        ensures unchanged { OnErr result (self.new ≡ self.old) }
+        ensures locked { IsUnderLock C.gave self.old.core }
     {
-        is_sound(&self.core);
-        match self.core.give_up(op) {
-            Err(_) => None,
-            Ok(answer) => {
-                self.book.push_reserved(Step::GiveUp(op));
-                Some(answer)
-            }
-        }
+        self.keeps();
+        let answer = self.core.give_up(op)?;
+        self.book.push_reserved(Step::GiveUp(op));
+        Ok(answer)
     }
 }

@@ -1,4 +1,8 @@
 //! A proxy without a book that many threads share.
+ghost use Rattle.std.specs.Prelude.{IfOk, IsOk};
+ghost use Rattle.mr_desks.specs.Desk.{DeskTakes};
+ghost use Rattle.mr_desks.specs.Taking.{TakenStands, TakenInTime};
+
 use crate::carried::Carried;
 use crate::carrier::Carrier;
 use crate::desk::Desk;
@@ -9,7 +13,6 @@ use mr_clock::Clock;
 use mr_history::OpId;
 use mr_proxy::{Answer, Issued, ProxyCore, Taken};
 use mr_text::Request;
-use std::alloc::AllocError;
 use std::sync::{Mutex, Wait};
 
 /// A proxy that many threads share, whose steps aren't recorded.
@@ -59,11 +62,17 @@ impl<C: Carrier> Desk<C> for SharedProxy<C> {
         self.state.lock(rt).issue(share, clock, request)
     }
 
-    fn take<R: Wait>(&self, rt: &R, carried: &mut Carried<C>) -> Result<Taken, AllocError> {
+    /// Takes a leg that came back, and moves its reply. It takes no memory, and never fails.
+    fn take<R: Wait>(&self, rt: &R, carried: &mut Carried<C>) -> Result<Taken, DeskError>
+        ensures taken { IfOk result (DeskTakes C.gave carried.old.back) }
+        ensures stands { IfOk result (TakenStands C.gave) }
+        ensures in_time { IfOk result TakenInTime }
+        ensures never_fails { IsOk result }
+    {
         Ok(self.state.lock(rt).take(carried))
     }
 
-    fn give_up<R: Wait>(&self, rt: &R, op: OpId) -> Option<Answer> {
+    fn give_up<R: Wait>(&self, rt: &R, op: OpId) -> Result<Answer, DeskError> {
         self.state.lock(rt).give_up(op)
     }
 }

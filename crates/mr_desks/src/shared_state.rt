@@ -1,13 +1,15 @@
 //! A proxy without a book.
-ghost use Rattle.std.specs.Prelude.{◌≡◌, ◌≢◌, ◌+◌, ◌≤◌, ◌<◌, ◌^◌, ◌-◌, ◌⊎◌, ℕ, length, Some, None, option_map, MatchOption, MatchResult, IfSome, OnOk, OnErr, IfOk, IfErr};
+ghost use Rattle.std.specs.Prelude.{◌≡◌, ◌≢◌, ◌+◌, ◌≤◌, ◌<◌, ◌^◌, ◌-◌, length, Some, None, OnOk, OnErr, IfOk, IfErr};
+ghost use Rattle.mr_text.specs.declared.cause.Cause.TheVariants.{LegLost};
 ghost use Rattle.mr_text.specs.declared.request.Request.{Request};
-ghost use Rattle.mr_proxy.specs.Issue.{next_op, sheets_of, after_issue};
-ghost use Rattle.mr_proxy.specs.Transitions.{open_sheet, taken_of, after_take, after_give_up, given_up_of};
-ghost use Rattle.mr_desks.specs.Desk.{DeskIssues, DeskRefuses};
-ghost use Rattle.mr_desks.specs.Issuing.{IsDeskRefusal};
+ghost use Rattle.mr_join.specs.declared.leg_reply.LegReply.TheVariants.{Failed};
+ghost use Rattle.mr_proxy.specs.Transitions.{open_sheet, after_take, after_give_up, given_up_of};
+ghost use Rattle.mr_desks.specs.Desk.{IsUnderLock};
+ghost use Rattle.mr_desks.specs.Issuing.{clock_call, with_share, IsDeskRefusal};
 ghost use Rattle.mr_desks.specs.Recorded.{AnswerStands};
-ghost use Rattle.mr_desks.specs.Shared.{why_turned_down};
+ghost use Rattle.mr_desks.specs.Shared.{why_turned_down, SharedIssuesAt, SharedIssues, SharedRefuses};
 ghost use Rattle.mr_desks.specs.Taking.{BecomesOf, TakenStands, TakenInTime};
+ghost use Rattle.mr_desks.specs.declared.desk_error.DeskError.{DeskError};
 
 use crate::awaiting::awaits;
 use crate::carried::Carried;
@@ -63,9 +65,16 @@ impl<C: Carrier> SharedState<C> {
         }
     }
 
+    /// Does nothing but tell the prover what the type keeps of its proxy.
+    fn keeps(&self)
+        ensures { IsUnderLock C.gave self.now }
+    {
+        let _under_way = self.core.outstanding();
+    }
+
     /// Why a request isn't issued, memory aside.
     fn refusal(&self, share: &Share) -> Option<DeskError>
-        ensures { result ≡ why_turned_down self.now share.now }
+        ensures { result ≡ why_turned_down (with_share self.now share.now) }
     {
         if share.is_spent() {
             return Some(DeskError::NumbersSpent);
@@ -87,13 +96,10 @@ impl<C: Carrier> SharedState<C> {
         request: &Request,
     ) -> Result<Issued, DeskError>
         requires { request.now ≢ Request.Quit }
-        ensures accepted { OnOk result (why_turned_down self.old share.old ≡ None) }
-        ensures state { OnOk result (self.new ≡ after_issue self.old reading request.now) }
-        ensures share { OnOk result (share.new ≡ share.old + 1) }
-        ensures op { IfOk result (λ issued. issued.op ≡ next_op self.old) }
-        ensures legs { IfOk result (λ issued. issued.legs.items ≡ sheets_of self.old reading request.now) }
+        ensures issued { IfOk result (λ issued.
+            SharedIssuesAt (with_share self.old share.old) reading request.now issued.op issued.legs.items (with_share self.new share.new)) }
         ensures has_leg { IfOk result (λ issued. 1 ≤ length issued.legs.items) }
-        ensures refused { IfErr result (IsDeskRefusal (why_turned_down self.old share.old)) }
+        ensures refused { IfErr result (IsDeskRefusal (why_turned_down (with_share self.old share.old))) }
         ensures unchanged { OnErr result ((self.new ≡ self.old) × (share.new ≡ share.old)) }
     {
         if let Some(refusal) = self.refusal(share) {
@@ -109,7 +115,6 @@ impl<C: Carrier> SharedState<C> {
 
     /// Reads the clock, once, and issues a request at that reading, as the proxy does. A refusal changes nothing; refusals
     /// are tried in the order ClockFault, NumbersSpent, NoRoom, OutOfMemory.
-    #[tactic(auto, using(crate::proofs::HeldLemmas::refusal_is_no_fault))]
     pub fn issue<K: Clock>(
         &mut self,
         share: &mut Share,
@@ -117,17 +122,21 @@ impl<C: Carrier> SharedState<C> {
         request: &Request,
     ) -> Result<Issued, DeskError>
         requires { request.now ≢ Request.Quit }
-        ensures issued { IfOk result (λ issued. DeskIssues K.reads K.failures clock.old clock.new request.now issued.op issued.legs.items) }
+        ensures issued { IfOk result (λ issued. SharedIssues (clock_call K.reads K.failures clock.old clock.new)
+            (with_share self.old share.old) request.now issued.op issued.legs.items (with_share self.new share.new)) }
         ensures has_leg { IfOk result (λ issued. 1 ≤ length issued.legs.items) }
-        ensures refused { IfErr result (DeskRefuses K.reads K.failures clock.old clock.new) }
-        ensures share { MatchResult result (λ _. share.new ≡ share.old + 1) (λ _. share.new ≡ share.old) }
+        ensures refused { IfErr result (SharedRefuses (clock_call K.reads K.failures clock.old clock.new)
+            (with_share self.old share.old)) }
+        ensures unchanged { OnErr result ((self.new ≡ self.old) × (share.new ≡ share.old)) }
+        ensures locked { IsUnderLock C.gave self.old }
     {
+        self.keeps();
         let reading = clock.now()?;
         self.issue_at(share, reading, request)
     }
 
     /// Takes a leg that came back, as the proxy does. A leg is a stranger too where its sheet isn't that of an open leg of
-    /// the proxy's own. It takes no memory: the reply is moved.
+    /// the proxy's own. It takes no memory: the reply is moved, and what is left is a lost leg.
     #[tactic(auto, using(crate::proofs::KeptLemmas::last_answer_stands, crate::proofs::KeptLemmas::last_answer_in_time))]
     pub fn take(&mut self, carried: &mut Carried<C>) -> Taken
         ensures became { BecomesOf self.old carried.old.back result }
@@ -135,7 +144,10 @@ impl<C: Carrier> SharedState<C> {
         ensures foreign { open_sheet self.old carried.old.back.sheet.id ≢ Some carried.old.back.sheet → self.new ≡ self.old }
         ensures stands { TakenStands C.gave result }
         ensures in_time { TakenInTime result }
+        ensures left { carried.new.back ≡ record carried.old.back { reply = Failed LegLost } }
+        ensures locked { IsUnderLock C.gave self.old }
     {
+        self.keeps();
         let id = carried.back().sheet.id;
         let own = awaits(&self.core, &carried.back().sheet);
         let reply = carried.take_reply();
@@ -146,15 +158,16 @@ impl<C: Carrier> SharedState<C> {
         }
     }
 
-    /// Gives a request up, as the proxy does. None where it isn't under way.
-    pub fn give_up(&mut self, op: OpId) -> Option<Answer>
-        ensures answer { option_map (λ answer. answer) result ≡ given_up_of self.old op }
-        ensures state { self.new ≡ after_give_up self.old op }
-        ensures stands { IfSome result (AnswerStands C.gave) }
+    /// Gives a request up, as the proxy does. NoSuchOp where it isn't under way, and nothing changes.
+    pub fn give_up(&mut self, op: OpId) -> Result<Answer, DeskError>
+        ensures answer { IfOk result (λ answer. given_up_of self.old op ≡ Some answer) }
+        ensures state { OnOk result (self.new ≡ after_give_up self.old op) }
+        ensures stands { IfOk result (AnswerStands C.gave) }
+        ensures unknown { IfErr result (λ e. (given_up_of self.old op ≡ None) × (e ≡ DeskError.NoSuchOp)) }
+        ensures unchanged { OnErr result (self.new ≡ self.old) }
+        ensures locked { IsUnderLock C.gave self.old }
     {
-        let Ok(answer) = self.core.give_up(op) else {
-            return None;
-        };
-        Some(answer)
+        self.keeps();
+        Ok(self.core.give_up(op)?)
     }
 }

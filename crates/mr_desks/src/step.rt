@@ -1,7 +1,10 @@
 //! The steps of a proxy that a book keeps.
+ghost use Rattle.std.specs.Prelude.{◌≡◌, IfOk};
+
 use mr_history::OpId;
 use mr_proxy::LegBack;
 use mr_text::Request;
+use std::alloc::AllocError;
 
 /// One step of a proxy.
 #[derive(Debug, Drop)]
@@ -17,4 +20,20 @@ pub enum Step {
     Take(LegBack),
     /// A request was given up.
     GiveUp(OpId),
+}
+
+impl Step {
+    /// An equal step.
+    pub fn copy(&self) -> Result<Step, AllocError>
+        ensures { IfOk result (λ step. step ≡ self.now) }
+    {
+        Ok(match self {
+            Step::Issue { reading, request } => Step::Issue {
+                reading: *reading,
+                request: request.copy()?,
+            },
+            Step::Take(back) => Step::Take(back.copy()?),
+            Step::GiveUp(op) => Step::GiveUp(*op),
+        })
+    }
 }

@@ -1,6 +1,7 @@
 //! How a client of a fleet ended.
-ghost use Rattle.std.specs.Prelude.{◌≡◌};
-ghost use Rattle.mr_fleet.specs.ClientEnd.{EndStands};
+ghost use Rattle.std.specs.Prelude.{◌≡◌, true};
+ghost use Rattle.mr_sessions.specs.Asking.{desk_rules};
+ghost use Rattle.mr_fleet.specs.ClientEnd.{EndStands, client_end};
 
 use mr_clock::Clock;
 use mr_desks::{Carrier, Share, WorkerError};
@@ -31,7 +32,8 @@ pub struct ClientEnd<C: Carrier, K: Clock, S: Source, W: Sink> {
     clock: PhantomData<K>,
 
     /// It had a session, and this is its end; or it had no thread.
-    pub ghost stands: { ∥ EndStands K.reads K.failures C.gave turns (S.told reader) (W.told writer) issued.value took.value.items result ∥₁ },
+    pub ghost stands: { ∥ EndStands (desk_rules K.reads K.failures C.gave true) turns
+        (client_end (S.told reader) (W.told writer) issued.value took.value.items result) ∥₁ },
 }
 
 impl<C: Carrier, K: Clock, S: Source, W: Sink> ClientEnd<C, K, S, W> {
@@ -44,7 +46,8 @@ impl<C: Carrier, K: Clock, S: Source, W: Sink> ClientEnd<C, K, S, W> {
         issued: Snapshot<Share>,
         took: Snapshot<Vec<Answer>>,
     ) -> ClientEnd<C, K, S, W>
-        requires { ∥ EndStands K.reads K.failures C.gave turns (S.told reader) (W.told writer) issued.value took.value.items ended ∥₁ }
+        requires { ∥ EndStands (desk_rules K.reads K.failures C.gave true) turns
+            (client_end (S.told reader) (W.told writer) issued.value took.value.items ended) ∥₁ }
         ensures ended { result.result ≡ ended }
         ensures turns { result.turns ≡ turns }
         ensures issued { result.issued ≡ issued }

@@ -1,6 +1,7 @@
 //! What a client's thread hands over.
-ghost use Rattle.std.specs.Prelude.{◌≡◌, ◌≢◌};
-ghost use Rattle.mr_fleet.specs.ClientEnd.{HadSession, EndStands};
+ghost use Rattle.std.specs.Prelude.{◌≡◌, ◌≢◌, true};
+ghost use Rattle.mr_sessions.specs.Asking.{desk_rules};
+ghost use Rattle.mr_fleet.specs.ClientEnd.{HadSession, EndStands, client_end};
 
 use crate::client_end::ClientEnd;
 use mr_clock::Clock;
@@ -13,7 +14,7 @@ use std::snapshot::Snapshot;
 
 /// What a client's thread hands over: how the client ended, and what its proxy's book is held against.
 #[derive(Drop)]
-pub struct FinishedClient<C: Carrier, K: Clock, S: Source, W: Sink> {
+pub(crate) struct FinishedClient<C: Carrier, K: Clock, S: Source, W: Sink> {
     /// How its session ended, or why it ended early. NoThread where none could be made for it.
     pub ended: Result<Ended, WorkerError>,
     reader: S,
@@ -26,7 +27,8 @@ pub struct FinishedClient<C: Carrier, K: Clock, S: Source, W: Sink> {
     clock: PhantomData<K>,
 
     /// The client had a session, and this is its end; or it had no thread.
-    pub ghost stands: { ∥ EndStands K.reads K.failures C.gave turns (S.told reader) (W.told writer) share answers.items ended ∥₁ },
+    pub ghost stands: { ∥ EndStands (desk_rules K.reads K.failures C.gave true) turns
+        (client_end (S.told reader) (W.told writer) share answers.items ended) ∥₁ },
 }
 
 impl<C: Carrier, K: Clock, S: Source, W: Sink> FinishedClient<C, K, S, W> {
@@ -39,7 +41,8 @@ impl<C: Carrier, K: Clock, S: Source, W: Sink> FinishedClient<C, K, S, W> {
         share: Share,
         answers: Vec<Answer>,
     ) -> FinishedClient<C, K, S, W>
-        requires { EndStands K.reads K.failures C.gave turns (S.told reader) (W.told writer) share answers.items ended }
+        requires { EndStands (desk_rules K.reads K.failures C.gave true) turns
+            (client_end (S.told reader) (W.told writer) share answers.items ended) }
         ensures ended { result.ended ≡ ended }
         ensures turns { result.turns ≡ turns }
     {
@@ -64,7 +67,8 @@ impl<C: Carrier, K: Clock, S: Source, W: Sink> FinishedClient<C, K, S, W> {
         share: Share,
         answers: Vec<Answer>,
     ) -> FinishedClient<C, K, S, W>
-        requires { HadSession K.reads K.failures C.gave turns (S.told reader) (W.told writer) share answers.items ended }
+        requires { HadSession (desk_rules K.reads K.failures C.gave true) turns
+            (client_end (S.told reader) (W.told writer) share answers.items ended) }
         ensures ended { result.ended ≢ Err WorkerError.NoThread }
         ensures turns { result.turns ≡ turns }
     {
@@ -72,7 +76,7 @@ impl<C: Carrier, K: Clock, S: Source, W: Sink> FinishedClient<C, K, S, W> {
     }
 
     /// How the client ended, how many requests it issued, and the answers that it took.
-    pub fn into_parts(self) -> (ClientEnd<C, K, S, W>, Share, Vec<Answer>)
+    pub(crate) fn into_parts(self) -> (ClientEnd<C, K, S, W>, Share, Vec<Answer>)
         ensures ended { result.0.result ≡ self.ended }
         ensures turns { result.0.turns ≡ self.turns }
         ensures issued { result.0.issued.value ≡ result.1 }

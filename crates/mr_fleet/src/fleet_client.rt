@@ -52,7 +52,7 @@ impl<K: Clock, S: Source, W: Sink> FleetClient<K, S, W> {
 
 impl<K: Clock + Drop, S: Source, W: Sink> FleetClient<K, S, W> {
     /// Serves the client over these links.
-    pub fn serve<C: Carrier, R: Wait>(
+    pub(crate) fn serve<C: Carrier, R: Wait>(
         self,
         rt: &R,
         alloc: Global,
@@ -87,7 +87,7 @@ impl<K: Clock + Drop, S: Source, W: Sink> FleetClient<K, S, W> {
     }
 
     /// Ends a client for which no thread could be made. It takes no memory.
-    pub fn without_thread<C: Carrier>(
+    pub(crate) fn without_thread<C: Carrier>(
         self,
         alloc: Global,
         desk: &RecordedProxy<C>,

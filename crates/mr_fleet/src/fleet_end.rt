@@ -1,11 +1,11 @@
 //! How a proxy of a fleet ended.
-ghost use Rattle.std.specs.Prelude.{◌≡◌, map, IfOk, vec_len};
+ghost use Rattle.std.specs.Prelude.{◌≡◌, map, vec_len};
 ghost use Rattle.mr_desks.specs.Closing.{ClosesSo};
 
 use crate::client_end::ClientEnd;
 use crate::ending::Ending;
 use mr_clock::Clock;
-use mr_desks::{Carrier, Closed, RecordedProxy, Share, close};
+use mr_desks::{Book, Carrier, CloseError, RecordedProxy, Share, close};
 use mr_proxy::{Answer, ProxyCore};
 use mr_text::{Sink, Source};
 use std::alloc::Global;
@@ -15,8 +15,9 @@ use std::snapshot::Snapshot;
 /// There is one share, one list of answers and one end for each client, in the order of the clients.
 #[derive(Drop)]
 pub struct FleetEnd<C: Carrier, K: Clock, S: Source, W: Sink> {
-    /// What the book came to when it was closed. Where memory for that was refused, the proxy as it was.
-    pub book: Result<Closed, RecordedProxy<C>>,
+    /// Its book, which stands with what its clients did; else the book that differs, or, where memory for closing it was
+    /// refused, the proxy as it was.
+    pub book: Result<Book, CloseError<C>>,
     /// How many requests each client issued.
     pub shares: Vec<Share>,
     /// The answers that each client took.
@@ -27,7 +28,7 @@ pub struct FleetEnd<C: Carrier, K: Clock, S: Source, W: Sink> {
     pub opening: Snapshot<ProxyCore>,
 
     /// The book was held against these shares and these answers.
-    pub ghost closed: { ∥ IfOk book (ClosesSo opening.value shares.items (map (λ session. session.items) answers.items)) ∥₁ },
+    pub ghost closed: { ∥ ClosesSo opening.value shares.items (map (λ session. session.items) answers.items) book ∥₁ },
 
     /// There is one of each for a client, and they are those that its end speaks of.
     pub ghost as_many_shares: { vec_len shares ≡ vec_len ends },

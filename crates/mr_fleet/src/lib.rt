@@ -23,12 +23,8 @@ mod run;
 mod threads;
 
 pub use client_end::ClientEnd;
-pub use finished_client::FinishedClient;
 pub use fleet_client::FleetClient;
 pub use fleet_end::FleetEnd;
 pub use fleet_proxy::FleetProxy;
 pub use link_carriers::LinkCarriers;
-pub use link_job::LinkJob;
-pub use link_worker::run_worker;
-pub use links::Links;
 pub use run::run_fleet;

@@ -1,15 +1,17 @@
 //! Carriers over links to threads that own the connections.
-ghost use Rattle.std.specs.Prelude.{◌≡◌, ◌+◌, ◌-◌, ⊤, IfSome, MatchOption};
+ghost use Rattle.std.specs.Prelude.{◌≡◌, ◌+◌, ◌-◌, ⊤, IfSome, MatchOption, option_map};
+ghost use Rattle.mr_desks.specs.Carriers.{unused, SendIs, ReceiveIs};
 ghost use Rattle.mr_fleet.specs.Links.{HasLink};
 
 use crate::links::Links;
 use crossbeam_channel::Receiver;
-use mr_desks::{Carried, Carrier, Carriers};
+use mr_desks::{Carried, Carrier, Carriers, GhostLegs};
 use mr_proxy::Leg;
 use mr_text::GhostCount;
 use std::alloc::Global;
 use std::collections::VecDeque;
 use std::marker::Model;
+use std::snapshot::Snapshot;
 use std::sync::Wait;
 
 /// What one session sends its legs through, where other threads own the connections. Each leg is sent with a channel of its
@@ -20,6 +22,7 @@ pub struct LinkCarriers<'a, C: Carrier, R: Wait> {
     alloc: Global,
     links: Links<C>,
     awaited: VecDeque<Receiver<Carried<C>>>,
+    sent: GhostLegs,
     losses: GhostCount,
     brought: GhostCount,
 }
@@ -31,6 +34,7 @@ impl<'a, C: Carrier, R: Wait> Drop for LinkCarriers<'a, C, R> {
             alloc: _,
             links: _,
             awaited: _,
+            sent: _,
             losses: _,
             brought: _,
         } = self;
@@ -43,19 +47,24 @@ impl<'a, C: Carrier, R: Wait> Model for LinkCarriers<'a, C, R> {
 
     ghost Value = { LinkCarriersView };
 
-    ghost view = { λ c. record { links = c.links; awaited = length c.awaited.items; losses = c.losses; brought = c.brought } };
+    ghost view = { λ c. record {
+      links = c.links;
+      awaited = length c.awaited.items;
+      told = record { sent = c.sent; losses = c.losses; brought = c.brought };
+    } };
 }
 
 impl<'a, C: Carrier, R: Wait> LinkCarriers<'a, C, R> {
     /// Carriers over these links, which sent, lost and brought nothing yet. It takes no memory.
-    pub fn new(rt: &'a R, alloc: Global, links: Links<C>) -> LinkCarriers<'a, C, R>
-        ensures { result ≡ record { links = links; awaited = 0; losses = 0; brought = 0 } }
+    pub(crate) fn new(rt: &'a R, alloc: Global, links: Links<C>) -> LinkCarriers<'a, C, R>
+        ensures { result ≡ record { links = links; awaited = 0; told = unused } }
     {
         LinkCarriers {
             rt,
             alloc,
             links,
             awaited: VecDeque::new(alloc),
+            sent: GhostLegs::new(),
             losses: GhostCount::new(),
             brought: GhostCount::new(),
         }
@@ -67,8 +76,7 @@ impl<'a, C: Carrier, R: Wait> LinkCarriers<'a, C, R> {
         ensures sent { MatchOption result (HasLink self.old.links leg) (λ _. ⊤) }
         ensures awaited { MatchOption result (self.new.awaited ≡ self.old.awaited + 1) (λ _. self.new.awaited ≡ self.old.awaited) }
         ensures links { self.new.links ≡ self.old.links }
-        ensures losses { self.new.losses ≡ self.old.losses }
-        ensures brought { self.new.brought ≡ self.old.brought }
+        ensures told { self.new.told ≡ self.old.told }
     {
         if self.awaited.reserve(1).is_err() {
             return Some(leg);
@@ -88,8 +96,7 @@ impl<'a, C: Carrier, R: Wait> LinkCarriers<'a, C, R> {
             (self.new.awaited ≡ self.old.awaited - 1)
             (λ _. self.new.awaited + 1 ≡ self.old.awaited) }
         ensures links { self.new.links ≡ self.old.links }
-        ensures losses { self.new.losses ≡ self.old.losses }
-        ensures brought { self.new.brought ≡ self.old.brought }
+        ensures told { self.new.told ≡ self.old.told }
     {
         let came = self.awaited.pop_front()?;
         came.recv(self.rt).ok()
@@ -97,30 +104,35 @@ impl<'a, C: Carrier, R: Wait> LinkCarriers<'a, C, R> {
 }
 
 impl<'a, C: Carrier, R: Wait> Carriers<C> for LinkCarriers<'a, C, R> {
-    ghost losses = { λ c. c.losses };
-
-    ghost brought = { λ c. c.brought };
+    ghost told = { λ c. c.told };
 
     fn send(&mut self, leg: Leg) -> Option<Leg>
-        ensures leg { IfSome result (λ back. back ≡ leg) }
+        ensures told { SendIs self.old.told leg (option_map (λ back. back) result) self.new.told }
         ensures sent { MatchOption result (HasLink self.old.links leg) (λ _. ⊤) }
-        ensures awaited { MatchOption result (self.new.awaited ≡ self.old.awaited + 1) (λ _. self.new.awaited ≡ self.old.awaited) }
+        ensures awaited { MatchOption result
+            (self.new.awaited ≡ self.old.awaited + 1)
+            (λ _. self.new.awaited ≡ self.old.awaited) }
         ensures links { self.new.links ≡ self.old.links }
-        ensures losses { MatchOption result (self.new.losses ≡ self.old.losses) (λ _. self.new.losses ≡ self.old.losses + 1) }
-        ensures brought { self.new.brought ≡ self.old.brought }
     {
-        let back = self.send_on(leg)?;
-        self.losses.add_one();
-        Some(back)
+        let sheet = Snapshot::of(leg.sheet());
+        match self.send_on(leg) {
+            None => {
+                self.sent.add_remembered(sheet);
+                None
+            }
+            Some(back) => {
+                self.losses.add_one();
+                Some(back)
+            }
+        }
     }
 
     fn receive(&mut self) -> Option<Carried<C>>
+        ensures told { ReceiveIs self.old.told (option_map (λ carried. carried.back) result) self.new.told }
         ensures awaited { MatchOption result
             (self.new.awaited ≡ self.old.awaited - 1)
             (λ _. self.new.awaited + 1 ≡ self.old.awaited) }
         ensures links { self.new.links ≡ self.old.links }
-        ensures losses { MatchOption result (self.new.losses ≡ self.old.losses + 1) (λ _. self.new.losses ≡ self.old.losses) }
-        ensures brought { MatchOption result (self.new.brought ≡ self.old.brought) (λ _. self.new.brought ≡ self.old.brought + 1) }
     {
         match self.receive_next() {
             Some(carried) => {

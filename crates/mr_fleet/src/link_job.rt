@@ -11,7 +11,7 @@ use std::sync::Wait;
 
 /// A leg on its way to the thread that owns the connection to its node, with the way back to the session that sent it.
 /// Whoever waits for the leg learns that it is lost once this is dropped.
-pub struct LinkJob<C: Carrier> {
+pub(crate) struct LinkJob<C: Carrier> {
     leg: Leg,
     back: Sender<Carried<C>>,
 }
@@ -39,14 +39,14 @@ impl<C: Carrier> LinkJob<C> {
     }
 
     /// Looks at what is sent.
-    pub fn sheet(&self) -> &LegSheet
+    pub(crate) fn sheet(&self) -> &LegSheet
         ensures { result.now ≡ self.now }
     {
         self.leg.sheet()
     }
 
     /// Gives the leg back that wasn't carried.
-    pub fn into_leg(self) -> Leg
+    pub(crate) fn into_leg(self) -> Leg
         ensures { result ≡ self }
     {
         let Self { leg, back: _ } = self;
@@ -54,7 +54,7 @@ impl<C: Carrier> LinkJob<C> {
     }
 
     /// Carries the leg, once, and sends what came of it back. That nobody waits for it any more is no matter.
-    pub fn carry<R: Wait>(self, rt: &R, carrier: &mut C)
+    pub(crate) fn carry<R: Wait>(self, rt: &R, carrier: &mut C)
         ensures { (back : LegBack) × (back.sheet ≡ self) × CarriesOnce C.carries C.faults carrier.old back carrier.new }
     {
         let Self { leg, back } = self;

@@ -12,7 +12,7 @@ use std::sync::Wait;
 
 /// Links to the threads that own the connections: a list for each pool, the old one first, with one place for each node. A
 /// place is empty where there is no such thread.
-pub struct Links<C: Carrier> {
+pub(crate) struct Links<C: Carrier> {
     pools: Vec<Vec<Option<Sender<LinkJob<C>>>>>,
 }
 
@@ -73,14 +73,14 @@ fn copy_pools<C: Carrier>(
 
 impl<C: Carrier> Links<C> {
     /// These links.
-    pub fn new(pools: Vec<Vec<Option<Sender<LinkJob<C>>>>>) -> Links<C>
+    pub(crate) fn new(pools: Vec<Vec<Option<Sender<LinkJob<C>>>>>) -> Links<C>
         ensures { result ≡ map (λ nodes. nodes.items) pools.items }
     {
         Links { pools }
     }
 
     /// Links to the same threads, for one more session.
-    pub fn copy(&self, alloc: Global) -> Result<Links<C>, AllocError>
+    pub(crate) fn copy(&self, alloc: Global) -> Result<Links<C>, AllocError>
         ensures { IfOk result (λ links. links ≡ self.now) }
     {
         Ok(Links {

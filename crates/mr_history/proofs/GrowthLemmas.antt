@@ -1,13 +1,12 @@
 -- What holds of a history still holds of it with more at its end.
-use Rattle.std.proofs.Common.{◌≡◌, ℕ, ◌+◌, ◌<◌, ◌≤◌, ◌⊎◌, inl, inr, List, [], ◌∷◌, ◌++◌, length, refl, sym, ap, subst, arith}
+use Rattle.std.proofs.Common.{◌≡◌, ℕ, ◌<◌, ◌≤◌, inl, inr, List, [], ◌∷◌, ◌++◌, length, refl, sym, subst, arith}
 use Rattle.mr_text.specs.declared.item.Item.{Item}
 use Rattle.mr_text.specs.declared.request.Request.{Request}
 use Rattle.mr_history.specs.declared.op_id.OpId.{OpId}
 use Rattle.mr_history.specs.declared.entry.Entry.{Entry}
 use Rattle.mr_history.specs.declared.verdict.Verdict.{Verdict}
 use Rattle.mr_history.specs.declared.verdict.Verdict.TheVariants.{Safe, Stale, Invented}
-use Rattle.mr_history.specs.Places.{At}
-use Rattle.mr_history.specs.History.{IsIssued, IsStored, IsAcknowledged, IsHit, IsFreshHit, IsSafe, IsWellFormed}
+use Rattle.mr_history.specs.History.{IsIssued, IsHit, IsFreshHit, IsSafe, IsWellFormed}
 use Rattle.mr_history.specs.Judgement.{Judges}
 use Rattle.mr_history.proofs.Lists.{at_within, at_left, at_before, at_last}
 use Rattle.mr_history.proofs.FormLemmas.{answered_after}

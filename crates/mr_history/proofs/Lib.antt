@@ -3,3 +3,4 @@ pub mod TestLemmas
 pub mod FormLemmas
 pub mod JudgeLemmas
 pub mod GrowthLemmas
+pub mod IndexLemmas

@@ -1,8 +1,10 @@
 -- Places in lists.
-use Rattle.std.proofs.Common.{◌≡◌, ℕ, zero, suc, ◌+◌, ◌<◌, ◌⊎◌, Bool, true, false, ◌||◌, List, [], ◌∷◌, ◌++◌, length, take, drop, slice_get, get_or, position, nat_lt, cond, not, Some, None, refl, ap, inl, inr, subst, ◌∙◌, arith}
+use Rattle.std.proofs.Common.{◌≡◌, ℕ, zero, suc, ◌+◌, ◌<◌, ◌⊎◌, Bool, true, false, ◌||◌, List, [], ◌∷◌, ◌++◌, length, take, drop, slice_get, get_or, position, nat_lt, cond, not, Option, Some, None, refl, ap, inl, inr, subst, ◌∙◌, arith, ◌≤◌}
 use Rattle.std.proofs.lemmas.Option.{slice_get_within, slice_get_read}
 use Rattle.std.specs.List.{list_any, position_or_len, prefix_len}
 use borrow.Author.Tests.{ltb-false}
+use Rattle.std.specs.Slice.{IsItemAt}
+use denote.Ref.{Bor}
 use Rattle.mr_history.specs.Places.{At}
 
 pub at_within : {X : Type 0} {xs : List X} {i : ℕ} {x : X} → At xs i x → i < length xs
@@ -123,3 +125,10 @@ position_none test xs place x none there =
             | false ↦ λ f g. absurd (let over = ltb-false _ _ f in omega arith)
           ] refl none
     ] refl
+
+-- what a look at an index gave
+pub got : {X : Type 0} (xs : List X) (i : ℕ) (r : Option (Bor X)) (x : Bor X) → IsItemAt xs i r → r ≡ Some x → At xs i x.now
+got xs i r x h is = let g = subst (IsItemAt xs i) is h in at_read xs i x.now g.3.0 g.1
+
+pub not_got : {X : Type 0} (xs : List X) (i : ℕ) (r : Option (Bor X)) → IsItemAt xs i r → r ≡ None → length xs ≤ i
+not_got xs i r h is = let g = subst (IsItemAt xs i) is h in g.3

@@ -15,7 +15,7 @@ use mr_text::{Item, Reply};
 
 /// What was found of one item of an answer.
 #[derive(Clone, Copy)]
-enum Finding {
+pub(crate) enum Finding {
     /// It was stored in time.
     Fresh,
     /// Nothing stored it.

@@ -35,7 +35,7 @@ fn is_get(request: &Request) -> bool
     }
 }
 
-fn is_issued_get(entry: &Entry, op: OpId) -> bool
+pub(crate) fn is_issued_get(entry: &Entry, op: OpId) -> bool
     ensures { result ≡ is_issued_get op entry.now }
 {
     match entry {
@@ -48,7 +48,7 @@ fn is_issued_get(entry: &Entry, op: OpId) -> bool
     }
 }
 
-fn acknowledges(reply: &Reply) -> bool
+pub(crate) fn acknowledges(reply: &Reply) -> bool
     ensures { result ≡ acknowledges reply.now }
 {
     match reply {
@@ -69,7 +69,7 @@ fn is_acknowledged(entry: &Entry, op: OpId) -> bool
     }
 }
 
-fn is_stored(entry: &Entry, item: &Item) -> bool
+pub(crate) fn is_stored(entry: &Entry, item: &Item) -> bool
     ensures { result ≡ is_stored item.now entry.now }
 {
     match entry {
@@ -88,7 +88,7 @@ fn is_stored(entry: &Entry, item: &Item) -> bool
 }
 
 /// The op that the entry issues, where it is a delete of this key.
-fn delete_of(entry: &Entry, key: &Key) -> Option<OpId>
+pub(crate) fn delete_of(entry: &Entry, key: &Key) -> Option<OpId>
     ensures { result ≡ issued_delete key.now entry.now }
 {
     match entry {

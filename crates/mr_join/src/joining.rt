@@ -4,10 +4,11 @@ ghost use Rattle.std.specs.Prelude.{◌≡◌, [], ◌∷◌, IfOk, IfErr};
 use crate::joined::Joined;
 use crate::leg_reply::LegReply;
 use mr_phases::Side;
+use std::alloc::AllocError;
 use std::marker::Model;
 
 /// Both sides are to answer yet.
-#[derive(Debug, Drop)]
+#[derive(Clone, Copy, Debug)]
 pub struct Two;
 
 /// One side is to answer yet. The other one did, or isn't awaited.
@@ -25,6 +26,8 @@ impl Model for Two {
     ghost Value = { JoiningView };
 
     ghost view = { λ _. record { awaits = Old ∷ New ∷ []; came = no_replies } };
+
+    ghost inverse = { λ _. record {} };
 }
 
 impl Model for One {
@@ -77,6 +80,13 @@ impl Joining<Two> {
             },
         }
     }
+
+    /// An equal join. It takes no memory.
+    pub fn copy(&self) -> Result<Joining<Two>, AllocError>
+        ensures { IfOk result (λ joining. joining ≡ self.now) }
+    {
+        Ok(Joining { state: self.state })
+    }
 }
 
 impl Joining<One> {
@@ -108,6 +118,22 @@ impl Joining<One> {
             (_, None) => Joined::of_one(awaited, reply),
             (Side::Old, Some(new)) => Joined::of_both(reply, new),
             (Side::New, Some(old)) => Joined::of_both(old, reply),
+        })
+    }
+
+    /// An equal join.
+    pub fn copy(&self) -> Result<Joining<One>, AllocError>
+        ensures { IfOk result (λ joining. joining ≡ self.now) }
+    {
+        let other = match &self.state.other {
+            Some(reply) => Some(reply.copy()?),
+            None => None,
+        };
+        Ok(Joining {
+            state: One {
+                awaited: self.state.awaited,
+                other,
+            },
         })
     }
 }

@@ -5,20 +5,10 @@ use Rattle.mr_text.specs.Stream.{ReaderView}
 use Rattle.mr_node.specs.declared.ended.Ended.{Ended}
 use Rattle.mr_node.specs.declared.session.SessionFault.{SessionFault}
 use Rattle.mr_node.specs.declared.session.SessionFault.TheVariants.{ReadFault, TurnsSpent}
-use Rattle.mr_node.specs.Session.{PieceIs, read_length}
+use Rattle.mr_node.specs.Session.{PieceIs, ReadsWithin, SpendsTurns, read_length}
+use Rattle.mr_node.specs.steps.Counts.{Counts}
 use Rattle.mr_node.proofs.ReadLemmas.{still_offered}
 use Rattle.mr_node.proofs.SessionLemmas.{reader_fails, reader_well, read_not_spent, failed_read_within}
-
--- how much a session has read when it ends
-abbrev pub Counts : ℕ → SourceView → SourceView → Result Ended SessionFault → Type 0
-Counts turns old new result =
-    (new.reads ≤ old.reads + turns)
-    × (new.reads + length old.taken ≤ old.reads + length new.taken + 1)
-    × (result ≡ Err TurnsSpent → (new.reads ≡ old.reads + turns) × (length old.taken + turns ≤ length new.taken))
-    × (length new.taken ≤ length old.taken + turns * read_length)
-    × (AreOffered read_length old.least_room → AreOffered read_length new.least_room)
-    × (result ≡ Err ReadFault → new.failures ≡ old.failures + 1)
-    × (result ≢ Err ReadFault → new.failures ≡ old.failures)
 
 -- how much a session under way has read
 pub record ReadSoFar (turns left : ℕ) (ended : Bool) (old new : SourceView) : Type 0 where
@@ -55,20 +45,29 @@ failed_read_keeps room rest requests old new e (inr lacks) =
     omega (arith, ap (λ (l : List ℕ). length l) lacks.1.1, length-append old.taken lacks.1.0)
 
 module _ (turns left : ℕ) (ended : Bool) (old new : SourceView) (so : ReadSoFar turns left ended old new) where
+  -- what was read so far is within the turns
+  pub within_so : ReadsWithin turns old new
+  within_so =
+      let counted = so.counted in
+      let within = so.within in
+      record { few = omega arith; idle = so.idle; bytes = omega arith; room = so.offered }
+
+  -- no turn is left
+  pub spent_so : left ≡ 0 → ended ≡ false → SpendsTurns turns old new
+  spent_so none more =
+      let counted = so.counted in
+      let brought = so.brought more in
+      record { all = omega arith; brought = omega arith }
+
   -- the session ends with no further read
   pub read_by : (result : Result Ended SessionFault) → result ≢ Err ReadFault
       → (result ≡ Err TurnsSpent → (left ≡ 0) × (ended ≡ false)) → Counts turns old new result
-  read_by result other none =
-      let counted = so.counted in
-      let within = so.within in (
-        omega arith,
-        so.idle,
-        (λ e. (let nothing = (none e).0 in omega arith, let nothing = (none e).0 in let brought = so.brought (none e).1 in omega arith)),
-        omega arith,
-        so.offered,
-        (λ e. absurd (other e)),
-        (λ e. so.well),
-      )
+  read_by result other none = record {
+    within = within_so;
+    spent = λ e. spent_so (none e).0 (none e).1;
+    failed = λ e. absurd (other e);
+    well = λ e. so.well;
+  }
 
   module _ (room : ℕ) (new' : SourceView) (rest : List ℕ) (requests : ReaderView) (some : 1 ≤ left) (whole : room ≡ read_length)
       (more : ended ≡ false) (once : new'.reads ≡ new.reads + 1) (offer : new'.least_room ≡ least_with new.least_room room) where
@@ -97,12 +96,15 @@ module _ (turns left : ℕ) (ended : Bool) (old new : SourceView) (so : ReadSoFa
         let before = so.brought more in
         let within = so.within in
         let most = failed_read_within room rest requests new new' e piece in
-        let least = failed_read_keeps room rest requests new new' e piece in (
-          omega arith,
-          omega arith,
-          (λ is. absurd (read_not_spent room rest requests new new' e piece (same_fault e TurnsSpent is))),
-          omega arith,
-          (λ are. still_offered read_length room _ _ (omega arith) (so.offered are) offer),
-          (λ is. reader_fails room rest requests new new' e piece (same_fault e ReadFault is) ∙ ap (λ n. n + 1) so.well),
-          (λ other. reader_well room rest requests new new' e piece (λ is. other (ap (λ (x : SessionFault). Err x) is)) ∙ so.well),
-        )
+        let least = failed_read_keeps room rest requests new new' e piece in
+        record {
+          within = record {
+            few = omega arith;
+            idle = omega arith;
+            bytes = omega arith;
+            room = λ are. still_offered read_length room _ _ (omega arith) (so.offered are) offer;
+          };
+          spent = λ is. absurd (read_not_spent room rest requests new new' e piece (same_fault e TurnsSpent is));
+          failed = λ is. reader_fails room rest requests new new' e piece (same_fault e ReadFault is) ∙ ap (λ n. n + 1) so.well;
+          well = λ other. reader_well room rest requests new new' e piece (λ is. other (ap (λ (x : SessionFault). Err x) is)) ∙ so.well;
+        }

@@ -1,12 +1,8 @@
 -- What taking an item out and cutting the list leave of the items.
-use Rattle.std.proofs.Common.{◌≡◌, ◌≢◌, ◌∙◌, ℕ, ◌+◌, ◌<◌, ◌≤◌, zero, suc, List, [], ◌∷◌, length, take, true, false, cond, not, Option, Some, None, refl, sym, ap, arith, nat_lt, get_or}
-use Rattle.std.proofs.lemmas.List.Folds.{find_at}
-use Rattle.std.proofs.lemmas.Option.{slice_get_read, slice_get_past}
-use Rattle.std.specs.List.{remove, position, position_or_len, prefix_len, slice_get}
-use Rattle.std.proofs.lemmas.Bool.{false_from_ne_true, ltb-true, ltb-false}
+use Rattle.std.proofs.Common.{◌≡◌, ◌≢◌, ◌∙◌, ℕ, ◌+◌, ◌≤◌, zero, suc, List, [], ◌∷◌, length, take, true, false, cond, not, Option, Some, None, refl, sym, ap, arith}
+use Rattle.std.proofs.lemmas.Bool.{false_from_ne_true}
 use Rattle.std.proofs.lemmas.Slice.Eq.{bytes_eq-Decides}
 use Rattle.std.specs.Option.{option_map}
-use Rattle.mr_node.specs.declared.cached_item.CachedItem.{CachedItem}
 use Rattle.mr_node.specs.Items.{NamedItem, is_named, named_item_of, without, HasDistinctKeys}
 
 pub named_key : (key : List ℕ) (item : NamedItem) → is_named key item ≡ true → item.0 ≡ key
@@ -28,11 +24,6 @@ named_once other key item apart h = not_named other item (λ same. apart (sym sa
 pub none_named : (found : Option NamedItem) → option_map (λ named. named.1) found ≡ None → found ≡ None
 none_named None h = refl
 none_named (Some named) h = cc
-
-pub some_named : (found : Option NamedItem) (item : CachedItem) → option_map (λ named. named.1) found ≡ Some item
-    → (named : NamedItem) × (found ≡ Some named)
-some_named None item h = cc
-some_named (Some named) item h = (named, refl)
 
 pub without_absent : (key : List ℕ) (items : List NamedItem) → named_item_of key items ≡ None → without key items ≡ items
 without_absent key [] h = refl
@@ -97,24 +88,6 @@ length-without key (x ∷ xs) =
       | false ↦ omega (arith, length-without key xs)
     ]
 
--- the list without the item that is found, by its place
-pub remove_found : (key : List ℕ) (items : List NamedItem) → HasDistinctKeys items → position_or_len (is_named key) items < length items
-    → remove items (position_or_len (is_named key) items) ≡ without key items
-remove_found key [] d h = absurd (omega arith)
-remove_found key (x ∷ xs) d h =
-    elim (is_named key x) as (λ b. is_named key x ≡ b
-    → cond (not b) (1 + prefix_len (λ y. not (is_named key y)) xs) 0 < suc (length xs)
-    → remove (x ∷ xs) (cond (not b) (1 + prefix_len (λ y. not (is_named key y)) xs) 0) ≡ cond (not b) (x ∷ without key xs) (without key xs)) [
-      | true ↦ λ e l.
-          let same : x.0 ≡ key = named_key key x e in
-          let absent : named_item_of key xs ≡ None = rw same at d.0 in
-          sym (without_absent key xs absent)
-      | false ↦ λ e l.
-          let next : 1 + prefix_len (λ y. not (is_named key y)) xs ≡ suc (prefix_len (λ y. not (is_named key y)) xs) = omega arith in
-          let below : prefix_len (λ y. not (is_named key y)) xs < length xs = omega arith in
-          rw next (ap (λ l. x ∷ l) (remove_found key xs d.1 below))
-    ] refl h
-
 pub found_key : (key : List ℕ) (items : List NamedItem) (item : NamedItem) → named_item_of key items ≡ Some item → item.0 ≡ key
 found_key key [] item h = cc
 found_key key (x ∷ xs) item h =
@@ -137,39 +110,3 @@ length-without_found key (x ∷ xs) item h =
 pub distinct_in_front : (item : NamedItem) (n : ℕ) (items : List NamedItem) → HasDistinctKeys items → HasDistinctKeys (item ∷ take n (without item.0 items))
 distinct_in_front item n items d =
     (item_of-take_none n item.0 (without item.0 items) (item_of-without item.0 items), distinct-take n (without item.0 items) (distinct-without item.0 items d))
-
--- the place of an item
-pub place_found : (key : List ℕ) (items : List NamedItem) (place : ℕ) → position (is_named key) items ≡ Some place
-    → (place ≡ position_or_len (is_named key) items) × (place < length items)
-place_found key items place h =
-    elim (nat_lt (position_or_len (is_named key) items) (length items)) as (λ b. nat_lt (position_or_len (is_named key) items) (length items) ≡ b
-    → cond b (Some (position_or_len (is_named key) items)) None ≡ Some place → (place ≡ position_or_len (is_named key) items) × (place < length items)) [
-      | true ↦ λ e f.
-          let same : place ≡ position_or_len (is_named key) items = cc in
-          let below = ltb-true _ _ e in
-          (same, omega arith)
-      | false ↦ λ e f. cc
-    ] refl h
-
-pub absent_place : (key : List ℕ) (items : List NamedItem) → position (is_named key) items ≡ None → named_item_of key items ≡ None
-absent_place key items h =
-    elim (nat_lt (position_or_len (is_named key) items) (length items)) as (λ b. nat_lt (position_or_len (is_named key) items) (length items) ≡ b
-    → cond b (Some (position_or_len (is_named key) items)) None ≡ None → named_item_of key items ≡ None) [
-      | true ↦ λ e f. cc
-      | false ↦ λ e f. find_at (is_named key) items ∙ slice_get_past items (position_or_len (is_named key) items) (ltb-false _ _ e)
-    ] refl h
-
--- the item at that place
-pub found_at : (key : List ℕ) (items : List NamedItem) (place : ℕ) (item : NamedItem) → position (is_named key) items ≡ Some place
-    → item ≡ get_or items place item → named_item_of key items ≡ Some item
-found_at key items place item h read =
-    let at = place_found key items place h in
-    find_at (is_named key) items ∙ ap (slice_get items) (sym at.0) ∙ slice_get_read items (length items) place item refl at.1 read
-
-pub removed_at : (key : List ℕ) (items : List NamedItem) (place : ℕ) → HasDistinctKeys items → position (is_named key) items ≡ Some place
-    → remove items place ≡ without key items
-removed_at key items place distinct h =
-    let at = place_found key items place h in
-    let same = at.0 in
-    let below : position_or_len (is_named key) items < length items = (let l = at.1 in omega arith) in
-    ap (remove items) same ∙ remove_found key items distinct below

@@ -1,6 +1,7 @@
-pub mod MoveLemmas
 pub mod ItemLemmas
 pub mod KeptLemmas
+pub mod EntryLemmas
+pub mod CommandLemmas
 pub mod StepLemmas
 pub mod ReadLemmas
 pub mod SessionLemmas

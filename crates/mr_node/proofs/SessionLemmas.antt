@@ -6,7 +6,8 @@ use Rattle.std.proofs.lemmas.List.{append-nil}
 use Rattle.std.proofs.lemmas.Grind.{flat_map-append}
 use Rattle.mr_text.specs.Sink.{SinkView, HasWritten}
 use Rattle.mr_text.specs.Source.{SourceView}
-use Rattle.mr_text.specs.Stream.{ReaderView, Becomes}
+use Rattle.mr_text.specs.Requests.{SpellsRequest, RefusesRequest}
+use Rattle.mr_text.specs.Stream.{ReaderView, IsUnfinished, Becomes}
 use Rattle.mr_text.specs.declared.reply.Reply.{Reply}
 use Rattle.mr_text.proofs.Writes.{written_none, written_then}
 use Rattle.mr_node.specs.declared.ended.Ended.{Ended}
@@ -16,7 +17,7 @@ use Rattle.mr_node.specs.declared.session.SessionFault.TheVariants.{OutOfMemory,
 use Rattle.mr_node.specs.declared.session.SessionStep.{SessionStep}
 use Rattle.mr_node.specs.declared.session.SessionStep.TheVariants.{Served, Waits, Ends}
 use Rattle.mr_node.specs.Output.{Exchange, ReadsExchanges, SpellsExchange, answer_to, output_of, text_of_answer, text_of_exchange}
-use Rattle.mr_node.specs.Session.{Station, Answers, StopsAnswering, Performs, DoesExchange, SessionServes, SessionIs, PieceIs}
+use Rattle.mr_node.specs.Session.{Station, Answers, StopsAnswering, Performs, DoesExchange, ServesInTurn, SessionServes, SessionIs, PieceIs, LastWriteFailed, NoWriteFailed}
 use Rattle.mr_node.specs.steps.Step.{StepIs}
 use Rattle.mr_node.specs.Outcome.{Outcomes}
 
@@ -42,6 +43,7 @@ module _ {C P : Type 0} (Does : Outcomes C P) (reader : SourceView) (old : Stati
     reads = ReadsExchanges.begins;
     performs = Performs.begins;
     writes = written_none old.writer;
+    in_turn = ServesInTurn.begins;
   }
 
   -- one more exchange
@@ -63,12 +65,15 @@ module _ {C P : Type 0} (Does : Outcomes C P) (reader : SourceView) (old : Stati
         writes = subst (λ (t : List ℕ). HasWritten t old.writer new.writer) more
             (written_then (output_of so.exchanges) (text_of_exchange exchange) old.writer between.writer new.writer so.writes
             (answered (answer_to exchange) between.writer new.writer answers));
+        in_turn = ServesInTurn.serves spelling exchange
+            (subst (λ (r : List ℕ). ServesInTurn Does reader old r reader' between) splits so.in_turn) spells does answers;
       }
 
   -- more bytes come
   serves_fed : (reader' reader'' : SourceView) (now : Station C P) (rest piece : List ℕ) → SessionServes Does reader reader' old now rest
+      → IsUnfinished SpellsRequest RefusesRequest rest → reader''.reads ≡ reader'.reads + 1
       → reader''.taken ≡ reader'.taken ++ piece → Consumes reader'.left reader''.left piece → SessionServes Does reader reader'' old now (rest ++ piece)
-  serves_fed reader' reader'' now rest piece so more gone = record {
+  serves_fed reader' reader'' now rest piece so unfinished once more gone = record {
     exchanges = so.exchanges;
     bytes = so.bytes;
     takes = more ∙ ap (λ (t : List ℕ). t ++ piece) so.takes ∙ append_assoc reader.taken (so.bytes ++ rest) piece
@@ -78,12 +83,14 @@ module _ {C P : Type 0} (Does : Outcomes C P) (reader : SourceView) (old : Stati
     reads = so.reads;
     performs = so.performs;
     writes = so.writes;
+    in_turn = ServesInTurn.reads piece so.in_turn unfinished (record { takes = more; once = once });
   }
 
   -- none come
   serves_unfed : (reader' reader'' : SourceView) (now : Station C P) (rest : List ℕ) → SessionServes Does reader reader' old now rest
+      → IsUnfinished SpellsRequest RefusesRequest rest → reader''.reads ≡ reader'.reads + 1
       → reader''.taken ≡ reader'.taken → Keeps reader'.left reader''.left → SessionServes Does reader reader'' old now rest
-  serves_unfed reader' reader'' now rest so none kept = record {
+  serves_unfed reader' reader'' now rest so unfinished once none kept = record {
     exchanges = so.exchanges;
     bytes = so.bytes;
     takes = none ∙ so.takes;
@@ -91,6 +98,8 @@ module _ {C P : Type 0} (Does : Outcomes C P) (reader : SourceView) (old : Stati
     reads = so.reads;
     performs = so.performs;
     writes = so.writes;
+    in_turn = subst (λ (r : List ℕ). ServesInTurn Does reader old r reader'' now) (append-nil rest)
+        (ServesInTurn.reads [] so.in_turn unfinished (record { takes = none ∙ sym (append-nil reader'.taken); once = once }));
   }
 
   -- a service under way
@@ -187,29 +196,29 @@ module _ {C P : Type 0} (Does : Outcomes C P) (reader : SourceView) (old : Stati
 
     -- bytes came, or the end of the input
     pub fed : (room : ℕ) (reader'' : SourceView) (requests'' : ReaderView) (ended' : Bool) → StepIs Does now new ended so.rest requests' (Ok Waits)
-        → PieceIs room so.rest requests'' reader' (Ok ended') reader'' → UnderWay reader'' new requests'' ended'
-    fed room reader'' requests'' ended' step piece = record {
+        → reader''.reads ≡ reader'.reads + 1 → PieceIs room so.rest requests'' reader' (Ok ended') reader'' → UnderWay reader'' new requests'' ended'
+    fed room reader'' requests'' ended' step once piece = record {
       rest = so.rest ++ piece.0;
       becomes = piece.6;
-      serves = serves_fed reader' reader'' new so.rest piece.0 (waits step) piece.1 piece.2;
+      serves = serves_fed reader' reader'' new so.rest piece.0 (waits step) step.1 once piece.1 piece.2;
       at_end = piece.5;
     }
 
     pub read_fails : (room : ℕ) (reader'' : SourceView) (requests'' : ReaderView) (e : SessionFault) → StepIs Does now new ended so.rest requests' (Ok Waits)
-        → PieceIs room so.rest requests'' reader' (Err e) reader'' → SessionIs Does reader reader'' old new (Err e)
-    read_fails room reader'' requests'' e step (inl fault) =
+        → reader''.reads ≡ reader'.reads + 1 → PieceIs room so.rest requests'' reader' (Err e) reader'' → SessionIs Does reader reader'' old new (Err e)
+    read_fails room reader'' requests'' e step once (inl fault) =
         subst (λ (x : SessionFault). SessionIs Does reader reader'' old new (Err x)) (sym fault.0)
-        (so.rest, serves_unfed reader' reader'' new so.rest (waits step) fault.1 fault.2, step.1)
-    read_fails room reader'' requests'' e step (inr lacks) =
+        (so.rest, serves_unfed reader' reader'' new so.rest (waits step) step.1 once fault.1 fault.2, step.1)
+    read_fails room reader'' requests'' e step once (inr lacks) =
         subst (λ (x : SessionFault). SessionIs Does reader reader'' old new (Err x)) (sym lacks.0)
-        (so.rest ++ lacks.1.0, serves_fed reader' reader'' new so.rest lacks.1.0 (waits step) lacks.1.1 lacks.1.2)
+        (so.rest ++ lacks.1.0, serves_fed reader' reader'' new so.rest lacks.1.0 (waits step) step.1 once lacks.1.1 lacks.1.2)
 
   -- the writer failed once where a fault of it ends the service, and the call that failed was the last
   pub write_fails : (reader' : SourceView) (new : Station C P) (result : Result Ended SessionFault) → SessionIs Does reader reader' old new result
-      → result ≡ Err WriteFault → (new.writer.failures ≡ old.writer.failures + 1) × (new.writer.last_failed ≡ true)
+      → result ≡ Err WriteFault → LastWriteFailed old.writer new.writer
   write_fails reader' new result is fault = failed (subst (SessionIs Does reader reader' old new) fault is)
     where
-      failed : SessionIs Does reader reader' old new (Err WriteFault) → (new.writer.failures ≡ old.writer.failures + 1) × (new.writer.last_failed ≡ true)
+      failed : SessionIs Does reader reader' old new (Err WriteFault) → LastWriteFailed old.writer new.writer
       failed (rest, between, so, inl next) =
           let stop = stopped (answer_to next.0) between.writer new.writer next.6 in
           (stop.0 ∙ ap (λ n. n + 1) so.writes.steady, stop.1)
@@ -219,7 +228,7 @@ module _ {C P : Type 0} (Does : Outcomes C P) (reader : SourceView) (old : Stati
 
   -- the writer failed nowhere else
   pub writes_well : (reader' : SourceView) (new : Station C P) (result : Result Ended SessionFault) → SessionIs Does reader reader' old new result
-      → result ≢ Err WriteFault → new.writer.failures ≡ old.writer.failures
+      → result ≢ Err WriteFault → NoWriteFailed old.writer new.writer
   writes_well reader' new (Ok _) is other = answered_well is.1 is.2.writer new.writer is.7 ∙ is.3.writes.steady
   writes_well reader' new (Err OutOfMemory) is other = is.1.writes.steady
   writes_well reader' new (Err ReadFault) is other = is.1.writes.steady

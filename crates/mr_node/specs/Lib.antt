@@ -3,6 +3,7 @@ pub mod NodeError
 pub mod Expiry
 pub mod Items
 pub mod Recency
+pub mod Hashing
 pub mod CacheStep
 pub mod Kinds
 pub mod Outcome

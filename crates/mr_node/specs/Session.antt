@@ -1,11 +1,11 @@
 -- What a session over a stream of requests reads, does and writes, whatever performs them, and how it ends.
-use Rattle.std.specs.Prelude.{◌≡◌, ◌≢◌, ℕ, ◌+◌, ◌≤◌, ◌⊎◌, List, [], ◌∷◌, ◌++◌, length, Bool, true, false, Option, Some, None, Result, Ok, Err, if◌then◌else◌}
+use Rattle.std.specs.Prelude.{◌≡◌, ◌≢◌, ℕ, ◌+◌, ◌*◌, ◌≤◌, ◌⊎◌, List, [], ◌∷◌, ◌++◌, length, Bool, true, false, Option, Some, None, Result, Ok, Err, if◌then◌else◌}
 use Rattle.std.specs.Io.KnownBytes.{Consumes, Keeps, IsAtEnd}
 use Rattle.mr_text.specs.Canonical.{canonical_reply}
 use Rattle.mr_text.specs.Gathering.{TakesFewCalls, parts_of_reply}
 use Rattle.mr_text.specs.Requests.{SpellsRequest, RefusesRequest}
 use Rattle.mr_text.specs.Sink.{SinkView, HasWritten, HasStopped}
-use Rattle.mr_text.specs.Source.{SourceView}
+use Rattle.mr_text.specs.Source.{SourceView, AreOffered}
 use Rattle.mr_text.specs.Stream.{ReaderView, BeginsWith, IsUnfinished, FaultAt, Becomes, skips_line}
 use Rattle.mr_text.specs.TextError.{number_of_refusal}
 use Rattle.mr_text.specs.declared.error.TextError.{TextError}
@@ -58,6 +58,24 @@ pub data Performs {C P : Type 0} (Does : Outcomes C P) (old : Station C P) : Lis
       → Performs Does old exchanges between → DoesExchange Does between exchange new → Answers (answer_to exchange) between.writer new.writer
       → Performs Does old (exchanges ++ exchange ∷ []) new
 
+-- one read brings these bytes, or none
+pub record ReadsPiece (piece : List ℕ) (old new : SourceView) : Type 0 where
+  pub takes : new.taken ≡ old.taken ++ piece
+  pub once : new.reads ≡ old.reads + 1
+
+-- All that is whole in what was read is served before the next read: a session reads only where no request is whole and
+-- none is refused in what is left, and serves what stands at its front.
+pub data ServesInTurn {C P : Type 0} (Does : Outcomes C P) (reader : SourceView) (old : Station C P)
+    : List ℕ → SourceView → Station C P → Type 0 where
+  begins : ServesInTurn Does reader old [] reader old
+  reads : {rest : List ℕ} {before after : SourceView} {now : Station C P} (piece : List ℕ)
+      → ServesInTurn Does reader old rest before now → IsUnfinished SpellsRequest RefusesRequest rest → ReadsPiece piece before after
+      → ServesInTurn Does reader old (rest ++ piece) after now
+  serves : {rest : List ℕ} {source : SourceView} {now new : Station C P} (spelling : List ℕ) (exchange : Exchange)
+      → ServesInTurn Does reader old (spelling ++ rest) source now → SpellsExchange spelling exchange
+      → DoesExchange Does now exchange new → Answers (answer_to exchange) now.writer new.writer
+      → ServesInTurn Does reader old rest source new
+
 -- what was taken is the text of exchanges, in order, and this rest; what was written is their output
 pub record SessionServes {C P : Type 0} (Does : Outcomes C P) (reader reader' : SourceView) (old new : Station C P)
     (rest : List ℕ) : Type 0 where
@@ -68,6 +86,7 @@ pub record SessionServes {C P : Type 0} (Does : Outcomes C P) (reader reader' : 
   pub reads : ReadsExchanges bytes exchanges
   pub performs : Performs Does old exchanges new
   pub writes : HasWritten (output_of exchanges) old.writer new.writer
+  pub in_turn : ServesInTurn Does reader old rest reader' new
 
 -- how what is left ends a session: a quit, the end of the input, or a refusal; and what is answered to it
 abbrev pub EndsSo : Option (List ℕ) → List ℕ → Ended → Option Reply → Type 0
@@ -99,6 +118,32 @@ module _ {C P : Type 0} (Does : Outcomes C P) (reader reader' : SourceView) (old
   SessionIs (Err OutOfMemory) = (rest : List ℕ) × SessionServes Does reader reader' old new rest
   SessionIs (Err WriteFault) =
       (rest : List ℕ) × (between : Station C P) × SessionServes Does reader reader' old between rest × LeavesUnanswered Does rest between new
+
+-- How much a session may read: each turn is one read, and at most one brings no byte, that of the end or the one that
+-- failed. Each read has room for as many bytes as the buffer holds, and none brings more.
+pub record ReadsWithin (turns : ℕ) (old new : SourceView) : Type 0 where
+  pub few : new.reads ≤ old.reads + turns
+  pub idle : new.reads + length old.taken ≤ old.reads + length new.taken + 1
+  pub bytes : length new.taken ≤ length old.taken + turns * read_length
+  pub room : AreOffered read_length old.least_room → AreOffered read_length new.least_room
+
+-- all turns were taken, and each read brought a byte
+pub record SpendsTurns (turns : ℕ) (old new : SourceView) : Type 0 where
+  pub all : new.reads ≡ old.reads + turns
+  pub brought : length old.taken + turns ≤ length new.taken
+
+abbrev pub OneReadFailed : SourceView → SourceView → Type 0
+OneReadFailed old new = new.failures ≡ old.failures + 1
+
+abbrev pub NoReadFailed : SourceView → SourceView → Type 0
+NoReadFailed old new = new.failures ≡ old.failures
+
+-- one call failed, the last
+abbrev pub LastWriteFailed : SinkView → SinkView → Type 0
+LastWriteFailed old new = (new.failures ≡ old.failures + 1) × (new.last_failed ≡ true)
+
+abbrev pub NoWriteFailed : SinkView → SinkView → Type 0
+NoWriteFailed old new = new.failures ≡ old.failures
 
 -- one read: some bytes come and are handed on, or it is the end of the input
 abbrev pub PieceIs : ℕ → List ℕ → ReaderView → SourceView → Result Bool SessionFault → SourceView → Type 0

@@ -6,18 +6,21 @@ use crate::cached_item::CachedItem;
 use crate::command::NodeCommand;
 use crate::error::NodeError;
 use crate::expiry::{expiry_of, is_alive};
+use crate::key_hashing::KeyHashing;
 use crate::perform::Perform;
-use crate::recency::{is_named, keep, move_to_front, place_of, take_out};
+use lru::LruCache;
 use mr_join::LegReply;
 use mr_text::Key;
 use std::alloc::{AllocError, Global};
+use std::hash::RandomState;
 use std::marker::Model;
+use std::num::NonZeroUsize;
 
-/// A cache of at most so many items. A new one drops the item that wasn't used for the longest time.
+/// A cache of at most so many items. A new one drops the item that wasn't used for the longest time. A command looks at its
+/// own item alone, and at the last where it drops that, however many there are.
 #[derive(Drop)]
 pub struct CacheNode {
-    capacity: usize,
-    items: Vec<(Key, CachedItem)>,
+    items: LruCache<Key, CachedItem, KeyHashing>,
 }
 
 impl Model for CacheNode {
@@ -26,9 +29,9 @@ impl Model for CacheNode {
 
     ghost Value = { CacheView };
 
-    ghost view = { λ c. record { capacity = c.capacity; items = c.items.items } };
+    ghost view = { λ c. record { capacity = c.items.cap; items = c.items.entries } };
 
-    ghost invariant = { λ c. IsCacheContent c.capacity c.items.items };
+    ghost invariant = { λ c. IsCacheContent c.items.cap c.items.entries };
 }
 
 impl CacheNode {
@@ -38,17 +41,35 @@ impl CacheNode {
     ghost use Rattle.mr_join.specs.declared.leg_reply.LegReply.TheVariants.{Stored};
     ghost use Rattle.mr_node.specs.declared.command.NodeCommand.TheVariants.{Get, Set, Delete};
 
-    /// An empty cache, or ZeroCapacity where it could hold nothing. No room is reserved.
+    /// An empty cache, or ZeroCapacity where it could hold nothing. No room is reserved for items. Keys are hashed alike in
+    /// each process: where strangers choose them, make it by `seeded`.
     pub fn new(alloc: Global, capacity: usize) -> Result<CacheNode, NodeError>
         ensures { IsNewCache capacity result }
     {
-        if capacity == 0 {
+        CacheNode::with_hashing(alloc, capacity, KeyHashing::Fixed)
+    }
+
+    /// The same, its keys hashed by a seed, so that whoever doesn't know it can't choose keys that fall together.
+    pub fn seeded(alloc: Global, capacity: usize, seed: RandomState) -> Result<CacheNode, NodeError>
+        ensures { IsNewCache capacity result }
+    {
+        CacheNode::with_hashing(alloc, capacity, KeyHashing::Seeded(seed))
+    }
+
+    fn with_hashing(
+        alloc: Global,
+        capacity: usize,
+        hashing: KeyHashing,
+    ) -> Result<CacheNode, NodeError>
+        ensures { IsNewCache capacity result }
+    {
+        let Some(capacity) = NonZeroUsize::new(capacity) else {
             return Err(NodeError::ZeroCapacity);
-        }
-        Ok(CacheNode {
-            capacity,
-            items: Vec::new(alloc),
-        })
+        };
+        // An unbounded one reserves no room, and it is empty when it gets its bound.
+        let mut items = LruCache::unbounded_with_hasher(alloc, hashing)?;
+        items.resize(capacity);
+        Ok(CacheNode { items })
     }
 
     /// How many items are kept, expired ones among them.
@@ -70,8 +91,7 @@ impl CacheNode {
     pub fn peek(&self, key: &Key) -> Option<&CachedItem>
         ensures { option_copied result ≡ item_of key.now self.now.items }
     {
-        let (_, item) = self.items.iter().find(|named| is_named(named, key))?;
-        Some(item)
+        self.items.peek(key)
     }
 
     /// Drops all items.
@@ -81,22 +101,21 @@ impl CacheNode {
         self.items.clear();
     }
 
-    /// What a get comes to. Its item is looked for once; a hit moves it to the front.
+    /// What a get comes to. Its block is copied before the order changes, so that want of memory leaves both as they were.
     fn look_up(&mut self, now: u64, key: &Key) -> Result<LegReply, AllocError>
         ensures { MatchResult result
             (λ reply. RecencyStep self.old now (Get key.now) reply self.new)
             (λ _. (self.new ≡ self.old) × MayLackMemory self.old now (Get key.now)) }
     {
-        let Some(place) = place_of(&self.items, key) else {
+        let Some(item) = self.items.peek(key) else {
             return Ok(LegReply::Miss);
         };
-        let (_, item) = &self.items[place];
         if !is_alive(now, item.expires_at) {
-            let _ = self.items.remove(place);
+            let _ = self.items.pop(key);
             return Ok(LegReply::Miss);
         }
         let reply = hit(item)?;
-        move_to_front(&mut self.items, place);
+        self.items.promote(key);
         Ok(reply)
     }
 
@@ -106,9 +125,9 @@ impl CacheNode {
             (λ _. (self.new ≡ self.old) × IsTrue (is_alive now item.expires_at) × (item_of key self.old.items ≡ None)) }
     {
         if is_alive(now, item.expires_at) {
-            keep(&mut self.items, self.capacity, (key, item))?;
+            self.items.put(key, item)?;
         } else {
-            let _ = take_out(&mut self.items, &key);
+            let _ = self.items.pop(&key);
         }
         Ok(LegReply::Stored)
     }
@@ -116,7 +135,7 @@ impl CacheNode {
     fn delete(&mut self, now: u64, key: Key) -> LegReply
         ensures { RecencyStep self.old now (Delete key) result self.new }
     {
-        match take_out(&mut self.items, &key) {
+        match self.items.pop(&key) {
             Some(item) if is_alive(now, item.expires_at) => LegReply::Deleted,
             _ => LegReply::NotFound,
         }

@@ -7,10 +7,10 @@ mod command;
 mod ended;
 mod error;
 mod expiry;
+mod key_hashing;
 pub mod laws;
 mod outcome;
 mod perform;
-mod recency;
 mod service;
 pub mod session;
 

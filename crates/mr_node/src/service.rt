@@ -1,10 +1,10 @@
 //! The service of requests that come as text.
-ghost use Rattle.std.specs.Prelude.{◌≡◌, ◌≢◌, ◌+◌, ◌*◌, ◌<◌, ◌≤◌, ℕ, List, [], length, true, false, Some, None, if◌then◌else◌};
-ghost use Rattle.mr_text.specs.Source.{AreOffered};
+ghost use Rattle.std.specs.Prelude.{◌≡◌, ◌≢◌, ◌<◌, ℕ, List, [], true, false, Some, None, if◌then◌else◌};
 ghost use Rattle.mr_text.specs.Stream.{Becomes, StandsFor};
 ghost use Rattle.mr_node.specs.Outcome.{Outcome};
 ghost use Rattle.mr_node.specs.Service.{ServiceIs};
-ghost use Rattle.mr_node.specs.Session.{SessionIs, station, read_length};
+ghost use Rattle.mr_node.specs.Session.{SessionIs, station, ReadsWithin, SpendsTurns, OneReadFailed, NoReadFailed, LastWriteFailed, NoWriteFailed};
+ghost use Rattle.mr_node.specs.steps.Counts.{Counts};
 ghost use Rattle.mr_node.specs.steps.Step.{RequestIs, StepIs};
 
 use crate::ended::Ended;
@@ -35,22 +35,13 @@ pub fn serve<P: Perform, S: Source, W: Sink, C: Clock>(
     ensures service { ServiceIs (Outcome C.reads C.failures P.did P.refused) (S.told reader.old) (S.told reader.new)
         (station clock.old node.old (W.told writer.old)) (station clock.new node.new (W.told writer.new)) result }
 
-    // At most `turns` reads are made, and at most one brings no byte: that of the end, or the one that failed. TurnsSpent
-    // comes after all of them, each of which brought a byte. Each read has room for as many bytes as the buffer holds, and
-    // none brings more.
-    ensures reads { (S.told reader.new).reads ≤ (S.told reader.old).reads + turns }
-    ensures brought { (S.told reader.new).reads + length (S.told reader.old).taken ≤ (S.told reader.old).reads + length (S.told reader.new).taken + 1 }
-    ensures spent { result ≡ Err NodeError.TurnsSpent → (S.told reader.new).reads ≡ (S.told reader.old).reads + turns }
-    ensures turns { result ≡ Err NodeError.TurnsSpent → length (S.told reader.old).taken + turns ≤ length (S.told reader.new).taken }
-    ensures bytes { length (S.told reader.new).taken ≤ length (S.told reader.old).taken + turns * read_length }
-    ensures room { AreOffered read_length (S.told reader.old).least_room → AreOffered read_length (S.told reader.new).least_room }
-
-    // A fault is answered only where that device failed, once, and none is passed over.
-    ensures read_fault { result ≡ Err NodeError.ReadFault → (S.told reader.new).failures ≡ (S.told reader.old).failures + 1 }
-    ensures no_read_fault { result ≢ Err NodeError.ReadFault → (S.told reader.new).failures ≡ (S.told reader.old).failures }
-    ensures write_fault { result ≡ Err NodeError.WriteFault → (W.told writer.new).failures ≡ (W.told writer.old).failures + 1 }
-    ensures no_write_fault { result ≢ Err NodeError.WriteFault → (W.told writer.new).failures ≡ (W.told writer.old).failures }
-    ensures last_failed { result ≡ Err NodeError.WriteFault → (W.told writer.new).last_failed ≡ true }
+    // TurnsSpent comes after all turns. A fault is answered only where that device failed, once, and none is passed over.
+    ensures reads { ReadsWithin turns (S.told reader.old) (S.told reader.new) }
+    ensures spent { result ≡ Err NodeError.TurnsSpent → SpendsTurns turns (S.told reader.old) (S.told reader.new) }
+    ensures read_fault { result ≡ Err NodeError.ReadFault → OneReadFailed (S.told reader.old) (S.told reader.new) }
+    ensures no_read_fault { result ≢ Err NodeError.ReadFault → NoReadFailed (S.told reader.old) (S.told reader.new) }
+    ensures write_fault { result ≡ Err NodeError.WriteFault → LastWriteFailed (W.told writer.old) (W.told writer.new) }
+    ensures no_write_fault { result ≢ Err NodeError.WriteFault → NoWriteFailed (W.told writer.old) (W.told writer.new) }
 {
     let mut requests = RequestReader::new(alloc);
     match serve_all(alloc, node, reader, &mut requests, writer, clock, turns) {
@@ -72,14 +63,7 @@ fn serve_all<P: Perform, S: Source, W: Sink, C: Clock>(
     requires { Becomes requests.old [] false false }
     ensures session { SessionIs (Outcome C.reads C.failures P.did P.refused) (S.told reader.old) (S.told reader.new)
         (station clock.old node.old (W.told writer.old)) (station clock.new node.new (W.told writer.new)) result }
-    ensures counts { ((S.told reader.new).reads ≤ (S.told reader.old).reads + turns)
-        × ((S.told reader.new).reads + length (S.told reader.old).taken ≤ (S.told reader.old).reads + length (S.told reader.new).taken + 1)
-        × (result ≡ Err SessionFault.TurnsSpent → ((S.told reader.new).reads ≡ (S.told reader.old).reads + turns)
-        × (length (S.told reader.old).taken + turns ≤ length (S.told reader.new).taken))
-        × (length (S.told reader.new).taken ≤ length (S.told reader.old).taken + turns * read_length)
-        × (AreOffered read_length (S.told reader.old).least_room → AreOffered read_length (S.told reader.new).least_room)
-        × (result ≡ Err SessionFault.ReadFault → (S.told reader.new).failures ≡ (S.told reader.old).failures + 1)
-        × (result ≢ Err SessionFault.ReadFault → (S.told reader.new).failures ≡ (S.told reader.old).failures) }
+    ensures counts { Counts turns (S.told reader.old) (S.told reader.new) result }
 {
     let mut buffer = [0; READ_LENGTH];
     let mut ended = false;

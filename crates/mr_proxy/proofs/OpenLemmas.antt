@@ -1,8 +1,8 @@
 -- How many legs may answer yet, from step to step.
-use Rattle.std.proofs.Common.{◌≡◌, ℕ, ◌+◌, ◌≤◌, ◌==◌, Bool, true, false, not, ◌||◌, cond, List, [], ◌∷◌, length, map, get_or, remove, slice_get, slice_set, sum_by, count_by, is_some, Option, Some, None, if◌then◌else◌, refl, sym, ap, ◌∙◌, arith}
+use Rattle.std.proofs.Common.{◌≡◌, ℕ, zero, suc, ◌+◌, ◌≤◌, ◌==◌, Bool, true, false, not, ◌||◌, cond, List, [], ◌∷◌, length, map, get_or, take, remove, slice_get, slice_set, sum_by, count_by, is_some, Option, Some, None, if◌then◌else◌, refl, sym, ap, ◌∙◌, arith}
 use Rattle.std.specs.List.{list_any}
 use Rattle.std.specs.Option.{option_and_then}
-use Rattle.std.proofs.lemmas.List.Sums.{sum_by-cons, sum_by_push, sum_by-set, sum_by-remove}
+use Rattle.std.proofs.lemmas.List.Sums.{sum_by-cons, sum_by_push, sum_by_more, sum_by-set, sum_by-remove}
 use Rattle.std.proofs.lemmas.Option.{slice_get_within, slice_get-get_or}
 use Rattle.std.proofs.lemmas.Map.Views.{exact_unsigned_eq}
 use Rattle.mr_text.specs.declared.request.Request.{Request}
@@ -179,3 +179,17 @@ complete_by slots false e = let none = none_open slots e in rw none refl
 -- it was the last one where none is counted any more
 pub noted_last : (pending : PendingView) → is_complete pending ≡ (count_by is_open pending.slots == 0)
 noted_last pending = complete_by pending.slots (list_any is_open pending.slots) refl
+
+-- one more request is counted
+pub counted : (list : List PendingView) (place : ℕ) (pending : PendingView) → slice_get list place ≡ Some pending
+    → sum_by open_count (take (place + 1) list) ≡ sum_by open_count (take place list) + open_count pending
+counted list place pending got =
+    let within = slice_get_within list place pending got in
+    let read = slice_get-get_or list place pending within in
+    let at : get_or list place pending ≡ pending = cc in
+    sum_by_more open_count list place pending within ∙ ap (λ (x : PendingView). sum_by open_count (take place list) + open_count x) at
+
+pub nothing_there : {X : Type 0} (list : List X) (place : ℕ) → slice_get list place ≡ None → length list ≤ place
+nothing_there [] place e = omega arith
+nothing_there (x ∷ list) zero e = cc
+nothing_there (x ∷ list) (suc place) e = let later = nothing_there list place e in omega arith

@@ -1,135 +1,76 @@
 -- What taking a reply, giving a request up and an issue leave.
-use Rattle.std.proofs.Common.{◌≡◌, ◌≢◌, ℕ, zero, suc, ◌<◌, ◌≤◌, Bool, true, false, List, [], ◌∷◌, length, map, get_or, remove, slice_get, slice_set, All, count_by, Option, Some, None, unwrap_or, if◌then◌else◌, refl, sym, ap, subst, ◌∙◌, arith}
-use Rattle.std.proofs.lemmas.Option.{slice_get_past, slice_get_within}
+use Rattle.std.proofs.Common.{◌≡◌, ◌≢◌, ℕ, ◌<◌, ◌≤◌, Bool, true, false, List, [], ◌∷◌, length, map, get_or, remove, slice_get, All, AllPairs, count_by, Option, Some, None, refl, sym, ap, subst, ◌∙◌, zero, suc, arith}
+use Rattle.std.specs.Option.{option_map, IfSome}
+use Rattle.std.proofs.lemmas.Option.{slice_get_within}
 use Rattle.std.proofs.lemmas.List.{length-map}
 use Rattle.mr_text.specs.declared.request.Request.{Request}
 use Rattle.mr_text.specs.declared.request.Request.TheVariants as request
 use Rattle.mr_history.specs.declared.op_id.OpId.{OpId}
 use Rattle.mr_join.specs.declared.leg_reply.LegReply.{LegReply}
-use Rattle.mr_proxy.specs.declared.pending.Noted.TheVariants as noted
+use Rattle.mr_proxy.specs.declared.outstanding.Settled.{Settled}
+use Rattle.mr_proxy.specs.declared.outstanding.Settled.TheVariants as settled
 use Rattle.mr_proxy.specs.declared.sheet.LegId.{LegId}
 use Rattle.mr_proxy.specs.declared.sheet.LegSheet.{LegSheet}
 use Rattle.mr_proxy.specs.declared.slot.Slot.{Slot}
 use Rattle.mr_proxy.specs.declared.taken.Taken.{Taken}
 use Rattle.mr_proxy.specs.declared.taken.Taken.TheVariants as taken
 use Rattle.mr_proxy.specs.Slots.{open_slot, is_open}
-use Rattle.mr_proxy.specs.Pending.{PendingView, is_complete, with_reply}
-use Rattle.mr_proxy.specs.steps.Noted.{noted_as}
-use Rattle.mr_proxy.specs.Answer.{AnswerView, answer_of}
+use Rattle.mr_proxy.specs.Pending.{PendingView, is_complete}
+use Rattle.mr_proxy.specs.Answer.{answer_of}
 use Rattle.mr_proxy.specs.ProxyView.{ProxyView}
 use Rattle.mr_proxy.specs.Issue.{next_op, used_reading, sheets_of, after_issue}
-use Rattle.mr_proxy.specs.Transitions.{place_of_op, noted_by, settled, after_take, taken_by, taken_of, left_by, after_give_up, given_up_in, given_up_of}
+use Rattle.mr_proxy.specs.Transitions.{place_of_op, pending_with, noted_by, settled as settled_by, after_take, taken_by, taken_of, left_by, after_give_up, given_up_in, given_up_of}
 use Rattle.mr_proxy.specs.Sheets.{IsPlaced}
 use Rattle.mr_proxy.specs.Sound.{HasLegs, IsSound, IsSoundAnswer}
 use Rattle.mr_proxy.specs.Sound.ProxyStep.{takes}
-use Rattle.mr_proxy.proofs.StepLemmas.{noted_at, remove_written, settled_complete}
+use Rattle.mr_proxy.specs.steps.Outstanding.{settled_at, list_settled, settled_as}
 use Rattle.mr_proxy.proofs.OpenLemmas.{all_open}
+use Rattle.mr_proxy.proofs.OutstandingLemmas.{remove_none}
 use Rattle.mr_proxy.proofs.SoundLemmas.{steps_keep_sound_lem, issue_sound, issued_some, nodes_within, last_reply_answers_lem, given_up_early_lem, removed}
 
--- a proxy after a reply, and what became of the reply
-pub record HasTaken (p : ProxyView) (id : LegId) (reply : LegReply) (list : List PendingView) (what : Taken) : Type 0 where
-  pub state : record p { outstanding = list } ≡ after_take p id reply
-  pub became : what ≡ taken_of p id reply
-  pub sound : IsSound (record p { outstanding = list })
-  pub answers : (answer : AnswerView) → what ≡ taken.Answered answer → IsSoundAnswer p answer
+-- a proxy whose number and incarnation stay, and whose list becomes another
+pub with_list : (p : ProxyView) (number incarnation : ℕ) (list other : List PendingView) → number ≡ p.number → incarnation ≡ p.incarnation → list ≡ other
+    → record p { number = number; incarnation = incarnation; outstanding = list } ≡ record p { outstanding = other }
+with_list p number incarnation list other same_number same_incarnation is = rw (same_number, same_incarnation, is) refl
 
-has_taken : (p : ProxyView) (id : LegId) (reply : LegReply) (list : List PendingView) (what : Taken) → IsSound p
-    → record p { outstanding = list } ≡ after_take p id reply → what ≡ taken_of p id reply → HasTaken p id reply list what
-has_taken p id reply list what s state is =
-    record {
-      state = state;
-      became = is;
-      sound = subst IsSound (sym state) (steps_keep_sound_lem p (after_take p id reply) s (takes id reply));
-      answers = λ answer e. last_reply_answers_lem p id reply answer s (sym is ∙ e);
-    }
+list_by : (p : ProxyView) (place : ℕ) (n : PendingView) (t : Bool) → is_complete n ≡ t
+    → record p { outstanding = settled_at p.outstanding place (Some n) } ≡ settled_by p place (Some n)
+list_by p place n true e = rw e
+list_by p place n false e = rw e
 
-after_noted : (p : ProxyView) (id : LegId) (reply : LegReply) (place : ℕ) (pending : PendingView) (w : Option PendingView)
-    → place ≡ place_of_op p.outstanding id.op → slice_get p.outstanding place ≡ Some pending → with_reply pending id.place reply ≡ w
-    → after_take p id reply ≡ settled p place w
-after_noted p id reply place pending w at got is =
-    ap (λ n. settled p n (noted_by p id reply)) (sym at) ∙ ap (settled p place) (noted_at p id reply place pending w at got is)
+list_at : (p : ProxyView) (place : ℕ) (w : Option PendingView) → record p { outstanding = settled_at p.outstanding place w } ≡ settled_by p place w
+list_at p place None = refl
+list_at p place (Some n) = list_by p place n (is_complete n) refl
 
-taken_noted : (p : ProxyView) (id : LegId) (reply : LegReply) (place : ℕ) (pending : PendingView) (w : Option PendingView)
-    → place ≡ place_of_op p.outstanding id.op → slice_get p.outstanding place ≡ Some pending → with_reply pending id.place reply ≡ w
-    → taken_of p id reply ≡ taken_by reply w
-taken_noted p id reply place pending w at got is = ap (taken_by reply) (noted_at p id reply place pending w at got is)
+-- a reply changes the list alone
+pub taken_list : (p : ProxyView) (id : LegId) (reply : LegReply) → record p { outstanding = list_settled p.outstanding id reply } ≡ after_take p id reply
+taken_list p id reply = list_at p (place_of_op p.outstanding id.op) (noted_by p id reply)
 
-written_same : {X : Type 0} (list : List X) (n : ℕ) (x : X) → slice_get list n ≡ Some x → slice_set list n x ≡ list
-written_same [] n x e = cc
-written_same (y ∷ list) zero x e = let is : y ≡ x = cc in ap (λ z. z ∷ list) (sym is)
-written_same (y ∷ list) (suc n) x e = ap (λ l. y ∷ l) (written_same list n x e)
+pub taken_sound : (p : ProxyView) (id : LegId) (reply : LegReply) → IsSound p → IsSound (record p { outstanding = list_settled p.outstanding id reply })
+taken_sound p id reply s = subst IsSound (sym (taken_list p id reply)) (steps_keep_sound_lem p (after_take p id reply) s (takes id reply))
 
-read_written : {X : Type 0} (list : List X) (n : ℕ) (x d : X) → n < length list → get_or (slice_set list n x) n d ≡ x
-read_written [] n x d below = absurd (omega arith)
-read_written (y ∷ list) zero x d below = refl
-read_written (y ∷ list) (suc n) x d below = read_written list n x d (omega arith)
+-- what a proxy says of what became of a reply
+abbrev pub taken_as : Settled → Taken
+taken_as (settled.Stranger reply) = taken.Stranger reply
+taken_as settled.Waiting = taken.Waiting
+taken_as (settled.Last pending) = taken.Answered (answer_of pending false)
 
-not_stranger : (t : Bool) (back : LegReply) → noted.Stranger back ≡ (if t then noted.Last else noted.Waiting) → ⊥
-not_stranger true back e = cc
-not_stranger false back e = cc
+as_taken_by : (reply : LegReply) (n : PendingView) (t : Bool) → is_complete n ≡ t → taken_as (settled_as reply (Some n)) ≡ taken_by reply (Some n)
+as_taken_by reply n true e = rw e refl
+as_taken_by reply n false e = rw e refl
 
-waits : (t : Bool) → noted.Waiting ≡ (if t then noted.Last else noted.Waiting) → t ≡ false
-waits true e = cc
-waits false e = refl
+as_taken : (reply : LegReply) (w : Option PendingView) → taken_as (settled_as reply w) ≡ taken_by reply w
+as_taken reply None = refl
+as_taken reply (Some n) = as_taken_by reply n (is_complete n) refl
 
-lasts : (t : Bool) → noted.Last ≡ (if t then noted.Last else noted.Waiting) → t ≡ true
-lasts true e = refl
-lasts false e = cc
+pub became : (p : ProxyView) (id : LegId) (reply : LegReply) (what : Settled) → what ≡ settled_as reply (noted_by p id reply) → taken_as what ≡ taken_of p id reply
+became p id reply what is = ap taken_as is ∙ as_taken reply (noted_by p id reply)
 
-same_back : (back reply : LegReply) → noted.Stranger back ≡ noted.Stranger reply → back ≡ reply
-same_back back reply e = cc
-
-settled_waiting : (p : ProxyView) (place : ℕ) (n : PendingView) → is_complete n ≡ false
-    → settled p place (Some n) ≡ record p { outstanding = slice_set p.outstanding place n }
-settled_waiting p place n e = rw e
-
-taken_waiting : (reply : LegReply) (n : PendingView) → is_complete n ≡ false → taken_by reply (Some n) ≡ taken.Waiting
-taken_waiting reply n e = rw e
-
-taken_complete : (reply : LegReply) (n : PendingView) → is_complete n ≡ true → taken_by reply (Some n) ≡ taken.Answered (answer_of n false)
-taken_complete reply n e = rw e
-
--- the request hands the reply back
-pub stranger_taken : (p : ProxyView) (id : LegId) (reply back : LegReply) (place : ℕ) (pending new : PendingView) (w : Option PendingView) → IsSound p
-    → place ≡ place_of_op p.outstanding id.op → slice_get p.outstanding place ≡ Some pending → with_reply pending id.place reply ≡ w
-    → noted.Stranger back ≡ noted_as reply w → new ≡ unwrap_or w pending
-    → HasTaken p id reply (slice_set p.outstanding place new) (taken.Stranger back)
-stranger_taken p id reply back place pending new None s at got is told now =
-    let same : slice_set p.outstanding place new ≡ p.outstanding =
-    ap (slice_set p.outstanding place) now ∙ written_same p.outstanding place pending got in
-    has_taken p id reply (slice_set p.outstanding place new) (taken.Stranger back) s
-    (ap (λ (l : List PendingView). record p { outstanding = l }) same ∙ sym (after_noted p id reply place pending None at got is))
-    (ap taken.Stranger (same_back back reply told) ∙ sym (taken_noted p id reply place pending None at got is))
-stranger_taken p id reply back place pending new (Some n) s at got is told now = absurd (not_stranger (is_complete n) back told)
-
--- the reply is noted, and others may come
-pub waiting_taken : (p : ProxyView) (id : LegId) (reply : LegReply) (place : ℕ) (pending new : PendingView) (w : Option PendingView) → IsSound p
-    → place ≡ place_of_op p.outstanding id.op → slice_get p.outstanding place ≡ Some pending → with_reply pending id.place reply ≡ w
-    → noted.Waiting ≡ noted_as reply w → new ≡ unwrap_or w pending
-    → HasTaken p id reply (slice_set p.outstanding place new) taken.Waiting
-waiting_taken p id reply place pending new None s at got is told now = cc
-waiting_taken p id reply place pending new (Some n) s at got is told now =
-    let open_left = waits (is_complete n) told in
-    has_taken p id reply (slice_set p.outstanding place new) taken.Waiting s
-    (ap (λ (x : PendingView). record p { outstanding = slice_set p.outstanding place x }) now ∙ sym (settled_waiting p place n open_left)
-    ∙ sym (after_noted p id reply place pending (Some n) at got is))
-    (sym (taken_waiting reply n open_left) ∙ sym (taken_noted p id reply place pending (Some n) at got is))
-
--- the reply is noted as the last one, and the request leaves
-pub last_taken : (p : ProxyView) (id : LegId) (reply : LegReply) (place : ℕ) (pending new out : PendingView) (rest : List PendingView) (w : Option PendingView)
-    → IsSound p → place ≡ place_of_op p.outstanding id.op → slice_get p.outstanding place ≡ Some pending → with_reply pending id.place reply ≡ w
-    → noted.Last ≡ noted_as reply w → new ≡ unwrap_or w pending
-    → rest ≡ remove (slice_set p.outstanding place new) place → out ≡ get_or (slice_set p.outstanding place new) place out
-    → HasTaken p id reply rest (taken.Answered (answer_of out false))
-last_taken p id reply place pending new out rest None s at got is told now gone read = cc
-last_taken p id reply place pending new out rest (Some n) s at got is told now gone read =
-    let complete = lasts (is_complete n) told in
-    let out_is : out ≡ n = read ∙ read_written p.outstanding place new out (slice_get_within p.outstanding place pending got) ∙ now in
-    has_taken p id reply rest (taken.Answered (answer_of out false)) s
-    (ap (λ (l : List PendingView). record p { outstanding = l }) (gone ∙ remove_written p.outstanding place new) ∙ sym (settled_complete p place n complete)
-    ∙ sym (after_noted p id reply place pending (Some n) at got is))
-    (ap (λ (x : PendingView). taken.Answered (answer_of x false)) out_is ∙ sym (taken_complete reply n complete)
-    ∙ sym (taken_noted p id reply place pending (Some n) at got is))
+-- the answer to a request whose last reply came
+pub last_answers : (p : ProxyView) (id : LegId) (reply : LegReply) (pending : PendingView) → IsSound p
+    → settled.Last pending ≡ settled_as reply (noted_by p id reply) → IsSoundAnswer p (answer_of pending false)
+last_answers p id reply pending s is =
+    last_reply_answers_lem p id reply (answer_of pending false) s (sym (became p id reply (settled.Last pending) is))
 
 -- a proxy once a request is given up, and its answer
 pub record HasGivenUp (p : ProxyView) (op : OpId) (list : List PendingView) (out : PendingView) : Type 0 where
@@ -138,27 +79,45 @@ pub record HasGivenUp (p : ProxyView) (op : OpId) (list : List PendingView) (out
   pub sound : IsSound (record p { outstanding = list })
   pub answers : IsSoundAnswer p (answer_of out true)
 
-pub given_up_at : (p : ProxyView) (op : OpId) (place : ℕ) (out : PendingView) (rest : List PendingView) → IsSound p
-    → place ≡ place_of_op p.outstanding op → slice_get p.outstanding place ≡ Some out → rest ≡ remove p.outstanding place
-    → HasGivenUp p op rest out
-given_up_at p op place out rest s at got gone =
-    let answer : given_up_of p op ≡ Some (answer_of out true) =
-    ap (λ n. given_up_in (slice_get p.outstanding n)) (sym at) ∙ ap given_up_in got in
-    let state : record p { outstanding = rest } ≡ after_give_up p op =
-    ap (λ (l : List PendingView). record p { outstanding = l }) gone
-    ∙ sym (ap (λ n. left_by p n (slice_get p.outstanding n)) (sym at) ∙ ap (left_by p place) got) in
+pub given_up : (p : ProxyView) (op : OpId) (out : PendingView) → IsSound p → pending_with p.outstanding op ≡ Some out
+    → HasGivenUp p op (remove p.outstanding (place_of_op p.outstanding op)) out
+given_up p op out s got =
+    let answer : given_up_of p op ≡ Some (answer_of out true) = ap given_up_in got in
     record {
-      state = state;
+      state = sym (ap (left_by p (place_of_op p.outstanding op)) got);
       answer = answer;
-      sound =
-          subst (λ (l : List PendingView). IsSound (record p { outstanding = l })) (sym gone)
-          (removed p place (slice_get_within p.outstanding place out got) s);
+      sound = removed p (place_of_op p.outstanding op) (slice_get_within p.outstanding (place_of_op p.outstanding op) out got) s;
       answers = given_up_early_lem p op (answer_of out true) s answer;
     }
 
 -- no request of that name is under way
-pub given_up_none : (p : ProxyView) (op : OpId) → length p.outstanding ≤ place_of_op p.outstanding op → given_up_of p op ≡ None
-given_up_none p op past = ap given_up_in (slice_get_past p.outstanding (place_of_op p.outstanding op) past)
+pub record HasNone (p : ProxyView) (op : OpId) : Type 0 where
+  pub unknown : given_up_of p op ≡ None
+  pub list : remove p.outstanding (place_of_op p.outstanding op) ≡ p.outstanding
+  pub state : after_give_up p op ≡ p
+
+pub given_up_none : (p : ProxyView) (op : OpId) → pending_with p.outstanding op ≡ None → HasNone p op
+given_up_none p op none =
+    record {
+      unknown = ap given_up_in none;
+      list = remove_none p.outstanding (place_of_op p.outstanding op) none;
+      state = ap (left_by p (place_of_op p.outstanding op)) none;
+    }
+
+least_in : (list : List PendingView) → AllPairs (λ (earlier later : PendingView). earlier.op.number < later.op.number) list → (op : OpId)
+    → option_map (λ (pending : PendingView). pending.op) (slice_get list 0) ≡ Some op → All (λ pending. op.number ≤ pending.op.number) list
+least_in [] order op e k d below = cc
+least_in (first ∷ list) order op e k d below = by k below
+  where
+    by : (k : ℕ) → k < length (first ∷ list) → op.number ≤ (get_or (first ∷ list) k d).op.number
+    by zero below = let is : first.op ≡ op = cc in let same = ap (λ (o : OpId). o.number) is in omega arith
+    by (suc k) below = let is : first.op ≡ op = cc in let same = ap (λ (o : OpId). o.number) is in let less = order zero (suc k) d (omega arith) below in omega arith
+
+-- the request that was issued first has the least number
+pub oldest_least : (list : List PendingView) → AllPairs (λ (earlier later : PendingView). earlier.op.number < later.op.number) list → (o : Option OpId)
+    → o ≡ option_map (λ (pending : PendingView). pending.op) (slice_get list 0) → IfSome o (λ op. All (λ pending. op.number ≤ pending.op.number) list)
+oldest_least list order None e = tt
+oldest_least list order (Some op) e = least_in list order op (sym e)
 
 -- each leg of a request that was just sent is open
 pub sent_open : (slots : List Slot) (sheets : List LegSheet) → slots ≡ map open_slot sheets → count_by is_open slots ≡ length slots

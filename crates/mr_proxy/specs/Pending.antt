@@ -1,5 +1,5 @@
 -- A request that is under way.
-use Rattle.std.specs.Prelude.{ℕ, Bool, ◌&&◌, ◌==◌, not, List, Option, Some, None, map, slice_get, slice_set, if◌then◌else◌}
+use Rattle.std.specs.Prelude.{ℕ, Bool, not, List, Option, Some, None, map, slice_get, slice_set, if◌then◌else◌}
 use Rattle.std.specs.List.{list_any}
 use Rattle.mr_text.specs.declared.request.Request.{Request}
 use Rattle.mr_history.specs.declared.op_id.OpId.{OpId}

@@ -1,5 +1,7 @@
 -- What a proxy keeps.
-use Rattle.std.specs.Prelude.{◌≡◌, ℕ, List, [], Option, None}
+use Rattle.std.specs.Prelude.{◌≡◌, ℕ, List, [], Option, None, slice_get}
+use Rattle.std.specs.Option.{option_map}
+use Rattle.mr_history.specs.declared.op_id.OpId.{OpId}
 use Rattle.mr_phases.specs.Schedule.{Hop}
 use Rattle.mr_pools.specs.Routing.{RoutingView}
 use Rattle.mr_proxy.specs.Pending.{PendingView}
@@ -26,6 +28,10 @@ fresh_proxy number incarnation routing schedule room =
 -- the fresh proxy of the same number, incarnation, routing, schedule and room
 abbrev pub opening_of : ProxyView → ProxyView
 opening_of p = fresh_proxy p.number p.incarnation p.routing p.schedule p.room
+
+-- the name of the request under way that was issued first
+abbrev pub oldest_of : ProxyView → Option OpId
+oldest_of p = option_map (λ pending. pending.op) (slice_get p.outstanding 0)
 
 -- nothing under way, no last reading, and no number given out
 pub record IsFresh (p : ProxyView) : Type 0 where

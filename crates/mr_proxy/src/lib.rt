@@ -9,6 +9,7 @@ mod join;
 pub mod laws;
 mod leg;
 mod legs_draft;
+mod outstanding;
 mod pending;
 mod proxy_core;
 mod room;

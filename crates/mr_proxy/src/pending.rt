@@ -4,7 +4,7 @@ ghost use Rattle.mr_proxy.specs.Slots.{is_open};
 
 use crate::room::room_for;
 use crate::slot::{Slot, same_slots};
-use mr_history::{OpId, is_same_op};
+use mr_history::OpId;
 use mr_join::LegReply;
 use mr_text::{Item, Request};
 use std::alloc::AllocError;
@@ -47,7 +47,6 @@ impl Model for Pending {
 }
 
 impl Pending {
-    ghost use Rattle.mr_history.specs.OpIds.{is_same_op};
     ghost use Rattle.mr_proxy.specs.Pending.{with_reply};
     ghost use Rattle.mr_proxy.specs.steps.Room.{HasRoomFor};
     ghost use Rattle.mr_proxy.specs.steps.Noted.{noted_as};
@@ -80,13 +79,6 @@ impl Pending {
         ensures { result ≡ self.now.op }
     {
         self.op
-    }
-
-    /// Whether this is the request's name.
-    pub(crate) fn has_op(&self, op: OpId) -> bool
-        ensures { result ≡ is_same_op self.now.op op }
-    {
-        is_same_op(self.op, op)
     }
 
     /// The request.

@@ -1,16 +1,16 @@
 //! One proxy: the requests under way, and what each step does to them.
-ghost use Rattle.std.specs.Prelude.{◌≡◌, ◌≢◌, ◌-◌, ◌^◌, ◌≤◌, ◌<◌, ◌↔◌, length, All, Some, None, IsTrue, IsOk, OnOk, OnErr, IfOk, IfErr, MatchOption, is_some};
+ghost use Rattle.std.specs.Prelude.{◌≡◌, ◌≢◌, ◌-◌, ◌^◌, ◌≤◌, ◌<◌, ◌↔◌, length, All, Some, None, IsTrue, IsOk, OnOk, OnErr, IfOk, IfErr, IfSome, is_some};
 ghost use Rattle.std.specs.Option.{option_copied};
 ghost use Rattle.mr_text.specs.declared.request.Request.{Request};
 ghost use Rattle.mr_phases.specs.Schedule.{IsSchedule};
 ghost use Rattle.mr_pools.specs.Routing.{IsRouting};
-ghost use Rattle.mr_proxy.specs.Transitions.{place_of_op};
 
 use crate::answer::Answer;
 use crate::error::ProxyError;
 use crate::issued::Issued;
 use crate::legs_draft::LegsDraft;
-use crate::pending::{Noted, Pending};
+use crate::outstanding::{Outstanding, Settled};
+use crate::pending::Pending;
 use crate::room::room_for;
 use crate::sheet::{LegId, LegSheet};
 use crate::taken::Taken;
@@ -25,11 +25,9 @@ use std::marker::Model;
 /// The core of one proxy. A request that it accepts becomes legs; the legs' replies become its answer.
 #[derive(Debug, Drop)]
 pub struct ProxyCore {
-    number: u32,
-    incarnation: u64,
+    outstanding: Outstanding,
     next: u64,
     last: Option<u64>,
-    outstanding: Vec<Pending>,
     routing: Routing,
     schedule: Schedule,
     room: u64,
@@ -41,11 +39,11 @@ impl Model for ProxyCore {
     ghost Value = { ProxyView };
 
     ghost view = { λ p. record {
-      number = p.number;
-      incarnation = p.incarnation;
+      number = p.outstanding.proxy;
+      incarnation = p.outstanding.incarnation;
       next = p.next;
       last = p.last;
-      outstanding = p.outstanding.items;
+      outstanding = p.outstanding.list;
       routing = p.routing;
       schedule = p.schedule;
       room = p.room;
@@ -54,30 +52,15 @@ impl Model for ProxyCore {
     ghost use Rattle.mr_proxy.specs.Sound.{IsSound};
 
     ghost invariant = { λ p. IsSound (record {
-      number = p.number;
-      incarnation = p.incarnation;
+      number = p.outstanding.proxy;
+      incarnation = p.outstanding.incarnation;
       next = p.next;
       last = p.last;
-      outstanding = p.outstanding.items;
+      outstanding = p.outstanding.list;
       routing = p.routing;
       schedule = p.schedule;
       room = p.room;
     }) };
-}
-
-/// Where the request of an op stands among those under way.
-#[tactic(auto, using(std::proofs::lemmas::List::Sums::position_or_len_is))]
-fn position_of(outstanding: &[Pending], op: OpId) -> Option<usize>
-    ensures { MatchOption result
-        (length outstanding.now ≤ place_of_op outstanding.now op)
-        (λ place. (place ≡ place_of_op outstanding.now op) × (place < length outstanding.now)) }
-{
-    for (place, pending) in outstanding.iter().enumerate() {
-        if pending.has_op(op) {
-            return Some(place);
-        }
-    }
-    None
 }
 
 /// Does nothing but tell the prover what the types of both keep: no node stands in two pools of a routing, and the
@@ -91,7 +74,7 @@ fn are_sound(routing: &Routing, schedule: &Schedule)
 }
 
 impl ProxyCore {
-    ghost use Rattle.mr_proxy.specs.ProxyView.{fresh_proxy, opening_of, IsFresh, AreAlike};
+    ghost use Rattle.mr_proxy.specs.ProxyView.{fresh_proxy, opening_of, oldest_of, IsFresh, AreAlike};
     ghost use Rattle.mr_proxy.specs.Issue.{next_op, used_reading, sheets_of, refusal_of, IsRefusal, after_issue};
     ghost use Rattle.mr_proxy.specs.Transitions.{open_sheet, open_legs_of, taken_of, after_take, given_up_of, after_give_up, after_restart};
     ghost use Rattle.mr_proxy.specs.Answer.{AnswerView};
@@ -111,11 +94,9 @@ impl ProxyCore {
     {
         are_sound(&routing, &schedule);
         ProxyCore {
-            number,
-            incarnation,
+            outstanding: Outstanding::new(alloc, number, incarnation),
             next: 0,
             last: None,
-            outstanding: Vec::new(alloc),
             routing,
             schedule,
             room,
@@ -150,16 +131,12 @@ impl ProxyCore {
     fn next_op(&self) -> OpId
         ensures { result ≡ next_op self.now }
     {
-        OpId {
-            proxy: self.number,
-            incarnation: self.incarnation,
-            number: self.next,
-        }
+        self.outstanding.op(self.next)
     }
 
     /// Accepts a request at a reading of the proxy's clock, in seconds since the epoch. Its legs go by the larger of
     /// that reading and the last one used. A refusal hands the request back and changes nothing; refusals are tried in
-    /// the order NumbersSpent, NoRoom, OutOfMemory.
+    /// the order NumbersSpent, NoRoom, OutOfMemory. Its cost grows with the legs, and not with the requests under way.
     pub fn issue(&mut self, reading: u64, request: Request) -> Result<Issued, (ProxyError, Request)>
         requires { request ≢ Request.Quit }
         ensures accepted { OnOk result (refusal_of self.old ≡ None) }
@@ -174,7 +151,7 @@ impl ProxyCore {
         if let Some(refusal) = self.refusal() {
             return Err((refusal, request));
         }
-        let alloc = *self.outstanding.allocator();
+        let alloc = self.outstanding.allocator();
         let op = self.next_op();
         let used = self.reading_used(reading);
         let Ok(draft) = LegsDraft::of(alloc, &self.routing, self.schedule, op, used, &request)
@@ -184,35 +161,35 @@ impl ProxyCore {
         let Ok(items) = room_for(alloc, &request) else {
             return Err((ProxyError::OutOfMemory, request));
         };
-        if self.outstanding.reserve(1).is_err() {
+        if self.outstanding.reserve().is_err() {
             return Err((ProxyError::OutOfMemory, request));
         }
         let (slots, legs) = draft.into_parts();
         self.outstanding
-            .push_reserved(Pending::new(op, request, used, slots, items));
+            .add(Pending::new(op, request, used, slots, items));
         self.next += 1;
         self.last = Some(used);
         Ok(Issued { op, legs })
     }
 
     /// Takes the reply of a leg. A reply that no leg awaits is a stranger, and changes nothing. The legs of an answer
-    /// are those of the reading by which its request was judged.
+    /// are those of the reading by which its request was judged. The last reply of a request looks for its number by halves
+    /// among those under way, and moves the numbers on the shorter side of it by one place; any other costs the same,
+    /// whatever is under way.
     pub fn take_reply(&mut self, id: LegId, reply: LegReply) -> Taken
         ensures taken { result ≡ taken_of self.old id reply }
         ensures state { self.new ≡ after_take self.old id reply }
         ensures sound { (answer : AnswerView) → result ≡ Taken.Answered answer → IsSoundAnswer self.old answer }
     {
-        let Some(place) = position_of(&self.outstanding, id.op) else {
-            return Taken::Stranger(reply);
-        };
-        match self.outstanding[place].take(id.place, reply) {
-            Noted::Stranger(reply) => Taken::Stranger(reply),
-            Noted::Waiting => Taken::Waiting,
-            Noted::Last => Taken::Answered(Answer::of(self.outstanding.remove(place), false)),
+        match self.outstanding.take(id, reply) {
+            Settled::Stranger(reply) => Taken::Stranger(reply),
+            Settled::Waiting => Taken::Waiting,
+            Settled::Last(pending) => Taken::Answered(Answer::of(pending, false)),
         }
     }
 
-    /// Gives a request up: each leg that didn't answer counts as lost. NoSuchOp where it isn't under way.
+    /// Gives a request up: each leg that didn't answer counts as lost. NoSuchOp where it isn't under way. It costs what a
+    /// last reply does.
     pub fn give_up(&mut self, op: OpId) -> Result<Answer, ProxyError>
         ensures answer { IfOk result (λ answer. given_up_of self.old op ≡ Some answer) }
         ensures sound { IfOk result (λ answer. IsSoundAnswer self.old answer) }
@@ -220,9 +197,9 @@ impl ProxyCore {
         ensures state { self.new ≡ after_give_up self.old op }
         ensures unchanged { OnErr result (self.new ≡ self.old) }
     {
-        match position_of(&self.outstanding, op) {
+        match self.outstanding.remove(op) {
             None => Err(ProxyError::NoSuchOp),
-            Some(place) => Ok(Answer::of(self.outstanding.remove(place), true)),
+            Some(pending) => Ok(Answer::of(pending, true)),
         }
     }
 
@@ -232,13 +209,12 @@ impl ProxyCore {
         ensures state { OnOk result (self.new ≡ after_restart self.old) }
         ensures spent { IfErr result (λ e. (e ≡ ProxyError.NumbersSpent) × (self.new ≡ self.old)) }
     {
-        if self.incarnation == u64::MAX {
+        if self.outstanding.incarnation() == u64::MAX {
             return Err(ProxyError::NumbersSpent);
         }
-        self.incarnation += 1;
+        self.outstanding.restart();
         self.next = 0;
         self.last = None;
-        self.outstanding.clear();
         Ok(())
     }
 
@@ -246,14 +222,14 @@ impl ProxyCore {
     pub fn number(&self) -> u32
         ensures { result ≡ self.now.number }
     {
-        self.number
+        self.outstanding.proxy()
     }
 
     /// How often the proxy was restarted.
     pub fn incarnation(&self) -> u64
         ensures { result ≡ self.now.incarnation }
     {
-        self.incarnation
+        self.outstanding.incarnation()
     }
 
     /// The number of the next request: how many this incarnation accepted.
@@ -299,37 +275,43 @@ impl ProxyCore {
         self.outstanding.len()
     }
 
+    /// The name of the request under way that was issued first, which has the least number of them; None where nothing is
+    /// under way. It takes no memory, and looks at that one alone.
+    pub fn oldest(&self) -> Option<OpId>
+        ensures first { result ≡ oldest_of self.now }
+        ensures least { IfSome result (λ op. All (λ pending. op.number ≤ pending.op.number) self.now.outstanding) }
+    {
+        self.outstanding.oldest()
+    }
+
     /// Whether the request of this op is under way.
     pub fn is_outstanding(&self, op: OpId) -> bool
         ensures { result ≡ is_some (given_up_of self.now op) }
     {
-        position_of(&self.outstanding, op).is_some()
+        self.outstanding.find(op).is_some()
     }
 
-    /// How many legs may answer yet. Every request may have many, so the count is wider than that of requests.
+    /// How many legs may answer yet. Every request may have many, so the count is wider than that of requests. It looks at
+    /// each request under way.
     pub fn open_legs(&self) -> u128
         ensures { result ≡ open_legs_of self.now }
     {
-        let mut total = 0u128;
-        for pending in &self.outstanding {
-            total += pending.open_legs() as u128;
-        }
-        total
+        self.outstanding.open_legs()
     }
 
     /// Whether nothing is under way, no reading was used, and no number given out.
     pub fn is_fresh(&self) -> bool
         ensures { IsTrue result ↔ IsFresh self.now }
     {
-        self.outstanding.is_empty() && self.last.is_none() && self.next == 0
+        self.outstanding.len() == 0 && self.last.is_none() && self.next == 0
     }
 
     /// Whether the other proxy has the same number, incarnation, routing, schedule and room, whatever is under way.
     pub fn alike(&self, other: &ProxyCore) -> bool
         ensures { IsTrue result ↔ AreAlike self.now other.now }
     {
-        self.number == other.number
-            && self.incarnation == other.incarnation
+        self.number() == other.number()
+            && self.incarnation() == other.incarnation()
             && self.routing.same_as(&other.routing)
             && self.schedule.same_as(&other.schedule)
             && self.room == other.room
@@ -360,8 +342,8 @@ impl ProxyCore {
     pub fn sheet_of(&self, id: LegId) -> Option<&LegSheet>
         ensures { option_copied result ≡ open_sheet self.now id }
     {
-        let place = position_of(&self.outstanding, id.op)?;
-        let slot = self.outstanding[place].slots().get(id.place as usize)?;
+        let pending = self.outstanding.find(id.op)?;
+        let slot = pending.slots().get(id.place as usize)?;
         if slot.is_open() {
             Some(&slot.sheet)
         } else {
@@ -376,8 +358,8 @@ impl ProxyCore {
         let routing = self.routing.copy()?;
         Ok(ProxyCore::new(
             alloc,
-            self.number,
-            self.incarnation,
+            self.number(),
+            self.incarnation(),
             routing,
             self.schedule,
             self.room,

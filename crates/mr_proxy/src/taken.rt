@@ -1,6 +1,9 @@
 //! What becomes of a reply that came back.
+ghost use Rattle.std.specs.Prelude.{◌≡◌, IfOk};
+
 use crate::answer::Answer;
 use mr_join::LegReply;
+use std::alloc::AllocError;
 
 /// What became of a reply.
 #[derive(Debug, Drop)]
@@ -11,4 +14,17 @@ pub enum Taken {
     Answered(Answer),
     /// No leg awaits it: here it is back, and nothing changed.
     Stranger(LegReply),
+}
+
+impl Taken {
+    /// An equal value.
+    pub fn copy(&self) -> Result<Taken, AllocError>
+        ensures { IfOk result (λ taken. taken ≡ self.now) }
+    {
+        Ok(match self {
+            Taken::Waiting => Taken::Waiting,
+            Taken::Answered(answer) => Taken::Answered(answer.copy()?),
+            Taken::Stranger(reply) => Taken::Stranger(reply.copy()?),
+        })
+    }
 }

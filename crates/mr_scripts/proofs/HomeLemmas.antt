@@ -13,11 +13,11 @@ use Rattle.mr_world.specs.declared.setup.ProxySetup.{ProxySetup}
 use Rattle.mr_configs.specs.Checking.{◌>>=◌, only_if}
 use Rattle.mr_configs.specs.Config.{ConfigView, config_of, config_keys, config_between, hash_of}
 use Rattle.mr_configs.specs.Fields.{Text, object_check, field, list_of, values_in, whole_number, text_of}
-use Rattle.mr_scripts.specs.Homes.{pool_name_at, servers_at, names_at, pools_at, config_at, values_name, node_at, are_housed, values_have_room}
+use Rattle.mr_scripts.specs.Homes.{servers_at, names_at, pools_at, config_at, values_name, node_at, are_housed, values_have_room}
 use Rattle.mr_scripts.specs.Lists.{all_of}
 use Rattle.mr_configs.specs.Pools.{names_in, texts_of, pool_of_names, pool_in, pools_check}
 use Rattle.mr_configs.specs.Route.{Migration, name_pointed_to, pool_behind, migration_of, is_migration, route_keys, interval_of, schedule_of}
-use Rattle.mr_scripts.specs.Setups.{held_of, proxy_of, config_or, proxy_keys, held_keys, pools_name, proxies_name, have_homes, have_room, checked_setup}
+use Rattle.mr_scripts.specs.Setups.{held_of, proxy_of, config_or, proxy_keys, held_keys, pools_name, proxies_name, have_homes, have_room}
 use Rattle.mr_scripts.specs.Numbers.{small_number}
 use Rattle.mr_scripts.specs.SetupDraft.{setup_between}
 use Rattle.mr_scripts.specs.Texts.{key_of, block_of, node_name_of, node_name_of_text}
@@ -34,7 +34,7 @@ pub taken : {X Y E : Type 0} (given : Result X E) (next : X → Result Y E) (mad
 taken (Ok value) next made e = record { value = value; gave = refl; went = e }
 taken (Err refusal) next made e = cc
 
-there : {X E : Type 0} (given : Option X) (refusal : E) (value : X) → ok_or given refusal ≡ Ok value → given ≡ Some value
+pub there : {X E : Type 0} (given : Option X) (refusal : E) (value : X) → ok_or given refusal ≡ Ok value → given ≡ Some value
 there None refusal value e = cc
 there (Some other) refusal value e = cc
 

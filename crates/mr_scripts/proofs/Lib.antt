@@ -1,6 +1,7 @@
 pub mod EventLemmas
 pub mod HomeLemmas
 pub mod ListLemmas
+pub mod OrderLemmas
 pub mod ReadingLemmas
 pub mod RefusalLemmas
 pub mod ScriptLemmas

@@ -1,6 +1,5 @@
 -- JSON values that are read one after another.
-use Rattle.std.proofs.Common.{◌≡◌, ℕ, ◌+◌, ◌<◌, ◌≤◌, List, [], ◌∷◌, ◌++◌, length, get_or, map, drop, Ok, Err, Result, refl, sym, ap, ◌∙◌, subst}
-use Rattle.std.proofs.lemmas.List.{drop_all, append-nil}
+use Rattle.std.proofs.Common.{◌≡◌, ℕ, ◌+◌, ◌<◌, List, [], ◌∷◌, ◌++◌, length, get_or, map, drop, Ok, Err, Result, ap, ◌∙◌, subst}
 use Rattle.std.specs.Result.{result_err}
 use Rattle.std.specs.Prelude.{IsOk}
 use Rattle.serde_json.specs.Data.{Data}

@@ -1,12 +1,11 @@
 -- The tests of a setup say whether the fleet can be made.
-use Rattle.std.proofs.Common.{rules, ◌≡◌, ℕ, zero, suc, ◌<◌, ◌≤◌, ◌||◌, ◌&&◌, Bool, true, false, List, [], ◌∷◌, length, slice_index_or, nat_le, not, Result, Ok, Err, if◌then◌else◌, All, Contains, inl, inr, ◌⊎◌, refl, subst, arith, leb-true}
+use Rattle.std.proofs.Common.{◌≡◌, ℕ, zero, suc, ◌<◌, ◌≤◌, ◌||◌, ◌&&◌, Bool, true, false, List, [], ◌∷◌, length, slice_index_or, nat_le, Result, Ok, Err, if◌then◌else◌, All, Contains, inl, inr, ◌⊎◌, refl, subst, arith, leb-true}
 use Rattle.std.specs.Prelude.{codes}
 use Rattle.serde_json.specs.Data.{Data}
 use Rattle.serde_json.specs.View.{view}
-use Rattle.serde_json.specs.Written.{has_float}
 use Rattle.std.specs.Str.{bytes_eq}
 use Rattle.std.proofs.lemmas.Slice.Eq.{bytes_eq-Decides}
-use Rattle.mr_world.specs.Setup.{SetupView, CanBeMade, IsNamed, NamesNode, HasNamedNode}
+use Rattle.mr_world.specs.Setup.{SetupView, CanBeMade, IsNamed}
 use Rattle.mr_world.specs.declared.error.WorldError.TheVariants.{NoSuchNode}
 use Rattle.mr_world.specs.declared.event.Event.{Event}
 use Rattle.mr_world.specs.declared.setup.HeldItem.{HeldItem}
@@ -20,7 +19,7 @@ use Rattle.mr_scripts.specs.Lists.{all_of}
 use Rattle.mr_scripts.specs.Script.{ScriptParts, ScriptView, script_keys, format_check, count_in, counts_check, script_in, IsScript, IsPlayable}
 use Rattle.mr_scripts.specs.Setups.{pools_name, proxies_name, have_homes, have_room, checked_setup, held_of, proxy_of, setup_keys, setup_of}
 use Rattle.mr_configs.specs.declared.error.PlanError.{PlanError}
-use Rattle.mr_configs.specs.declared.error.PlanError.TheVariants.{BadSetup, TooLarge, WrongKind}
+use Rattle.mr_configs.specs.declared.error.PlanError.TheVariants.{BadSetup, TooLarge}
 use Rattle.mr_scripts.proofs.HomeLemmas.{taken}
 
 left_true : (a b : Bool) → (a && b) ≡ true → a ≡ true
@@ -148,13 +147,6 @@ playable setup events parts e made few =
     let P : ScriptParts → Type 0 = λ parts. IsPlayable parts.setup in
     subst P same (record { made = made; few = few })
 
-same_parts : (said : ScriptParts) (setup : SetupView) (events : List Event) →
-    ◌≡◌ {A = Result ScriptParts PlanError} (Ok said) (Ok (record { setup = setup; events = events })) → IsPlayable said.setup → IsPlayable setup
-same_parts said setup events e is =
-    let same : said ≡ record { setup = setup; events = events } = cc in
-    let P : ScriptParts → Type 0 = λ parts. IsPlayable parts.setup in
-    subst P same is
-
 setup_made : (value : Data) (setup : SetupView) → setup_of value ≡ Ok setup → CanBeMade setup
 setup_made value setup e =
     let keys = taken (object_check setup_keys value)
@@ -186,10 +178,8 @@ parts_playable value parts e =
     (few_proxies (length fleet.value.held) (length fleet.value.proxies) (count_in events.value) counts.value counts.gave)
 
 pub script_playable : (script : ScriptView) → IsScript script → IsPlayable script.setup
-script_playable script e =
+script_playable script is =
     let value = view script.json in
     let parts : ScriptParts = record { setup = script.setup; events = script.events } in
-    let keys = taken (object_check script_keys value) (λ _. script_in value >>= λ parts. only_if (not (has_float value)) WrongKind >>= λ _. Ok parts) parts e in
-    let said = taken (script_in value) (λ parts. only_if (not (has_float value)) WrongKind >>= λ _. Ok parts) parts keys.went in
-    let whole = taken (only_if (not (has_float value)) WrongKind) (λ _. Ok said.value) parts said.went in
-    same_parts said.value script.setup script.events whole.went (parts_playable value said.value said.gave)
+    let keys = taken (object_check script_keys value) (λ _. script_in value) parts is.says in
+    parts_playable value parts keys.went

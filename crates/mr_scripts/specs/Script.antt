@@ -1,5 +1,5 @@
 -- The script that a JSON value is: a fleet, and what happens to it.
-use Rattle.std.specs.Prelude.{◌≡◌, ℕ, ◌<◌, ◌≤◌, ◌⊎◌, ◌==◌, List, [], ◌∷◌, length, not, nat_le, Result, Ok, Err, codes}
+use Rattle.std.specs.Prelude.{◌≡◌, ℕ, ◌<◌, ◌≤◌, ◌⊎◌, ◌==◌, List, [], ◌∷◌, length, false, nat_le, Result, Ok, Err, codes}
 use Rattle.std.specs.Result.{result_unwrap_or}
 use Rattle.serde_json.specs.Data.{Data}
 use Rattle.serde_json.specs.View.{view}
@@ -60,15 +60,12 @@ script_keys = codes "events" ∷ codes "format" ∷ codes "setup" ∷ []
 
 -- the script that a value is, or the first of the refusals, in this order
 abbrev pub script_of : Data → Result ScriptParts PlanError
-script_of value =
-    object_check script_keys value >>= λ _.
-    script_in value >>= λ parts.
-    only_if (not (has_float value)) WrongKind >>= λ _.
-    Ok parts
+script_of value = object_check script_keys value >>= λ _. script_in value
 
--- a script is what its value says
-abbrev pub IsScript : ScriptView → Type 0
-IsScript script = script_of (view script.json) ≡ Ok (record { setup = script.setup; events = script.events })
+-- a script is what its value says, which has no number that isn't whole
+pub record IsScript (script : ScriptView) : Type 0 where
+  pub says : script_of (view script.json) ≡ Ok (record { setup = script.setup; events = script.events })
+  pub whole : has_float (view script.json) ≡ false
 
 -- the fleet of a script can be made, and is small
 pub record IsPlayable (setup : SetupView) : Type 0 where

@@ -11,7 +11,6 @@ ghost use Rattle.mr_scripts.specs.SetupDraft.{setup_drafted, IsSetupReady};
 use crate::events::{check_events, make_events};
 use crate::limits::{MAX_EVENTS, MAX_HELD, MAX_PROXIES, MAX_SCRIPT};
 use crate::setups::{SetupDraft, setup_draft};
-use crate::values::has_float;
 use mr_configs::fields::{check_object, field, list, whole_number};
 use mr_configs::{PlanError, json_of};
 use mr_world::{Event, Setup};
@@ -151,14 +150,7 @@ fn script_draft(value: &Value) -> Result<ScriptDraft<'_>, PlanError>
     ensures refused { IfErr result (λ e. script_of (view value.now) ≡ Err e) }
 {
     check_object(value, &SCRIPT_KEYS)?;
-    let draft = match parts_draft(value) {
-        Ok(draft) => draft,
-        Err(refusal) => return Err(refusal),
-    };
-    if has_float(value) {
-        return Err(PlanError::WrongKind);
-    }
-    Ok(draft)
+    parts_draft(value)
 }
 
 impl Script {
@@ -182,7 +174,6 @@ impl Script {
     }
 
     /// The fleet, what happens to it, and the JSON that both were read from, which has no number that isn't whole.
-    #[tactic(auto, using(crate::proofs::WholeLemmas::script_whole))]
     pub fn into_parts(self) -> (Setup, Vec<Event>, Value)
         ensures setup { result.0 ≡ self.setup }
         ensures events { result.1.items ≡ self.events }
@@ -193,6 +184,30 @@ impl Script {
         let _playable = self.setup();
         (self.setup, self.events, self.json)
     }
+
+    /// An equal script: the same fleet, the same events, and a JSON of the same value.
+    pub fn copy(&self) -> Result<Script, AllocError>
+        ensures setup { IfOk result (λ script. script.setup ≡ self.now.setup) }
+        ensures events { IfOk result (λ script. script.events ≡ self.now.events) }
+        ensures json { IfOk result (λ script. view script.json ≡ view self.now.json) }
+    {
+        Ok(Script {
+            setup: self.setup.copy()?,
+            events: copied_events(&self.events)?,
+            json: self.json.clone()?,
+        })
+    }
+}
+
+/// Equal events.
+fn copied_events(events: &Vec<Event>) -> Result<Vec<Event>, AllocError>
+    ensures { IfOk result (λ copied. copied.items ≡ events.now.items) }
+{
+    let mut copied = Vec::with_capacity(*events.allocator(), events.len())?;
+    for event in events {
+        copied.push(event.copy()?)?;
+    }
+    Ok(copied)
 }
 
 /// The script that a JSON text is. Refusals, in this order: TooLarge where the text has more than 16,777,216 bytes; NotJson;

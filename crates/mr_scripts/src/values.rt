@@ -1,47 +1,9 @@
-//! What is asked of whole JSON values.
+//! Whether two JSON values say the same.
 ghost use Rattle.std.specs.Prelude.{◌≡◌, ◌==◌};
 ghost use Rattle.serde_json.specs.View.{view, number_view, items_view, members_view};
-ghost use Rattle.serde_json.specs.Written.{has_float, items_have_float, members_have_float};
 ghost use Rattle.mr_scripts.specs.Values.{same_number, count_members, is_same, are_same, stand_in};
 
 use serde_json::{Map, Number, Value};
-
-/// Whether a number stands in the value that isn't whole.
-#[cycle(floats)]
-pub(crate) fn has_float(value: &Value) -> bool
-    ensures { result ≡ has_float (view value.now) }
-{
-    match value {
-        Value::Null | Value::Bool(_) | Value::String(_) => false,
-        Value::Number(number) => number.is_f64(),
-        Value::Array(items) => items_have_float(items),
-        Value::Object(members) => members_have_float(members),
-    }
-}
-
-#[cycle(floats)]
-fn items_have_float(items: &Vec<Value>) -> bool
-    ensures { result ≡ items_have_float (items_view items.now.items) }
-{
-    for item in items {
-        if has_float(item) {
-            return true;
-        }
-    }
-    false
-}
-
-#[cycle(floats)]
-fn members_have_float(members: &Map<String, Value>) -> bool
-    ensures { result ≡ members_have_float (members_view members.now.entries) }
-{
-    for (_, value) in members {
-        if has_float(value) {
-            return true;
-        }
-    }
-    false
-}
 
 /// Whether both are the same whole number. A number that isn't whole is the same as none.
 fn same_number(number: &Number, other: &Number) -> bool

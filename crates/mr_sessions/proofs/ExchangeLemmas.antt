@@ -11,7 +11,7 @@ use Rattle.mr_text.specs.declared.reply.Reply.{Reply}
 use Rattle.mr_join.specs.declared.leg_reply.LegReply.{LegReply}
 use Rattle.mr_node.specs.declared.command.NodeCommand.{NodeCommand}
 use Rattle.mr_desks.specs.declared.error.WorkerError.{WorkerError}
-use Rattle.mr_desks.specs.declared.error.WorkerError.TheVariants.{LinkBroken, Mismatch, BookFull, BookDiffers, ReadFault, WriteFault, TurnsSpent, OutOfMemory, NoThread}
+use Rattle.mr_desks.specs.declared.error.WorkerError.TheVariants.{LinkBroken, Mismatch, BookDiffers, ReadFault, WriteFault, TurnsSpent, OutOfMemory, NoThread}
 use Rattle.mr_sessions.specs.Answering.{IsAnswer}
 use Rattle.mr_sessions.specs.Requesting.{HasAsked, text_for}
 use Rattle.mr_sessions.specs.Exchange.{wire, HasFailed}
@@ -47,12 +47,11 @@ module _ (turns : ℕ) (command : NodeCommand) (reader reader' : SourceView) (wr
   -- no reply came
   pub unanswered : (fault : WorkerError) → HasNoReply turns kept reader fault reader'
       → HasFailed turns command (wire reader writer kept) (wire reader' writer' replies.kept) fault
-  unanswered LinkBroken is = (asked, is)
-  unanswered Mismatch is = inl (asked, is)
-  unanswered BookFull is = absurd is
+  unanswered LinkBroken is = record { asked = asked; none = is }
+  unanswered Mismatch is = inl (record { asked = asked; none = is })
   unanswered BookDiffers is = absurd is
-  unanswered ReadFault is = (asked, is)
+  unanswered ReadFault is = record { asked = asked; none = is }
   unanswered WriteFault is = absurd is
-  unanswered TurnsSpent is = (asked, is)
-  unanswered OutOfMemory is = (asked, is)
+  unanswered TurnsSpent is = record { asked = asked; none = is }
+  unanswered OutOfMemory is = record { asked = asked; none = is }
   unanswered NoThread is = absurd is

@@ -1,5 +1,8 @@
 pub mod StepLemmas
+pub mod CountLemmas
 pub mod AskLemmas
+pub mod CarryLemmas
+pub mod OwnLemmas
 pub mod SumLemmas
 pub mod EndLemmas
 pub mod ReadLemmas

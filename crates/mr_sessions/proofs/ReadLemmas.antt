@@ -10,7 +10,7 @@ use Rattle.mr_text.specs.declared.error.TextError.{TextError}
 use Rattle.mr_text.specs.declared.error.TextError.TheVariants.{LineTooLong, BadKey, BadNumber, WrongWords, DataTooLong, BadDataEnd, UnknownCommand, Truncated, Closed, OutOfMemory as NoMemory}
 use Rattle.mr_text.specs.declared.reply.Reply.{Reply}
 use Rattle.mr_desks.specs.declared.error.WorkerError.{WorkerError}
-use Rattle.mr_desks.specs.declared.error.WorkerError.TheVariants.{LinkBroken, Mismatch, BookFull, BookDiffers, ReadFault, WriteFault, TurnsSpent, OutOfMemory, NoThread}
+use Rattle.mr_desks.specs.declared.error.WorkerError.TheVariants.{LinkBroken, Mismatch, BookDiffers, ReadFault, WriteFault, TurnsSpent, OutOfMemory, NoThread}
 use Rattle.mr_sessions.specs.Reading.{NeedsMore, HoldsReply, BringsPiece, Brings, HasBrought, HasNoReply, read_length}
 use Rattle.mr_sessions.specs.steps.Reading.{IsOpen, ReplyIs, NextIs, ReplyPieceIs, fault_of}
 
@@ -114,13 +114,12 @@ module _ (turns : ℕ) (kept : List ℕ) (old : SourceView) where
       last = last;
       allowed = allowed_last new last.once;
     }
-    reading_stops OutOfMemory replies' new last = (
-      so.came ++ last.0,
-      brought_more so.came last.0 now new so.brought needs allowed_more last.1,
-      inr (let once = last.1.once in let before = so.brought.counted in omega arith),
-    )
+    reading_stops OutOfMemory replies' new last = record {
+      came = so.came ++ last.0;
+      brought = brought_more so.came last.0 now new so.brought needs allowed_more last.1;
+      wanted = inr (let once = last.1.once in let before = so.brought.counted in omega arith);
+    }
     reading_stops Mismatch replies' new last = absurd last
-    reading_stops BookFull replies' new last = absurd last
     reading_stops BookDiffers replies' new last = absurd last
     reading_stops WriteFault replies' new last = absurd last
     reading_stops TurnsSpent replies' new last = absurd last
@@ -138,14 +137,26 @@ module _ (turns : ℕ) (kept : List ℕ) (old : SourceView) where
     needs_more replies' next = subst NeedsMore so.becomes.stands next.0
 
     pub spent : (replies' : ReaderView) → NextIs replies.kept (Ok None) replies' → left ≡ 0 → HasNoReply turns kept old TurnsSpent now
-    spent replies' next none =
-        (so.came, so.brought, needs_more replies' next, (let counted = so.counted in omega arith))
+    spent replies' next none = record {
+      came = so.came;
+      brought = so.brought;
+      needs = needs_more replies' next;
+      all = (let counted = so.counted in omega arith);
+    }
 
     pub no_reply : (fault : WorkerError) (replies' : ReaderView) → NextIs replies.kept (Err fault) replies' → HasNoReply turns kept old fault now
-    no_reply Mismatch replies' next = (so.came, so.brought, next.0, subst (RefusesReply next.0) so.becomes.stands next.1)
-    no_reply OutOfMemory replies' next = (so.came, so.brought, inl (subst HoldsReply so.becomes.stands next))
+    no_reply Mismatch replies' next = record {
+      came = so.came;
+      brought = so.brought;
+      refusal = next.0;
+      refused = subst (RefusesReply next.0) so.becomes.stands next.1;
+    }
+    no_reply OutOfMemory replies' next = record {
+      came = so.came;
+      brought = so.brought;
+      wanted = inl (subst HoldsReply so.becomes.stands next);
+    }
     no_reply LinkBroken replies' next = absurd next
-    no_reply BookFull replies' next = absurd next
     no_reply BookDiffers replies' next = absurd next
     no_reply ReadFault replies' next = absurd next
     no_reply WriteFault replies' next = absurd next

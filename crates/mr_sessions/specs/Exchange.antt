@@ -46,9 +46,18 @@ module _ (turns : ℕ) (command : NodeCommand) (old new : Wire) where
     pub replied : HasReply reply after
     pub other : (leg : LegReply) → ¬ IsAnswer command reply leg
 
-  -- Why the leg has no reply. Where the request couldn't be written nothing was read, and nothing is written behind a request.
+  -- a beginning of the request was written, nothing behind it, and nothing was read
+  pub record IsNotAsked : Type 0 where
+    pub stopped : HasStoppedAsking command old.writer new.writer
+    pub unread : new.reader ≡ old.reader
+
+  -- the request went out, and for this reason no reply came
+  pub record IsNotReplied (fault : WorkerError) : Type 0 where
+    pub asked : HasAsked command old.writer new.writer
+    pub none : HasNoReply turns old.kept old.reader fault new.reader
+
+  -- why the leg has no reply
   abbrev pub HasFailed : WorkerError → Type 0
-  HasFailed WriteFault = HasStoppedAsking command old.writer new.writer × (new.reader ≡ old.reader)
-  HasFailed Mismatch =
-      (HasAsked command old.writer new.writer × HasNoReply turns old.kept old.reader Mismatch new.reader) ⊎ HasOtherReply
-  HasFailed fault = HasAsked command old.writer new.writer × HasNoReply turns old.kept old.reader fault new.reader
+  HasFailed WriteFault = IsNotAsked
+  HasFailed Mismatch = IsNotReplied Mismatch ⊎ HasOtherReply
+  HasFailed fault = IsNotReplied fault

@@ -4,6 +4,7 @@ pub mod Asking
 pub mod ClientSession
 pub mod Exchange
 pub mod Link
+pub mod Own
 pub mod Reading
 pub mod Requesting
 pub mod steps

@@ -1,11 +1,13 @@
 -- A link to a node, and what it does with a leg.
-use Rattle.std.specs.Prelude.{◌≡◌, ℕ, ◌+◌, ◌⊎◌, Bool, true, false, Option, Some, None, Result, Ok, Err}
+use Rattle.std.specs.Prelude.{◌≡◌, ℕ, ◌+◌, ◌⊎◌, [], Bool, true, false, Option, Some, None}
+use Rattle.mr_text.specs.Sink.{SinkView}
+use Rattle.mr_text.specs.Source.{SourceView}
 use Rattle.mr_join.specs.declared.leg_reply.LegReply.{LegReply}
 use Rattle.mr_node.specs.declared.command.NodeCommand.{NodeCommand}
 use Rattle.mr_proxy.specs.declared.sheet.LegSheet.{LegSheet}
 use Rattle.mr_desks.specs.declared.error.WorkerError.{WorkerError}
 use Rattle.mr_desks.specs.declared.error.WorkerError.TheVariants.{LinkBroken}
-use Rattle.mr_sessions.specs.Exchange.{Wire, HasAnswer, HasFailed}
+use Rattle.mr_sessions.specs.Exchange.{Wire, wire, HasAnswer, HasFailed}
 
 -- a link as contracts see it
 pub record LinkView : Type 0 where
@@ -16,6 +18,10 @@ pub record LinkView : Type 0 where
   pub broken : Bool
   -- how often a leg wasn't carried
   pub faults : ℕ
+
+-- a link that carried nothing yet
+abbrev pub new_link : SourceView → SinkView → ℕ → LinkView
+new_link reader writer turns = record { wire = wire reader writer []; turns = turns; broken = false; faults = 0 }
 
 -- a link that wasn't broken carried the leg, and isn't broken
 pub record HasCarried (command : NodeCommand) (old : LinkView) (leg : LegReply) (new : LinkView) : Type 0 where
@@ -39,11 +45,11 @@ pub record IsBroken (old : LinkView) (fault : WorkerError) (new : LinkView) : Ty
   pub is_link_broken : fault ≡ LinkBroken
   pub nothing_done : new ≡ record old { faults = old.faults + 1 }
 
-abbrev pub CarryIs : NodeCommand → LinkView → Result LegReply WorkerError → LinkView → Type 0
-CarryIs command old (Ok leg) new = HasCarried command old leg new
-CarryIs command old (Err fault) new = Breaks command old fault new ⊎ IsBroken old fault new
+-- the leg wasn't carried for this reason: that broke the link, or the link was broken before
+abbrev pub IsNotCarried : NodeCommand → LinkView → WorkerError → LinkView → Type 0
+IsNotCarried command old fault new = Breaks command old fault new ⊎ IsBroken old fault new
 
--- the same, where it isn't told which fault there was
+-- the leg was carried with this reply, or wasn't for some reason
 abbrev pub LinkCarries : LinkView → LegSheet → Option LegReply → LinkView → Type 0
-LinkCarries old sheet (Some leg) new = CarryIs sheet.command old (Ok leg) new
-LinkCarries old sheet None new = (fault : WorkerError) × CarryIs sheet.command old (Err fault) new
+LinkCarries old sheet (Some reply) new = HasCarried sheet.command old reply new
+LinkCarries old sheet None new = (fault : WorkerError) × IsNotCarried sheet.command old fault new

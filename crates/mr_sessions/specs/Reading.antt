@@ -72,20 +72,35 @@ pub record NeedsRead (turns : ℕ) (kept : List ℕ) (Last : SourceView → Sour
   pub last : Last between new
   pub allowed : new.reads ≤ old.reads + turns
 
+-- all turns are spent, and more is needed
+pub record NeedsTurn (turns : ℕ) (kept : List ℕ) (old new : SourceView) : Type 0 where
+  pub came : List ℕ
+  pub brought : HasBrought turns kept came old new
+  pub needs : NeedsMore (kept ++ came)
+  pub all : new.reads ≡ old.reads + turns
+
+-- what came is no reply
+pub record BringsNoReply (turns : ℕ) (kept : List ℕ) (old new : SourceView) : Type 0 where
+  pub came : List ℕ
+  pub brought : HasBrought turns kept came old new
+  pub refusal : TextError
+  pub refused : RefusesReply refusal (kept ++ came)
+
 -- a reply is whole at the front of the bytes
 abbrev pub HoldsReply : List ℕ → Type 0
 HoldsReply bytes = (reply : Reply) × (after : List ℕ) × BeginsWith SpellsReply bytes reply after
 
--- Why there is no reply: a read failed, the stream ended, all turns are spent while more is needed, what came is refused as
--- no reply, or there was no memory for the reply or for what a read brought.
-module _ (turns : ℕ) (kept : List ℕ) (old : SourceView) where
-  abbrev pub HasNoReply : WorkerError → SourceView → Type 0
-  HasNoReply ReadFault new = NeedsRead turns kept FailsToRead old new
-  HasNoReply LinkBroken new = NeedsRead turns kept MeetsEnd old new
-  HasNoReply TurnsSpent new =
-      (came : List ℕ) × HasBrought turns kept came old new × NeedsMore (kept ++ came) × (new.reads ≡ old.reads + turns)
-  HasNoReply Mismatch new =
-      (came : List ℕ) × HasBrought turns kept came old new × (refusal : TextError) × RefusesReply refusal (kept ++ came)
-  HasNoReply OutOfMemory new =
-      (came : List ℕ) × HasBrought turns kept came old new × (HoldsReply (kept ++ came) ⊎ (old.reads < new.reads))
-  HasNoReply other new = ⊥
+-- there was no memory for a reply that is whole, or for what a read brought
+pub record NeedsMemory (turns : ℕ) (kept : List ℕ) (old new : SourceView) : Type 0 where
+  pub came : List ℕ
+  pub brought : HasBrought turns kept came old new
+  pub wanted : HoldsReply (kept ++ came) ⊎ (old.reads < new.reads)
+
+-- why there is no reply
+abbrev pub HasNoReply : ℕ → List ℕ → SourceView → WorkerError → SourceView → Type 0
+HasNoReply turns kept old ReadFault new = NeedsRead turns kept FailsToRead old new
+HasNoReply turns kept old LinkBroken new = NeedsRead turns kept MeetsEnd old new
+HasNoReply turns kept old TurnsSpent new = NeedsTurn turns kept old new
+HasNoReply turns kept old Mismatch new = BringsNoReply turns kept old new
+HasNoReply turns kept old OutOfMemory new = NeedsMemory turns kept old new
+HasNoReply turns kept old other new = ⊥

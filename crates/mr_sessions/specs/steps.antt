@@ -1,4 +1,7 @@
 -- What single steps do: definitions that no public clause cites.
+pub mod Carrying
 pub mod ClientStep
+pub mod ClientCounts
+pub mod Destinations
 pub mod Exchange
 pub mod Reading

@@ -4,6 +4,7 @@
 
 mod asking;
 mod carrying;
+mod destinations;
 mod exchange;
 mod faults;
 mod node_link;

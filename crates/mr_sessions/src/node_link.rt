@@ -1,7 +1,6 @@
 //! A carrier that reaches its node by a stream.
-ghost use Rattle.std.specs.Prelude.{◌≡◌, ◌+◌, [], false, Some, None, IfOk, MatchResult};
-ghost use Rattle.mr_sessions.specs.Exchange.{wire};
-ghost use Rattle.mr_sessions.specs.Link.{CarryIs, LinkCarries};
+ghost use Rattle.std.specs.Prelude.{◌≡◌, ◌+◌, Some, None, IfOk, MatchResult};
+ghost use Rattle.mr_sessions.specs.Link.{HasCarried, IsNotCarried, LinkCarries, new_link};
 ghost use Rattle.mr_desks.specs.Local.{IsReplyOfKind};
 
 use crate::exchange::exchange;
@@ -58,7 +57,7 @@ impl<S: Source, W: Sink> NodeLink<S, W> {
     /// A link by this reader and this writer, which carried nothing yet and makes at most `turns` reads for a leg. It takes
     /// no memory.
     pub fn new(alloc: Global, reader: S, writer: W, turns: u64) -> NodeLink<S, W>
-        ensures { result ≡ record { wire = wire (S.told reader) (W.told writer) []; turns = turns; broken = false; faults = 0 } }
+        ensures { result ≡ new_link (S.told reader) (W.told writer) turns }
     {
         NodeLink {
             reader,
@@ -117,7 +116,9 @@ impl<S: Source, W: Sink> Carrier for NodeLink<S, W> {
         ensures faults { MatchResult result
             (λ _. self.new.faults ≡ self.old.faults)
             (λ _. self.new.faults ≡ self.old.faults + 1) }
-        ensures carried { CarryIs sheet.now.command self.old result self.new }
+        ensures carried { MatchResult result
+            (λ reply. HasCarried sheet.now.command self.old reply self.new)
+            (λ fault. IsNotCarried sheet.now.command self.old fault self.new) }
     {
         if self.broken {
             self.faults.add_one();

@@ -1,65 +1,30 @@
 //! The service of one client.
-ghost use Rattle.std.specs.Prelude.{◌≡◌, ◌≢◌, ◌+◌, ◌*◌, ◌≤◌, ℕ, List, [], length, true, false, Some, None, Ok, Err, IfSome, vec_capacity};
-ghost use Rattle.mr_text.specs.Source.{AreOffered};
+ghost use Rattle.std.specs.Prelude.{◌≡◌, ◌≢◌, ◌+◌, ◌≤◌, ℕ, List, [], length, true, false, Err, vec_capacity};
 ghost use Rattle.mr_text.specs.Stream.{StandsFor};
 ghost use Rattle.mr_text.specs.declared.request.Request.{Request};
 ghost use Rattle.mr_node.specs.Output.{is_silent, IsServed};
-ghost use Rattle.mr_node.specs.Session.{station, read_length};
+ghost use Rattle.mr_node.specs.Session.{station, ReadsWithin, SpendsTurns, OneReadFailed, NoReadFailed, LastWriteFailed, NoWriteFailed};
 ghost use Rattle.mr_proxy.specs.Answer.{reply_of};
-ghost use Rattle.mr_desks.specs.DeskError.{cause_of_refusal};
-ghost use Rattle.mr_desks.specs.Recorded.{AnswerStands};
-ghost use Rattle.mr_sessions.specs.Account.{account, AreCarried};
-ghost use Rattle.mr_sessions.specs.Asking.{AsksDesk, AsksInVain};
-ghost use Rattle.mr_sessions.specs.ClientSession.{ClientSessionIs, unanswered_count, given_up_count};
-ghost use Rattle.mr_sessions.specs.steps.ClientStep.{AskedSo, AnsweredSo, ClientRefusalIs, ClientRequestIs, ClientStepIs};
+ghost use Rattle.mr_desks.specs.declared.desk_error.DeskError.{DeskError};
+ghost use Rattle.mr_sessions.specs.Account.{account};
+ghost use Rattle.mr_sessions.specs.Asking.{desk_rules};
+ghost use Rattle.mr_sessions.specs.ClientSession.{ClientSessionIs, FewAreGivenUp, unanswered_count};
+ghost use Rattle.mr_sessions.specs.steps.ClientCounts.{ClientCounts};
+ghost use Rattle.mr_sessions.specs.steps.ClientStep.{AskedSo, AnsweredSo, RefusalToldSo, ClientRefusalIs, ClientRequestIs, ClientStepIs};
+ghost use Rattle.mr_sessions.specs.steps.Destinations.{most_legs};
 
-use crate::carrying::carry_out;
+use crate::carrying::carry_request;
 use crate::faults::worker_error_of;
 use crate::served::Served;
 use crate::session_log::SessionLog;
 use mr_clock::Clock;
 use mr_desks::{Carrier, Carriers, Desk, DeskError, WorkerError};
-use mr_history::{OpId, is_same_op};
 use mr_node::session::{SessionStep, answer_refusal, is_silent, read_piece, write_answer};
 use mr_node::{Ended, READ_LENGTH};
-use mr_proxy::{Answer, Issued};
+use mr_proxy::Answer;
 use mr_text::{Reply, Request, RequestReader, Sink, Source, TextError, WriteFault};
 use std::alloc::Global;
 use std::sync::Wait;
-
-/// Whether the answer is to the request of this name and text.
-fn is_answer_to(answer: &Answer, op: OpId, request: &Request) -> bool
-    ensures { result ≡ true → answer.now.request ≡ request.now }
-{
-    is_same_op(answer.op(), op) && answer.request().same_as(request)
-}
-
-/// Carries the legs of a request, and gives its answer. None where there is none, or what there is isn't its own.
-fn carry_request<C: Carrier, D: Desk<C>, L: Carriers<C>, R: Wait>(
-    rt: &R,
-    desk: &D,
-    carriers: &mut L,
-    legs_out: &mut u64,
-    request: &Request,
-    issued: Issued,
-) -> Option<Answer>
-    requires { 1 ≤ length issued.legs.items }
-    ensures of_request { IfSome result (λ answer. answer.request ≡ request.now) }
-    ensures stands { IfSome result (AnswerStands C.gave) }
-    ensures carried { IfSome result (λ answer. AreCarried (L.losses carriers.old) (L.brought carriers.old) answer.given_up
-        (L.losses carriers.new) (L.brought carriers.new)) }
-    ensures lost { L.losses carriers.old ≤ L.losses carriers.new }
-    ensures came { L.brought carriers.old ≤ L.brought carriers.new }
-    ensures tried { L.losses carriers.old + L.brought carriers.old + 1 ≤ L.losses carriers.new + L.brought carriers.new }
-{
-    let op = issued.op;
-    let answer = carry_out(rt, desk, carriers, legs_out, issued)?;
-    if is_answer_to(&answer, op, request) {
-        Some(answer)
-    } else {
-        None
-    }
-}
 
 /// Writes what the client is told, unless it wants no answer. WriteFault where the sink failed.
 fn write_unless_silent<W: Sink>(
@@ -84,12 +49,14 @@ fn write_refusal<W: Sink>(
     refusal: DeskError,
     writer: &mut W,
 ) -> Result<(), WorkerError>
-    ensures { AnsweredSo request.now (Reply.ServerError (cause_of_refusal refusal)) (W.told writer.old) (W.told writer.new) result }
+    requires { refusal ≢ DeskError.NoSuchOp }
+    ensures { RefusalToldSo request.now refusal (W.told writer.old) (W.told writer.new) result }
 {
+    let cause = refusal.cause();
     let answer = if is_silent(request) {
         None
     } else {
-        Some(Reply::ServerError(refusal.cause()))
+        Some(Reply::ServerError(cause))
     };
     match write_answer(answer, writer) {
         Ok(()) => Ok(()),
@@ -99,7 +66,7 @@ fn write_refusal<W: Sink>(
 
 /// Issues a request, carries its legs, and writes its answer. The answer is kept whether it could be written or not. A
 /// refused issue is answered by its cause. WriteFault where the sink failed, BookDiffers where the request has no answer.
-#[tactic(auto, using(crate::proofs::AskLemmas::answered_so, crate::proofs::AskLemmas::refused_so, crate::proofs::AskLemmas::vain_so))]
+#[tactic(auto, using(crate::proofs::AskLemmas::answered_so, crate::proofs::AskLemmas::refused_so, crate::proofs::AskLemmas::vain_so, crate::proofs::OwnLemmas::its_legs))]
 fn ask<C: Carrier, D: Desk<C>, K: Clock, W: Sink, L: Carriers<C>, R: Wait>(
     rt: &R,
     desk: &D,
@@ -110,17 +77,17 @@ fn ask<C: Carrier, D: Desk<C>, K: Clock, W: Sink, L: Carriers<C>, R: Wait>(
     request: &Request,
 ) -> Result<(), WorkerError>
     requires asks { request.now ≢ Request.Quit }
-    requires room { D.recorded ≡ true → length log.old.answers.items + 1 ≤ vec_capacity log.old.answers }
-    ensures { AskedSo (AsksDesk K.reads K.failures C.gave D.recorded) (AsksInVain K.reads K.failures)
-        (station clock.old (account log.old.share log.old.answers.items (L.losses carriers.old) (L.brought carriers.old)) (W.told writer.old))
-        (station clock.new (account log.new.share log.new.answers.items (L.losses carriers.new) (L.brought carriers.new)) (W.told writer.new))
+    requires legs { most_legs request.now ≤ vec_capacity log.old.destinations }
+    requires answer { D.recorded ≡ true → length log.old.answers.items + 1 ≤ vec_capacity log.old.answers }
+    ensures { AskedSo (desk_rules K.reads K.failures C.gave D.recorded)
+        (station clock.old (account log.old.share log.old.answers.items (L.told carriers.old)) (W.told writer.old))
+        (station clock.new (account log.new.share log.new.answers.items (L.told carriers.new)) (W.told writer.new))
         request.now result }
 {
     match desk.issue(rt, &mut log.share, clock, request) {
         Err(refusal) => write_refusal(request, refusal, writer),
         Ok(issued) => {
-            let Some(answer) = carry_request(rt, desk, carriers, &mut log.legs_out, request, issued)
-            else {
+            let Some(answer) = carry_request(rt, desk, carriers, log, request, issued) else {
                 return Err(WorkerError::BookDiffers);
             };
             let written = write_unless_silent(request, &answer, writer);
@@ -130,8 +97,8 @@ fn ask<C: Carrier, D: Desk<C>, K: Clock, W: Sink, L: Carriers<C>, R: Wait>(
     }
 }
 
-/// Serves a request and writes its answer, unless the client wants none. A quit ends the session. The room for the answer is
-/// made before the request is issued; where it is refused, nothing is done.
+/// Serves a request and writes its answer, unless the client wants none. A quit ends the session. The room for its answer
+/// and for where its legs go is made before the request is issued; where it is refused, nothing is done.
 #[tactic(auto, using(crate::proofs::StepLemmas::asked, crate::proofs::StepLemmas::asked_well, mr_node::proofs::ServiceLemmas::served_unless_quit))]
 fn answer_request<C: Carrier, D: Desk<C>, K: Clock, W: Sink, L: Carriers<C>, R: Wait>(
     rt: &R,
@@ -142,15 +109,15 @@ fn answer_request<C: Carrier, D: Desk<C>, K: Clock, W: Sink, L: Carriers<C>, R: 
     log: &mut SessionLog,
     request: &Request,
 ) -> Result<SessionStep, WorkerError>
-    ensures { ClientRequestIs (AsksDesk K.reads K.failures C.gave D.recorded) (AsksInVain K.reads K.failures)
-        (station clock.old (account log.old.share log.old.answers.items (L.losses carriers.old) (L.brought carriers.old)) (W.told writer.old))
-        (station clock.new (account log.new.share log.new.answers.items (L.losses carriers.new) (L.brought carriers.new)) (W.told writer.new))
+    ensures { ClientRequestIs (desk_rules K.reads K.failures C.gave D.recorded)
+        (station clock.old (account log.old.share log.old.answers.items (L.told carriers.old)) (W.told writer.old))
+        (station clock.new (account log.new.share log.new.answers.items (L.told carriers.new)) (W.told writer.new))
         request.now result }
 {
     if let Request::Quit = request {
         return Ok(SessionStep::Ends(Ended::Quit));
     }
-    if log.make_room(desk.is_recorded()).is_err() {
+    if log.make_room(desk.is_recorded(), request).is_err() {
         return Err(WorkerError::OutOfMemory);
     }
     ask(rt, desk, clock, writer, carriers, log, request)?;
@@ -180,9 +147,9 @@ fn answer_next<C: Carrier, D: Desk<C>, K: Clock, W: Sink, L: Carriers<C>, R: Wai
 ) -> Result<SessionStep, WorkerError>
     requires { requests.old.closed ≡ false }
     ensures { (rest : List ℕ) → StandsFor requests.old rest
-        → ClientStepIs (AsksDesk K.reads K.failures C.gave D.recorded) (AsksInVain K.reads K.failures)
-        (station clock.old (account log.old.share log.old.answers.items (L.losses carriers.old) (L.brought carriers.old)) (W.told writer.old))
-        (station clock.new (account log.new.share log.new.answers.items (L.losses carriers.new) (L.brought carriers.new)) (W.told writer.new))
+        → ClientStepIs (desk_rules K.reads K.failures C.gave D.recorded)
+        (station clock.old (account log.old.share log.old.answers.items (L.told carriers.old)) (W.told writer.old))
+        (station clock.new (account log.new.share log.new.answers.items (L.told carriers.new)) (W.told writer.new))
         requests.old.ended rest requests.new result }
 {
     match requests.next() {
@@ -204,17 +171,12 @@ fn serve_until_end<C: Carrier, D: Desk<C>, K: Clock, S: Source, W: Sink, L: Carr
     log: &mut SessionLog,
     turns: u64,
 ) -> Result<Ended, WorkerError>
-    ensures session { ClientSessionIs (AsksDesk K.reads K.failures C.gave D.recorded) (AsksInVain K.reads K.failures) (S.told reader.old) (S.told reader.new)
-        (station clock.old (account log.old.share log.old.answers.items (L.losses carriers.old) (L.brought carriers.old)) (W.told writer.old))
-        (station clock.new (account log.new.share log.new.answers.items (L.losses carriers.new) (L.brought carriers.new)) (W.told writer.new)) result }
-    ensures reads { (S.told reader.new).reads ≤ (S.told reader.old).reads + turns }
-    ensures brought { (S.told reader.new).reads + length (S.told reader.old).taken ≤ (S.told reader.old).reads + length (S.told reader.new).taken + 1 }
-    ensures spent { result ≡ Err WorkerError.TurnsSpent → (S.told reader.new).reads ≡ (S.told reader.old).reads + turns }
-    ensures turns { result ≡ Err WorkerError.TurnsSpent → length (S.told reader.old).taken + turns ≤ length (S.told reader.new).taken }
-    ensures bytes { length (S.told reader.new).taken ≤ length (S.told reader.old).taken + turns * read_length }
-    ensures room { AreOffered read_length (S.told reader.old).least_room → AreOffered read_length (S.told reader.new).least_room }
-    ensures read_fault { result ≡ Err WorkerError.ReadFault → (S.told reader.new).failures ≡ (S.told reader.old).failures + 1 }
-    ensures no_read_fault { result ≢ Err WorkerError.ReadFault → (S.told reader.new).failures ≡ (S.told reader.old).failures }
+    ensures session { ClientSessionIs (desk_rules K.reads K.failures C.gave D.recorded)
+        (S.told reader.old) (S.told reader.new)
+        (station clock.old (account log.old.share log.old.answers.items (L.told carriers.old)) (W.told writer.old))
+        (station clock.new (account log.new.share log.new.answers.items (L.told carriers.new)) (W.told writer.new))
+        result }
+    ensures counts { ClientCounts turns (S.told reader.old) (S.told reader.new) result }
 {
     let mut requests = RequestReader::new(alloc);
     let mut buffer = [0; READ_LENGTH];
@@ -248,9 +210,10 @@ fn serve_until_end<C: Carrier, D: Desk<C>, K: Clock, S: Source, W: Sink, L: Carr
 /// A request whose issue is refused is answered by its cause. It is given up where a leg can't be sent, where none will come
 /// back, where memory for one that came is refused, and once all legs that the session sent came back without an answer.
 ///
-/// ReadFault, WriteFault and OutOfMemory where the reader, the writer, or memory for reading or for keeping an answer failed;
-/// TurnsSpent where one more read would be needed; BookDiffers where a request that was issued isn't under way when it is
-/// given up, or gets the answer of another. Whatever the end, the share and the answers so far are handed out.
+/// ReadFault and WriteFault where the reader or the writer failed; OutOfMemory where memory for reading, for keeping an answer
+/// or for noting where its legs go was refused; TurnsSpent where one more read would be needed; BookDiffers where a request
+/// that was issued isn't under way when it is given up, or gets an answer that isn't its own. Whatever the end, the share and
+/// the answers so far are handed out.
 pub fn serve_client<C: Carrier, D: Desk<C>, K: Clock, S: Source, W: Sink, L: Carriers<C>, R: Wait>(
     rt: &R,
     alloc: Global,
@@ -261,39 +224,36 @@ pub fn serve_client<C: Carrier, D: Desk<C>, K: Clock, S: Source, W: Sink, L: Car
     carriers: &mut L,
     turns: u64,
 ) -> Served
-    ensures session { ClientSessionIs (AsksDesk K.reads K.failures C.gave D.recorded) (AsksInVain K.reads K.failures) (S.told reader.old) (S.told reader.new)
-        (station clock.old (account 0 [] (L.losses carriers.old) (L.brought carriers.old)) (W.told writer.old))
-        (station clock.new (account result.share result.answers.items (L.losses carriers.new) (L.brought carriers.new)) (W.told writer.new)) result.ended }
+    ensures session { ClientSessionIs (desk_rules K.reads K.failures C.gave D.recorded)
+        (S.told reader.old) (S.told reader.new)
+        (station clock.old (account 0 [] (L.told carriers.old)) (W.told writer.old))
+        (station clock.new (account result.share result.answers.items (L.told carriers.new)) (W.told writer.new))
+        result.ended }
 
     // Over a proxy with a book each request that was issued has its answer among these, but for one that has none. Over any
     // other none is kept.
     ensures share { D.recorded ≡ true → result.share ≡ length result.answers.items + unanswered_count result.ended }
     ensures no_book { D.recorded ≡ false → result.answers.items ≡ [] }
+    ensures given_up { FewAreGivenUp result.answers.items (L.told carriers.old) (L.told carriers.new) }
 
-    // At most as many were given up as legs were lost or came back.
-    ensures given_up { given_up_count result.answers.items + (L.losses carriers.old + L.brought carriers.old) ≤ L.losses carriers.new + L.brought carriers.new }
-
-    // At most `turns` reads are made, and at most one brings no byte: that of the end, or the one that failed. TurnsSpent
-    // comes after all of them, each of which brought a byte. Each read has room for as many bytes as the buffer holds, and
-    // none brings more.
-    ensures reads { (S.told reader.new).reads ≤ (S.told reader.old).reads + turns }
-    ensures brought { (S.told reader.new).reads + length (S.told reader.old).taken ≤ (S.told reader.old).reads + length (S.told reader.new).taken + 1 }
-    ensures spent { result.ended ≡ Err WorkerError.TurnsSpent → (S.told reader.new).reads ≡ (S.told reader.old).reads + turns }
-    ensures turns { result.ended ≡ Err WorkerError.TurnsSpent → length (S.told reader.old).taken + turns ≤ length (S.told reader.new).taken }
-    ensures bytes { length (S.told reader.new).taken ≤ length (S.told reader.old).taken + turns * read_length }
-    ensures room { AreOffered read_length (S.told reader.old).least_room → AreOffered read_length (S.told reader.new).least_room }
-
-    // A fault is answered only where that device failed, once, and none is passed over.
-    ensures read_fault { result.ended ≡ Err WorkerError.ReadFault → (S.told reader.new).failures ≡ (S.told reader.old).failures + 1 }
-    ensures no_read_fault { result.ended ≢ Err WorkerError.ReadFault → (S.told reader.new).failures ≡ (S.told reader.old).failures }
-    ensures write_fault { result.ended ≡ Err WorkerError.WriteFault → (W.told writer.new).failures ≡ (W.told writer.old).failures + 1 }
-    ensures no_write_fault { result.ended ≢ Err WorkerError.WriteFault → (W.told writer.new).failures ≡ (W.told writer.old).failures }
-    ensures last_failed { result.ended ≡ Err WorkerError.WriteFault → (W.told writer.new).last_failed ≡ true }
+    // TurnsSpent comes after all turns. A fault is answered only where that device failed, once, and none is passed over.
+    ensures reads { ReadsWithin turns (S.told reader.old) (S.told reader.new) }
+    ensures spent { result.ended ≡ Err WorkerError.TurnsSpent
+        → SpendsTurns turns (S.told reader.old) (S.told reader.new) }
+    ensures read_fault { result.ended ≡ Err WorkerError.ReadFault
+        → OneReadFailed (S.told reader.old) (S.told reader.new) }
+    ensures no_read_fault { result.ended ≢ Err WorkerError.ReadFault
+        → NoReadFailed (S.told reader.old) (S.told reader.new) }
+    ensures write_fault { result.ended ≡ Err WorkerError.WriteFault
+        → LastWriteFailed (W.told writer.old) (W.told writer.new) }
+    ensures no_write_fault { result.ended ≢ Err WorkerError.WriteFault
+        → NoWriteFailed (W.told writer.old) (W.told writer.new) }
 {
     let mut log = SessionLog {
         share: desk.share(),
         answers: Vec::new(alloc),
         legs_out: 0,
+        destinations: Vec::new(alloc),
     };
     let ended = serve_until_end(
         rt, alloc, desk, clock, reader, writer, carriers, &mut log, turns,
@@ -302,6 +262,7 @@ pub fn serve_client<C: Carrier, D: Desk<C>, K: Clock, S: Source, W: Sink, L: Car
         share,
         answers,
         legs_out: _,
+        destinations: _,
     } = log;
     Served {
         ended,

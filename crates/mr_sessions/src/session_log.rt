@@ -1,12 +1,16 @@
 //! What a session keeps of its own while it runs.
-ghost use Rattle.std.specs.Prelude.{◌≡◌, ◌≤◌, ◌+◌, true, length, OnOk, vec_capacity};
+ghost use Rattle.std.specs.Prelude.{◌≡◌, ◌≤◌, ◌+◌, true, length, map, OnOk, vec_capacity};
 ghost use Rattle.mr_sessions.specs.Account.{kept_with};
+ghost use Rattle.mr_sessions.specs.steps.Destinations.{most_legs, destination_of};
 
+use crate::destinations::{Destination, most_legs, note_destinations};
 use mr_desks::Share;
-use mr_proxy::Answer;
+use mr_proxy::{Answer, Leg};
+use mr_text::Request;
 use std::alloc::AllocError;
 
-/// What a session that runs keeps: the answers that it took so far, and the counts of what it issued and sent.
+/// What a session that runs keeps: the answers that it took so far, the counts of what it issued and sent, and where the
+/// legs of its last request went.
 #[derive(Drop)]
 pub(crate) struct SessionLog {
     /// How many requests it issued.
@@ -15,29 +19,41 @@ pub(crate) struct SessionLog {
     pub(crate) answers: Vec<Answer>,
     /// How many legs it sent that didn't come back.
     pub(crate) legs_out: u64,
+    /// Where the legs of its last request went, in order.
+    pub(crate) destinations: Vec<Destination>,
 }
 
 impl SessionLog {
-    /// Makes room for one more answer, where answers are kept.
-    pub(crate) fn make_room(&mut self, recorded: bool) -> Result<(), AllocError>
+    /// Makes room for where the legs of a request go, and for its answer, where answers are kept.
+    pub(crate) fn make_room(&mut self, recorded: bool, request: &Request) -> Result<(), AllocError>
         ensures share { self.new.share ≡ self.old.share }
         ensures answers { self.new.answers.items ≡ self.old.answers.items }
-        ensures legs_out { self.new.legs_out ≡ self.old.legs_out }
-        ensures room { OnOk result (recorded ≡ true → length self.new.answers.items + 1 ≤ vec_capacity self.new.answers) }
+        ensures legs { OnOk result (most_legs request.now ≤ vec_capacity self.new.destinations) }
+        ensures answer { OnOk result (recorded ≡ true → length self.new.answers.items + 1 ≤ vec_capacity self.new.answers) }
     {
+        self.destinations.clear();
+        self.destinations.reserve(most_legs(request))?;
         if recorded {
-            self.answers.reserve(1)
-        } else {
-            Ok(())
+            self.answers.reserve(1)?;
         }
+        Ok(())
+    }
+
+    /// Notes where the legs of a request go.
+    pub(crate) fn note(&mut self, legs: &[Leg])
+        requires { length legs.now ≤ vec_capacity self.old.destinations }
+        ensures share { self.new.share ≡ self.old.share }
+        ensures answers { self.new.answers ≡ self.old.answers }
+        ensures destinations { self.new.destinations.items ≡ map destination_of legs.now }
+    {
+        note_destinations(&mut self.destinations, legs);
     }
 
     /// Keeps an answer, where answers are kept.
     pub(crate) fn keep(&mut self, recorded: bool, answer: Answer)
-        requires room { recorded ≡ true → length self.old.answers.items + 1 ≤ vec_capacity self.old.answers }
+        requires { recorded ≡ true → length self.old.answers.items + 1 ≤ vec_capacity self.old.answers }
         ensures share { self.new.share ≡ self.old.share }
         ensures answers { self.new.answers.items ≡ kept_with recorded self.old.answers.items answer }
-        ensures legs_out { self.new.legs_out ≡ self.old.legs_out }
     {
         if recorded {
             self.answers.push_reserved(answer);

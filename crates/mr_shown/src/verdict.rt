@@ -1,12 +1,12 @@
 //! What a history says of its acknowledged deletes, kept for itself.
-ghost use Rattle.std.specs.Prelude.{IfOk};
+ghost use Rattle.std.specs.Prelude.{◌≡◌, IfOk};
 ghost use Rattle.mr_history.specs.Judgement.{Judges};
 ghost use Rattle.mr_shown.specs.Verdict.{JudgesSo};
 
-use mr_history::{OpId, Verdict, judge_history};
+use mr_history::{HistoryError, OpId, Verdict, judge_indexed};
 use mr_text::Key;
 use mr_world::World;
-use std::alloc::AllocError;
+use std::alloc::{AllocError, Global};
 
 /// A verdict over a history, with a key of its own.
 #[derive(Debug, Drop)]
@@ -53,9 +53,30 @@ fn keep_verdict(verdict: &Verdict) -> Result<KeptVerdict, AllocError>
 
 impl KeptVerdict {
     /// What the history of a fleet says of its acknowledged deletes.
-    pub fn on(world: &World) -> Result<KeptVerdict, AllocError>
+    pub fn on(alloc: Global, world: &World) -> Result<KeptVerdict, AllocError>
         ensures { IfOk result (JudgesSo world.now.history) }
     {
-        keep_verdict(&judge_history(world.history()))
+        match judge_indexed(alloc, world.history()) {
+            Ok(verdict) => keep_verdict(&verdict),
+            Err(HistoryError::OutOfMemory) => Err(AllocError),
+        }
+    }
+
+    /// An equal verdict.
+    pub fn copy(&self) -> Result<KeptVerdict, AllocError>
+        ensures { IfOk result (λ verdict. verdict ≡ self.now) }
+    {
+        Ok(match self {
+            KeptVerdict::Safe => KeptVerdict::Safe,
+            KeptVerdict::Stale { get, key, delete } => KeptVerdict::Stale {
+                get: *get,
+                key: key.copy()?,
+                delete: *delete,
+            },
+            KeptVerdict::Invented { get, key } => KeptVerdict::Invented {
+                get: *get,
+                key: key.copy()?,
+            },
+        })
     }
 }

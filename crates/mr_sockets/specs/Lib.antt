@@ -1,6 +1,7 @@
 pub mod Address
-pub mod AskedServices
+pub mod Addresses
 pub mod Carriers
 pub mod Listener
+pub mod Runs
 pub mod Servers
 pub mod SocketCarrier

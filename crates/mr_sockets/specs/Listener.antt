@@ -7,6 +7,10 @@ pub record ListenerView : Type 0 where
   -- how often none could be accepted
   pub failures : ℕ
 
+-- a listener from which nothing was accepted yet
+abbrev pub fresh_listener : ListenerView
+fresh_listener = record { accepted = 0; failures = 0 }
+
 abbrev pub accepted_one : ListenerView → ListenerView
 accepted_one l = record l { accepted = l.accepted + 1 }
 
@@ -18,3 +22,9 @@ pub record AreAccepted (clients : ℕ) (old : ListenerView) (some : ℕ) (new : 
   pub asked : new.accepted + new.failures ≡ old.accepted + old.failures + clients
   pub steady : old.failures ≤ new.failures
   pub among : old.accepted + some ≤ new.accepted
+
+-- So many connections were asked for, no more and no fewer. So many tickets are left of one for each.
+pub record AsksFor (clients : ℕ) (old : ListenerView) (left : ℕ) (new : ListenerView) : Type 0 where
+  pub asked : new.accepted + new.failures ≡ old.accepted + old.failures + clients
+  pub steady : old.failures ≤ new.failures
+  pub tickets : left + new.accepted ≡ old.accepted + clients

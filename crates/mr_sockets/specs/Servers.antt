@@ -1,23 +1,18 @@
 -- The services of a machine, as contracts see them.
-use Rattle.std.specs.Prelude.{◌≡◌, ℕ, ◌+◌, ◌≤◌, ⊤, List, [], ◌∷◌, ◌++◌, Result, Ok, Err}
+use Rattle.std.specs.Prelude.{◌≡◌, ℕ, ◌+◌, ◌≤◌, ◌⊎◌, List, [], ◌∷◌, ◌++◌, Option, Some, None, Result, Ok, Err}
+use Rattle.std.specs.declared.net.socket_addr.SocketAddrV4.{SocketAddrV4}
 use Rattle.mr_node.specs.Recency.{CacheView}
 use Rattle.mr_pools.specs.Routing.{RoutingView}
 use Rattle.mr_proxy.specs.ProxyView.{ProxyView}
-use Rattle.mr_sockets.specs.Address.{HasAddress}
+use Rattle.mr_sockets.specs.Address.{IsAddress}
 use Rattle.mr_sockets.specs.declared.fault.OpenFault.{OpenFault}
 
--- a service that was asked for, with the address that it listens at, the number of its clients, and the reads of each
+-- a service that is asked for, with the address that it listens at, the number of its clients, and the reads of each
 pub data Asked : Type 0 where
   -- a node with its cache
   NodeAt : (listen : List ℕ) (node : CacheView) (clients turns : ℕ) → Asked
   -- a proxy, and the routing that its carriers are made of
   ProxyAt : (listen : List ℕ) (proxy : ProxyView) (routing : RoutingView) (clients turns : ℕ) → Asked
-
-pub record ServersView : Type 0 where
-  -- what was asked for, in order
-  pub asked : List Asked
-  -- how often it couldn't begin
-  pub failures : ℕ
 
 -- the address that it listens at, and the number of its clients
 abbrev pub listen_of : Asked → List ℕ
@@ -28,10 +23,65 @@ abbrev pub clients_of : Asked → ℕ
 clients_of (NodeAt listen node clients turns) = clients
 clients_of (ProxyAt listen proxy routing clients turns) = clients
 
--- what comes of a service at an address: it is none, or no socket listens there, or so many of the clients ended without a fault
-abbrev pub ServiceGives : List ℕ → ℕ → Result ℕ OpenFault → Type 0
-ServiceGives listen clients (Ok served) = HasAddress listen × (served ≤ clients)
-ServiceGives listen clients (Err fault) = ⊤
+-- what each connection is served by
+pub data Serving : Type 0 where
+  -- a cache as it was at first, where that is known, with the most reads of a connection
+  NodeServing : (cache : Option CacheView) (turns : ℕ) → Serving
+  -- a proxy as it was at first, where that is known, the routing that its carriers are made of, and the most reads
+  ProxyServing : (proxy : Option ProxyView) (routing : RoutingView) (turns : ℕ) → Serving
+
+-- a service that ran
+pub record Run : Type 0 where
+  pub serving : Serving
+  -- how many connections were asked for
+  pub clients : ℕ
+
+abbrev pub run : Serving → ℕ → Run
+run serving clients = record { serving = serving; clients = clients }
+
+-- the service that runs where this one is asked for
+abbrev pub run_of : Asked → Run
+run_of (NodeAt listen node clients turns) = run (NodeServing (Some node) turns) clients
+run_of (ProxyAt listen proxy routing clients turns) = run (ProxyServing (Some proxy) routing turns) clients
+
+pub record ServersView : Type 0 where
+  -- the addresses that a socket was asked to listen at, in order
+  pub listened : List SocketAddrV4
+  -- the services that ran, in order
+  pub runs : List Run
+  -- how often one couldn't begin
+  pub failures : ℕ
+
+-- one socket was asked for, at the address that the text is
+pub record Listens (text : List ℕ) (old new : List SocketAddrV4) : Type 0 where
+  pub address : SocketAddrV4
+  pub is_address : IsAddress text address
+  pub once : new ≡ old ++ address ∷ []
+
+-- the text is no address, and no socket was asked for
+pub record ListensNowhere (text : List ℕ) (old new : List SocketAddrV4) : Type 0 where
+  pub no_address : (address : SocketAddrV4) → ¬ IsAddress text address
+  pub none : new ≡ old
+
+-- a socket that listens was asked for, and was had or not
+abbrev pub Opens : {L : Type 0} → List ℕ → List SocketAddrV4 → Option L → List SocketAddrV4 → Type 0
+Opens text old (Some listener) new = Listens text old new
+Opens text old None new = Listens text old new ⊎ ListensNowhere text old new
+
+-- a service ran at a socket of its own, and so many of its clients ended without a fault
+pub record Ran (asked : Asked) (old : ServersView) (served : ℕ) (new : ServersView) : Type 0 where
+  pub listens : Listens (listen_of asked) old.listened new.listened
+  pub ran : new.runs ≡ old.runs ++ run_of asked ∷ []
+  pub among : served ≤ clients_of asked
+
+-- a service had no socket, and didn't run
+pub record RanNot (asked : Asked) (old new : ServersView) : Type 0 where
+  pub listens : Listens (listen_of asked) old.listened new.listened ⊎ ListensNowhere (listen_of asked) old.listened new.listened
+  pub none_ran : new.runs ≡ old.runs
+
+abbrev pub RunsSo : Asked → ServersView → Result ℕ OpenFault → ServersView → Type 0
+RunsSo asked old (Ok served) new = Ran asked old served new
+RunsSo asked old (Err fault) new = RanNot asked old new
 
 -- a count of failures after a service
 abbrev pub failures_of_service : ℕ → Result ℕ OpenFault → ℕ
@@ -40,6 +90,5 @@ failures_of_service failures (Err fault) = failures + 1
 
 -- one service was asked for, once, and this came of it
 pub record IsOneService (asked : Asked) (old : ServersView) (result : Result ℕ OpenFault) (new : ServersView) : Type 0 where
-  pub serves : ServiceGives (listen_of asked) (clients_of asked) result
-  pub asked_once : new.asked ≡ old.asked ++ asked ∷ []
+  pub runs : RunsSo asked old result new
   pub counted : new.failures ≡ failures_of_service old.failures result

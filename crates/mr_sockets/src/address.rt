@@ -1,12 +1,41 @@
 //! The addresses that names of nodes are.
-ghost use Rattle.std.specs.Prelude.{◌≡◌, ℕ, List, Option, Some, MatchOption};
-ghost use Rattle.mr_sockets.specs.Address.{IsAddress, IsPort, host_reached};
+ghost use Rattle.std.specs.Prelude.{◌≡◌, ◌≢◌, ℕ, ◌<◌, ◌^◌, ◌⊎◌, true, false, length, slice_index, MatchOption, decimal};
+ghost use Rattle.std.specs.declared.net.ipv4_addr.Ipv4Addr.{Ipv4Addr};
+ghost use Rattle.mr_sockets.specs.Address.{IsHost, GivesAddress, GivesNodeAddress};
 
-/// The port that a text is: decimal digits alone, of a number of at most 65,535.
-fn port_of(digits: &str) -> Option<u16>
-    ensures { MatchOption result ((port : ℕ) → ¬ IsPort digits.now port) (IsPort digits.now) }
+use std::net::{Ipv4Addr, SocketAddrV4};
+
+/// The host that a text is. `localhost` is 127.0.0.1, whatever the machine's tables say.
+fn host_of(text: &str) -> Option<Ipv4Addr>
+    ensures { MatchOption result ((host : Ipv4Addr) → ¬ IsHost text.now host) (IsHost text.now) }
 {
-    if digits.starts_with('+') {
+    if text == "localhost" {
+        return Some(Ipv4Addr::new(127, 0, 0, 1));
+    }
+    match text.parse::<Ipv4Addr>() {
+        Ok(host) => Some(host),
+        Err(_) => None,
+    }
+}
+
+/// Whether a text begins as a number's digits do: with no sign, and with a zero only where that is all.
+fn begins_plainly(digits: &str) -> bool
+    ensures sign { result ≡ true → slice_index digits.now 0 ≢ 43 }
+    ensures zero { result ≡ true → slice_index digits.now 0 ≡ 48 → length digits.now ≡ 1 }
+    ensures others { result ≡ false → (slice_index digits.now 0 ≡ 43) ⊎ ((slice_index digits.now 0 ≡ 48) × (1 < length digits.now)) }
+{
+    match digits.as_bytes() {
+        [b'+', ..] => false,
+        [b'0', _, ..] => false,
+        _ => true,
+    }
+}
+
+/// The port whose decimal digits a text is: it has no sign and no leading zero.
+fn port_of(digits: &str) -> Option<u16>
+    ensures { MatchOption result ((port : ℕ) → port < 2 ^ 16 → ¬ (digits.now ≡ decimal port)) (λ port. digits.now ≡ decimal port) }
+{
+    if !begins_plainly(digits) {
         return None;
     }
     match digits.parse::<u16>() {
@@ -15,31 +44,29 @@ fn port_of(digits: &str) -> Option<u16>
     }
 }
 
-/// The host and the port that a name is: a host, one colon, and a decimal port of at most 65,535. None where it is no address.
-pub fn address_of(name: &str) -> Option<(&str, u16)>
-    ensures { MatchOption result
-        ((host : List ℕ) → (port : ℕ) → ¬ IsAddress name.now host port)
-        (λ address. IsAddress name.now address.0.now address.1) }
+/// The address that a text is: an IPv4 address in dotted form or `localhost`, one colon, and a decimal port of at most 65,535
+/// without sign and leading zeros. No name is looked up. None where it is no address.
+pub fn address_of(text: &str) -> Option<SocketAddrV4>
+    ensures { GivesAddress text.now result }
 {
-    let Some((host, digits)) = name.split_once(':') else {
+    let Some((host, digits)) = text.split_once(':') else {
         return None;
     };
-    if host.is_empty() {
+    let Some(host) = host_of(host) else {
         return None;
-    }
+    };
     match port_of(digits) {
-        Some(port) => Some((host, port)),
+        Some(port) => Some(SocketAddrV4::new(host, port)),
         None => None,
     }
 }
 
-/// The host that is asked for where an address names this one: `localhost` is 127.0.0.1, whatever the machine's tables say.
-pub fn host_to_reach(host: &str) -> &str
-    ensures { result.now ≡ host_reached host.now }
+/// The address that a node's name is, which `address_of` gives and whose port isn't 0. None where it is no address of a node.
+pub fn node_address(name: &str) -> Option<SocketAddrV4>
+    ensures { GivesNodeAddress name.now result }
 {
-    if host == "localhost" {
-        "127.0.0.1"
-    } else {
-        host
+    match address_of(name) {
+        Some(address) if address.port() > 0 => Some(address),
+        _ => None,
     }
 }

@@ -3,18 +3,22 @@
 #![tactic(auto)]
 
 mod address;
-mod asked_services;
+mod addresses;
 mod carriers;
 mod connections;
+mod dialling;
 mod fault;
 mod host_servers;
+pub mod laws;
 mod listener;
 mod listening;
 mod node_service;
 mod proxy_service;
+mod runs;
 mod socket_carrier;
+mod tally;
 
-pub use address::{address_of, host_to_reach};
+pub use address::{address_of, node_address};
 pub use carriers::node_carriers;
 pub use fault::OpenFault;
 pub use host_servers::HostServers;

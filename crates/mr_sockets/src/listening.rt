@@ -1,21 +1,78 @@
-//! Sockets that listen.
-ghost use Rattle.std.specs.Prelude.{IfSome};
-ghost use Rattle.mr_sockets.specs.Address.{HasAddress};
+//! Sockets that listen, with the addresses that were asked for as contracts see them.
+ghost use Rattle.std.specs.Prelude.{◌≡◌, List, [], ◌∷◌, ◌++◌};
+ghost use Rattle.std.specs.declared.net.socket_addr.SocketAddrV4.{SocketAddrV4};
+ghost use Rattle.mr_sockets.specs.Servers.{Opens};
 
-use crate::address::{address_of, host_to_reach};
-use std::net::{Net, TcpListener, TcpStream};
+use crate::address::address_of;
+use crate::addresses::GhostAddresses;
+use crate::listener::OverListener;
+use std::marker::Model;
+use std::net::{Net, SocketAddrV4, TcpListener, TcpStream};
 
-/// A socket that listens at an address: a host, one colon, and a decimal port. None where it is no address, or where the
-/// machine gives no socket there.
-pub(crate) fn listener_at<N: Net<Listener = TcpListener, Stream = TcpStream>>(
-    net: &N,
-    address: &str,
-) -> Option<TcpListener>
-    ensures { IfSome result (λ _. HasAddress address.now) }
-{
-    let (host, port) = address_of(address)?;
-    match TcpListener::bind(net, (host_to_reach(host), port)) {
-        Ok(listener) => Some(listener),
-        Err(_) => None,
+/// What sockets that listen are asked of, whose contract tells at which addresses.
+pub(crate) trait Listens {
+    /// The addresses that a socket was asked to listen at, in order.
+    ghost listened: { Self → List SocketAddrV4 };
+
+    /// A socket that listens at this address, at port 0 at any free one. None where the machine gives none there.
+    fn listen(&mut self, address: SocketAddrV4) -> Option<OverListener>
+        ensures { listened self.new ≡ listened self.old ++ address ∷ [] };
+}
+
+/// The sockets of a machine.
+pub(crate) struct HostListens<'a, R: Net<Listener = TcpListener, Stream = TcpStream>> {
+    net: &'a R,
+    listened: GhostAddresses,
+}
+
+impl<'a, R: Net<Listener = TcpListener, Stream = TcpStream>> Drop for HostListens<'a, R> {
+    fn drop(self) {
+        let Self {
+            net: _,
+            listened: _,
+        } = self;
     }
+}
+
+impl<'a, R: Net<Listener = TcpListener, Stream = TcpStream>> Model for HostListens<'a, R> {
+    ghost use Rattle.std.specs.Prelude.{List};
+    ghost use Rattle.std.specs.declared.net.socket_addr.SocketAddrV4.{SocketAddrV4};
+
+    ghost Value = { List SocketAddrV4 };
+
+    ghost view = { λ l. l.listened };
+}
+
+impl<'a, R: Net<Listener = TcpListener, Stream = TcpStream>> HostListens<'a, R> {
+    ghost use Rattle.std.specs.Prelude.{◌≡◌, []};
+
+    /// The sockets of this machine, of which none was asked to listen yet.
+    pub(crate) fn new(net: &'a R) -> HostListens<'a, R>
+        ensures { result ≡ [] }
+    {
+        HostListens {
+            net,
+            listened: GhostAddresses::new(),
+        }
+    }
+}
+
+impl<'a, R: Net<Listener = TcpListener, Stream = TcpStream>> Listens for HostListens<'a, R> {
+    ghost listened = { λ l. l };
+
+    fn listen(&mut self, address: SocketAddrV4) -> Option<OverListener> {
+        self.listened.add(address);
+        match TcpListener::bind(self.net, address) {
+            Ok(listener) => Some(OverListener::new(listener)),
+            Err(_) => None,
+        }
+    }
+}
+
+/// A socket that listens at the address that a text is. None where it is no address, or where the machine gives none there.
+pub(crate) fn open<L: Listens>(listens: &mut L, text: &str) -> Option<OverListener>
+    ensures { Opens text.now (L.listened listens.old) result (L.listened listens.new) }
+{
+    let address = address_of(text)?;
+    listens.listen(address)
 }

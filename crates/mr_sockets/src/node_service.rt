@@ -1,14 +1,18 @@
 //! The service of a node's connections.
+ghost use Rattle.std.specs.Prelude.{◌≡◌, ◌+◌, ◌≤◌, Some, Err, [], ◌∷◌, ◌++◌, option_map};
 ghost use Rattle.mr_sockets.specs.Listener.{AreAccepted};
+ghost use Rattle.mr_sockets.specs.Servers.{NodeServing, run};
 
 use crate::connections::{Service, serve_connections};
-use crate::listener::Listener;
-use mr_clock::Clock;
+use crate::listener::{Listener, OverListener};
+use crate::runs::GhostRuns;
+use mr_clock::{Clock, SystemClock};
 use mr_desks::SharedNode;
-use mr_node::serve;
-use mr_text::{OverReader, OverWriter};
+use mr_node::{CacheNode, Ended, NodeError, serve};
+use mr_text::{OverReader, OverWriter, Sink, Source};
 use std::alloc::Global;
 use std::net::TcpStream;
+use std::snapshot::Snapshot;
 use std::sync::Wait;
 use std::thread::Threads;
 use std::time;
@@ -18,6 +22,7 @@ struct NodeService<'a, K: Clock + Clone, R: Wait> {
     rt: &'a R,
     alloc: Global,
     node: &'a SharedNode,
+    began: &'a Option<Snapshot<CacheNode>>,
     turns: u64,
     clock: &'a K,
 }
@@ -28,29 +33,44 @@ impl<'a, K: Clock + Clone, R: Wait> Drop for NodeService<'a, K, R> {
             rt: _,
             alloc: _,
             node: _,
+            began: _,
             turns: _,
             clock: _,
         } = self;
     }
 }
 
+impl<'a, K: Clock + Clone, R: Wait> NodeService<'a, K, R> {
+    /// Serves what a reader gives, in at most `turns` reads.
+    fn serve_stream<C: Clock, S: Source, W: Sink>(
+        &self,
+        clock: &mut C,
+        reader: &mut S,
+        writer: &mut W,
+    ) -> Result<Ended, NodeError>
+        ensures reads { (S.told reader.new).reads ≤ (S.told reader.old).reads + self.now.turns }
+        ensures spent { result ≡ Err NodeError.TurnsSpent → (S.told reader.new).reads ≡ (S.told reader.old).reads + self.now.turns }
+    {
+        let mut node = self.node.desk(self.rt);
+        serve(self.alloc, &mut node, reader, writer, clock, self.turns)
+    }
+}
+
 impl<'a, K: Clock + Clone, R: Wait> Service for NodeService<'a, K, R> {
+    ghost serves = { λ s. NodeServing (option_map (λ b. b.value) s.began.now) s.turns };
+
+    fn note(&self, clients: u64, runs: &mut GhostRuns) {
+        runs.add_node(self.began, self.turns, clients);
+    }
+
     fn serve(&self, stream: &TcpStream) -> bool {
         let Ok(mut clock) = self.clock.clone() else {
             return false;
         };
-        let mut node = self.node.desk(self.rt);
         let mut reader = OverReader::new(stream);
         let mut writer = OverWriter::new(stream);
-        serve(
-            self.alloc,
-            &mut node,
-            &mut reader,
-            &mut writer,
-            &mut clock,
-            self.turns,
-        )
-        .is_ok()
+        self.serve_stream(&mut clock, &mut reader, &mut writer)
+            .is_ok()
     }
 }
 
@@ -62,26 +82,66 @@ impl<'a, K: Clock + Clone, R: Wait> Service for NodeService<'a, K, R> {
 /// A connection that can't be accepted, or gets no thread or no clock, has ended with a fault, and stops no other; after one
 /// that can't be accepted there is a pause of 100 milliseconds. Nothing is kept of a connection that has ended.
 pub fn serve_node<
+    'a,
     L: Listener + Drop,
     K: Clock + Clone + Sync,
     R: Threads + Wait + time::Clock + Sync,
 >(
-    rt: &R,
+    rt: &'a R,
     alloc: Global,
     listener: L,
-    node: &SharedNode,
+    node: &'a SharedNode,
     clients: u64,
     turns: u64,
-    clock: &K,
+    clock: &'a K,
 ) -> (L, u64)
     ensures { AreAccepted clients (L.told listener) result.1 (L.told result.0) }
 {
+    let began = None;
     let service = NodeService {
         rt,
         alloc,
         node,
+        began: &began,
         turns,
         clock,
     };
-    serve_connections(rt, listener, &service, clients)
+    let mut runs = GhostRuns::new();
+    serve_connections(rt, listener, &service, clients, &mut runs)
+}
+
+/// A cache, shared, with what it was at first.
+fn share(node: CacheNode) -> (SharedNode, Snapshot<CacheNode>)
+    ensures { result.1.value ≡ node }
+{
+    let began = Snapshot::of(&node);
+    (SharedNode::new(node), began)
+}
+
+/// Serves a node at a socket of its own, by the machine's time, and gives how many of its clients ended without a fault.
+pub(crate) fn run_node<R: Threads + Wait + time::Clock + Sync>(
+    rt: &R,
+    alloc: Global,
+    listener: OverListener,
+    node: CacheNode,
+    clients: u64,
+    turns: u64,
+    runs: &mut GhostRuns,
+) -> u64
+    ensures among { result ≤ clients }
+    ensures ran { runs.new ≡ runs.old ++ run (NodeServing (Some node) turns) clients ∷ [] }
+{
+    let (node, began) = share(node);
+    let began = Some(began);
+    let clock = SystemClock::new(rt);
+    let service = NodeService {
+        rt,
+        alloc,
+        node: &node,
+        began: &began,
+        turns,
+        clock: &clock,
+    };
+    let (_, served) = serve_connections(rt, listener, &service, clients, runs);
+    served
 }

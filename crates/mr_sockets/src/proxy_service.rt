@@ -1,17 +1,24 @@
 //! The service of a proxy's connections.
+ghost use Rattle.std.specs.Prelude.{◌≡◌, ◌+◌, ◌≤◌, Some, Err, [], ◌∷◌, ◌++◌, option_map};
+ghost use Rattle.mr_proxy.specs.ProxyView.{IsFresh};
+ghost use Rattle.mr_desks.specs.declared.error.WorkerError.TheVariants.{TurnsSpent};
 ghost use Rattle.mr_sockets.specs.Listener.{AreAccepted};
+ghost use Rattle.mr_sockets.specs.Servers.{ProxyServing, run};
 
 use crate::carriers::node_carriers;
 use crate::connections::{Service, serve_connections};
-use crate::listener::Listener;
+use crate::listener::{Listener, OverListener};
+use crate::runs::GhostRuns;
 use crate::socket_carrier::SocketCarrier;
-use mr_clock::Clock;
-use mr_desks::{Desk, DirectCarriers};
+use mr_clock::{Clock, SystemClock};
+use mr_desks::{Carriers, Desk, DirectCarriers, SharedProxy};
 use mr_pools::Routing;
-use mr_sessions::serve_client;
-use mr_text::{OverReader, OverWriter};
+use mr_proxy::ProxyCore;
+use mr_sessions::{Served, serve_client};
+use mr_text::{OverReader, OverWriter, Sink, Source};
 use std::alloc::Global;
 use std::net::{Net, TcpListener, TcpStream};
+use std::snapshot::Snapshot;
 use std::sync::Wait;
 use std::thread::Threads;
 use std::time;
@@ -22,6 +29,7 @@ struct ProxyService<'a, N: Net + Copy, D: Desk<SocketCarrier<N>>, K: Clock + Clo
     net: N,
     alloc: Global,
     desk: &'a D,
+    began: &'a Option<Snapshot<ProxyCore>>,
     routing: &'a Routing,
     turns: u64,
     clock: &'a K,
@@ -35,6 +43,7 @@ impl<'a, N: Net + Copy, D: Desk<SocketCarrier<N>>, K: Clock + Clone, R: Wait> Dr
             net: _,
             alloc: _,
             desk: _,
+            began: _,
             routing: _,
             turns: _,
             clock: _,
@@ -42,8 +51,38 @@ impl<'a, N: Net + Copy, D: Desk<SocketCarrier<N>>, K: Clock + Clone, R: Wait> Dr
     }
 }
 
+impl<'a, N: Net + Copy, D: Desk<SocketCarrier<N>>, K: Clock + Clone, R: Wait> ProxyService<
+    'a,
+    N,
+    D,
+    K,
+    R,
+> {
+    /// Serves what a reader gives, in at most `turns` reads.
+    fn serve_stream<C: Clock, S: Source, W: Sink, L: Carriers<SocketCarrier<N>>>(
+        &self,
+        clock: &mut C,
+        reader: &mut S,
+        writer: &mut W,
+        carriers: &mut L,
+    ) -> Served
+        ensures reads { (S.told reader.new).reads ≤ (S.told reader.old).reads + self.now.turns }
+        ensures spent { result.ended ≡ Err TurnsSpent → (S.told reader.new).reads ≡ (S.told reader.old).reads + self.now.turns }
+    {
+        serve_client(
+            self.rt, self.alloc, self.desk, clock, reader, writer, carriers, self.turns,
+        )
+    }
+}
+
 impl<'a, N: Net + Copy, D: Desk<SocketCarrier<N>>, K: Clock + Clone, R: Wait> Service
     for ProxyService<'a, N, D, K, R> {
+    ghost serves = { λ s. ProxyServing (option_map (λ b. b.value) s.began.now) s.routing.now s.turns };
+
+    fn note(&self, clients: u64, runs: &mut GhostRuns) {
+        runs.add_proxy(self.began, self.routing, self.turns, clients);
+    }
+
     fn serve(&self, stream: &TcpStream) -> bool {
         let Ok(mut clock) = self.clock.clone() else {
             return false;
@@ -54,17 +93,9 @@ impl<'a, N: Net + Copy, D: Desk<SocketCarrier<N>>, K: Clock + Clone, R: Wait> Se
         let mut carriers = DirectCarriers::new(self.alloc, pools);
         let mut reader = OverReader::new(stream);
         let mut writer = OverWriter::new(stream);
-        let served = serve_client(
-            self.rt,
-            self.alloc,
-            self.desk,
-            &mut clock,
-            &mut reader,
-            &mut writer,
-            &mut carriers,
-            self.turns,
-        );
-        served.ended.is_ok()
+        self.serve_stream(&mut clock, &mut reader, &mut writer, &mut carriers)
+            .ended
+            .is_ok()
     }
 }
 
@@ -77,32 +108,80 @@ impl<'a, N: Net + Copy, D: Desk<SocketCarrier<N>>, K: Clock + Clone, R: Wait> Se
 /// A connection that can't be accepted, or gets no thread, no clock or no carriers, has ended with a fault, and stops no
 /// other; after one that can't be accepted there is a pause of 100 milliseconds. Nothing is kept of a connection that has ended.
 pub fn serve_proxy<
+    'a,
     L: Listener + Drop,
     N: Net<Listener = TcpListener, Stream = TcpStream> + Copy + Send + Sync,
     D: Desk<SocketCarrier<N>> + Sync,
     K: Clock + Clone + Sync,
     R: Threads + Wait + time::Clock + Sync,
 >(
-    rt: &R,
+    rt: &'a R,
     alloc: Global,
     net: N,
     listener: L,
-    desk: &D,
-    routing: &Routing,
+    desk: &'a D,
+    routing: &'a Routing,
     clients: u64,
     turns: u64,
-    clock: &K,
+    clock: &'a K,
 ) -> (L, u64)
     ensures { AreAccepted clients (L.told listener) result.1 (L.told result.0) }
 {
+    let began = None;
     let service = ProxyService {
         rt,
         alloc,
         net,
         desk,
+        began: &began,
         routing,
         turns,
         clock,
     };
-    serve_connections(rt, listener, &service, clients)
+    let mut runs = GhostRuns::new();
+    serve_connections(rt, listener, &service, clients, &mut runs)
+}
+
+/// A fresh proxy, shared, with what it was at first.
+fn share<N: Net + Copy>(core: ProxyCore) -> (SharedProxy<SocketCarrier<N>>, Snapshot<ProxyCore>)
+    requires { IsFresh core }
+    ensures { result.1.value ≡ core }
+{
+    let began = Snapshot::of(&core);
+    (SharedProxy::new(core), began)
+}
+
+/// Serves a fresh proxy at a socket of its own, by the machine's time and by carriers to the nodes of a routing, and gives how
+/// many of its clients ended without a fault.
+pub(crate) fn run_proxy<
+    R: Net<Listener = TcpListener, Stream = TcpStream> + Threads + Wait + time::Clock + Sync,
+>(
+    rt: &R,
+    alloc: Global,
+    listener: OverListener,
+    core: ProxyCore,
+    routing: &Routing,
+    clients: u64,
+    turns: u64,
+    runs: &mut GhostRuns,
+) -> u64
+    requires { IsFresh core }
+    ensures among { result ≤ clients }
+    ensures ran { runs.new ≡ runs.old ++ run (ProxyServing (Some core) routing.now turns) clients ∷ [] }
+{
+    let (desk, began) = share::<&R>(core);
+    let began = Some(began);
+    let clock = SystemClock::new(rt);
+    let service = ProxyService {
+        rt,
+        alloc,
+        net: rt,
+        desk: &desk,
+        began: &began,
+        routing,
+        turns,
+        clock: &clock,
+    };
+    let (_, served) = serve_connections(rt, listener, &service, clients, runs);
+    served
 }

@@ -1,69 +1,85 @@
 //! A carrier that reaches its node by a socket.
-ghost use Rattle.std.specs.Prelude.{◌≡◌, ◌+◌, false, Some, None, IfSome, IfOk, MatchResult, option_map};
+ghost use Rattle.std.specs.Prelude.{◌≡◌, ◌+◌, [], ◌∷◌, ◌++◌, false, Some, None, IfSome, IfOk, MatchResult, option_map};
 ghost use Rattle.mr_desks.specs.Local.{IsReplyOfKind};
-ghost use Rattle.mr_sockets.specs.Address.{HasAddress};
-ghost use Rattle.mr_sockets.specs.SocketCarrier.{fresh_carrier, IsNewLink, CarriesOver, CarriesFrom, CarriesSo, SocketCarries};
+ghost use Rattle.mr_sockets.specs.Address.{IsNodeAddress};
+ghost use Rattle.mr_sockets.specs.SocketCarrier.{fresh_carrier, reach, IsKeptTo, IsNewConnection, IsNewLink, CarriesOver, CarriesTo, CarriesFrom, CarriesSo, SocketCarries};
 
-use crate::address::{address_of, host_to_reach};
+use crate::address::node_address;
+use crate::dialling::{Dials, HostDials};
 use mr_desks::{Carrier, WorkerError};
 use mr_join::LegReply;
 use mr_pools::NodeName;
 use mr_proxy::LegSheet;
 use mr_sessions::NodeLink;
-use mr_text::{GhostCount, OverReader, OverWriter, Sink, Source};
+use mr_text::{GhostCount, OverReader, OverWriter};
 use std::alloc::{AllocError, Global};
 use std::io::{Read, Write};
 use std::marker::Model;
-use std::net::{Net, OpenStream, TcpStream};
+use std::net::{Net, OpenStream, SocketAddrV4};
+use std::snapshot::Snapshot;
 
-/// A link by a connection.
-type Link<S> = NodeLink<OverReader<S>, OverWriter<S>>;
+/// A connection, with the address that it was made to as contracts see it.
+struct Connection<S: Read + Write> {
+    peer: Snapshot<SocketAddrV4>,
+    link: NodeLink<OverReader<S>, OverWriter<S>>,
+}
 
-/// A carrier to the node of one name, which is the address that it connects to: a host, one colon, and a decimal port. The
-/// host `localhost` is 127.0.0.1. It connects at its first leg, and again at the first leg after a fault. A leg is lost where
-/// no connection can be made, and each leg is where the name is no address.
+impl<S: Read + Write + Drop> Drop for Connection<S> {
+    fn drop(self) {
+        let Self { peer: _, link: _ } = self;
+    }
+}
+
+impl<S: Read + Write> Model for Connection<S> {
+    ghost use Rattle.mr_sockets.specs.SocketCarrier.{ConnectionView};
+
+    ghost Value = { ConnectionView };
+
+    ghost view = { λ c. record { peer = c.peer.value; link = c.link } };
+}
+
+/// A carrier to the node of one name, which is the address that it connects to, as `node_address` reads it. It connects at its
+/// first leg, and again at the first leg after a fault. A leg is lost where no connection can be made, and each leg is where
+/// the name is no address of a node.
 pub struct SocketCarrier<N: Net + Copy> {
-    net: N,
+    dials: HostDials<N>,
     alloc: Global,
     name: NodeName,
     turns: u64,
-    link: Option<Link<N::Stream>>,
+    connection: Option<Connection<N::Stream>>,
     faults: GhostCount,
 }
 
 impl<N: Net + Copy> Drop for SocketCarrier<N> {
     fn drop(self) {
         let Self {
-            net: _,
+            dials: _,
             alloc: _,
             name: _,
             turns: _,
-            link: _,
+            connection: _,
             faults: _,
         } = self;
     }
 }
 
 impl<N: Net + Copy> Model for SocketCarrier<N> {
-    ghost use Rattle.std.specs.Prelude.{◌≡◌, false, option_map, IfSome};
-    ghost use Rattle.mr_sockets.specs.SocketCarrier.{SocketView};
+    ghost use Rattle.std.specs.Prelude.{option_map, IfSome};
+    ghost use Rattle.mr_sockets.specs.SocketCarrier.{SocketView, reach, IsKeptTo};
 
     ghost Value = { SocketView };
 
-    ghost view = { λ c. record { name = c.name; turns = c.turns; link = option_map (λ link. link) c.link; faults = c.faults } };
+    ghost view = { λ c. record {
+      reach = record {
+        name = c.name;
+        turns = c.turns;
+        dialled = c.dials;
+        connection = option_map (λ connection. connection) c.connection;
+      };
+      faults = c.faults;
+    } };
 
-    ghost invariant = { λ c. IfSome c.link (λ link. link.broken ≡ false) };
-}
-
-/// A connection to the host of this name, without delay of small packets.
-fn stream_to<N: Net>(net: &N, host: &str, port: u16) -> Option<N::Stream> {
-    match TcpStream::connect(net, (host_to_reach(host), port)) {
-        Ok(stream) => {
-            let _ = stream.set_nodelay(true);
-            Some(stream)
-        }
-        Err(_) => None,
-    }
+    ghost invariant = { λ c. IfSome c.connection (IsKeptTo c.name) };
 }
 
 /// A link by a connection, which reads by a second handle of it.
@@ -71,7 +87,7 @@ fn link_by<S: Read + Write + OpenStream + Drop>(
     alloc: Global,
     stream: S,
     turns: u64,
-) -> Option<Link<S>>
+) -> Option<NodeLink<OverReader<S>, OverWriter<S>>>
     ensures { IfSome result (IsNewLink turns) }
 {
     let Ok(reader) = stream.try_clone() else {
@@ -85,51 +101,86 @@ fn link_by<S: Read + Write + OpenStream + Drop>(
     ))
 }
 
-/// A link by a new connection to the node of this name. None where none can be made.
-fn new_link<N: Net>(net: &N, alloc: Global, name: &NodeName, turns: u64) -> Option<Link<N::Stream>>
-    ensures new { IfSome result (IsNewLink turns) }
-    ensures addressed { IfSome result (λ _. HasAddress name.now) }
+/// A new connection to this address, which is dialled once. None where none can be made.
+fn connect<D: Dials>(
+    dials: &mut D,
+    alloc: Global,
+    address: SocketAddrV4,
+    turns: u64,
+) -> Option<Connection<D::Stream>>
+    ensures new { IfSome result (IsNewConnection address turns) }
+    ensures dialled { D.dialled dials.new ≡ D.dialled dials.old ++ address ∷ [] }
 {
-    let (host, port) = address_of(name.as_str())?;
-    let stream = stream_to(net, host, port)?;
-    link_by(alloc, stream, turns)
+    let stream = dials.dial(address)?;
+    let link = link_by(alloc, stream, turns)?;
+    Some(Connection {
+        peer: Snapshot::of(&address),
+        link,
+    })
 }
 
-/// Carries a leg over a link. It is handed back where it isn't broken then.
-fn carry_over<S: Source + Drop, W: Sink + Drop>(
-    mut link: NodeLink<S, W>,
-    sheet: &LegSheet,
-) -> (Result<LegReply, WorkerError>, Option<NodeLink<S, W>>)
-    requires { link.broken ≡ false }
-    ensures carried { CarriesOver sheet.now.command link result.0 (option_map (λ link. link) result.1) }
-    ensures gave { IfOk result.0 (λ reply. IsReplyOfKind sheet.now reply) }
-    ensures whole { IfSome result.1 (λ link. link.broken ≡ false) }
-{
-    match link.carry(sheet) {
-        Ok(reply) => (Ok(reply), Some(link)),
-        Err(fault) => (Err(fault), None),
+impl<S: Read + Write + Drop> Connection<S> {
+    /// Carries a leg over this connection to the node of this name. It is handed back where its link isn't broken then.
+    fn carry(
+        self,
+        name: &NodeName,
+        sheet: &LegSheet,
+    ) -> (Result<LegReply, WorkerError>, Option<Connection<S>>)
+        requires { IsKeptTo name.now self }
+        ensures carried { CarriesOver sheet.now.command self result.0 (option_map (λ c. c) result.1) }
+        ensures gave { IfOk result.0 (λ reply. IsReplyOfKind sheet.now reply) }
+        ensures kept { IfSome result.1 (IsKeptTo name.now) }
+    {
+        let Self { peer, mut link } = self;
+        match link.carry(sheet) {
+            Ok(reply) => (Ok(reply), Some(Connection { peer, link })),
+            Err(fault) => (Err(fault), None),
+        }
     }
 }
 
-/// Carries a leg over this link, or where there is none over a new one to the node of this name. The link over which it was
-/// carried is handed back. LinkBroken where no link could be made.
-fn carry_from<N: Net>(
-    net: &N,
+/// Carries a leg over a new connection to this address, which the name of the node is. LinkBroken where none could be made.
+fn carry_to<D: Dials>(
+    dials: &mut D,
+    alloc: Global,
+    name: &NodeName,
+    address: SocketAddrV4,
+    turns: u64,
+    sheet: &LegSheet,
+) -> (Result<LegReply, WorkerError>, Option<Connection<D::Stream>>)
+    requires { IsNodeAddress name.now address }
+    ensures carried { CarriesTo address sheet.now.command turns result.0 (option_map (λ c. c) result.1) }
+    ensures dialled { D.dialled dials.new ≡ D.dialled dials.old ++ address ∷ [] }
+    ensures gave { IfOk result.0 (λ reply. IsReplyOfKind sheet.now reply) }
+    ensures kept { IfSome result.1 (IsKeptTo name.now) }
+{
+    match connect(dials, alloc, address, turns) {
+        Some(connection) => connection.carry(name, sheet),
+        None => (Err(WorkerError::LinkBroken), None),
+    }
+}
+
+/// Carries a leg over this connection, or where there is none over a new one to the address that the name of the node is. The
+/// connection is handed back where its link isn't broken then. LinkBroken where none could be made.
+fn carry_from<D: Dials>(
+    dials: &mut D,
     alloc: Global,
     name: &NodeName,
     turns: u64,
-    link: Option<Link<N::Stream>>,
+    connection: Option<Connection<D::Stream>>,
     sheet: &LegSheet,
-) -> (Result<LegReply, WorkerError>, Option<Link<N::Stream>>)
-    requires { IfSome link (λ link. link.broken ≡ false) }
-    ensures carried { CarriesFrom sheet.now.command name.now turns (option_map (λ link. link) link) result.0 (option_map (λ link. link) result.1) }
+) -> (Result<LegReply, WorkerError>, Option<Connection<D::Stream>>)
+    requires { IfSome connection (IsKeptTo name.now) }
+    ensures carried { CarriesFrom sheet.now.command
+        (reach name.now turns (D.dialled dials.old) (option_map (λ c. c) connection)) result.0
+        (reach name.now turns (D.dialled dials.new) (option_map (λ c. c) result.1)) }
     ensures gave { IfOk result.0 (λ reply. IsReplyOfKind sheet.now reply) }
-    ensures whole { IfSome result.1 (λ link. link.broken ≡ false) }
+    ensures kept { IfSome result.1 (IsKeptTo name.now) }
 {
-    match link {
-        Some(link) => carry_over(link, sheet),
-        None => match new_link(net, alloc, name, turns) {
-            Some(link) => carry_over(link, sheet),
+    match connection {
+        Some(connection) => connection.carry(name, sheet),
+        None => match node_address(name.as_str()) {
+            Some(address) => carry_to(dials, alloc, name, address, turns, sheet),
             None => (Err(WorkerError::LinkBroken), None),
         },
     }
@@ -137,6 +188,7 @@ fn carry_from<N: Net>(
 
 impl<N: Net + Copy> SocketCarrier<N> {
     /// A carrier to the node of this name, which makes at most `turns` reads for a leg. It isn't connected yet.
+    #[tactic(auto, unfolding(crate::specs::SocketCarrier::fresh_carrier))]
     pub fn new(
         net: N,
         alloc: Global,
@@ -146,11 +198,11 @@ impl<N: Net + Copy> SocketCarrier<N> {
         ensures { IfOk result (λ carrier. carrier ≡ fresh_carrier turns name.now) }
     {
         Ok(SocketCarrier {
-            net,
+            dials: HostDials::new(net),
             alloc,
             name: name.copy()?,
             turns,
-            link: None,
+            connection: None,
             faults: GhostCount::new(),
         })
     }
@@ -160,9 +212,16 @@ impl<N: Net + Copy> SocketCarrier<N> {
         ensures gave { IfOk result (λ reply. IsReplyOfKind sheet.now reply) }
         ensures carried { CarriesSo sheet.now.command self.old result self.new }
     {
-        let link = self.link.take();
-        let (result, link) = carry_from(&self.net, self.alloc, &self.name, self.turns, link, sheet);
-        self.link = link;
+        let kept = self.connection.take();
+        let (result, kept) = carry_from(
+            &mut self.dials,
+            self.alloc,
+            &self.name,
+            self.turns,
+            kept,
+            sheet,
+        );
+        self.connection = kept;
         if result.is_err() {
             self.faults.add_one();
         }

@@ -67,12 +67,24 @@ fn routing(alloc: Global, new: &[&[u8]]) -> Result<Routing, AllocError> {
     or_no_memory(Routing::new(old, pool(alloc, new)?, NamedHash::Sum))
 }
 
-/// The proxy of this number, whose new pool has these nodes.
+/// The proxy of this number, whose new pool has these nodes, with room for 8 requests.
 fn core_of(alloc: Global, number: u32, new: &[&[u8]]) -> Result<ProxyCore, AllocError>
     ensures { IfOk result IsFresh }
 {
+    core_with_room(alloc, number, new, 8)
+}
+
+/// The same with room for so many requests.
+fn core_with_room(
+    alloc: Global,
+    number: u32,
+    new: &[&[u8]],
+    room: u64,
+) -> Result<ProxyCore, AllocError>
+    ensures { IfOk result IsFresh }
+{
     let schedule = or_no_memory(Schedule::new(1000, 100))?;
-    Ok(ProxyCore::new(alloc, number, 0, routing(alloc, new)?, schedule, 8))
+    Ok(ProxyCore::new(alloc, number, 0, routing(alloc, new)?, schedule, room))
 }
 
 /// The same with a book, which keeps at most so many steps.

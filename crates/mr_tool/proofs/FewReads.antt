@@ -1,5 +1,5 @@
 -- How often a run reads its input.
-use Rattle.std.proofs.Common.{arith, ◌≡◌, ◌≤◌, ◌+◌, ℕ, List, Option, Some, None, Result, Ok, Err, refl, ap, subst, inl, inr}
+use Rattle.std.proofs.Common.{arith, ◌≡◌, ◌≤◌, ◌+◌, ℕ, List, Option, Some, None, Result, Ok, Err, refl, ap, inl, inr}
 use Rattle.mr_text.specs.Source.{SourceView}
 use Rattle.mr_tool.proofs.RequestLemmas.{few_reads}
 use Rattle.mr_words.proofs.WordLemmas.{no_version_said, one_said}
@@ -219,7 +219,3 @@ few words before after idle busy status (inr (inl refuses, same)) = λ command s
 few words before after idle busy status (inr (inr (inl refuses), same)) = λ command says. unread _ _ _ refuses.tells.unread
 few words before after idle busy status (inr (inr (inr (inl memory)), same)) = λ command says. unread _ _ _ memory.1.unread
 few words before after idle busy status (inr (inr (inr (inr tells)), same)) = λ command says. absurd (no_version_said words command says tells.says)
-
--- words that are the same read as few
-pub same_words_few : (words others : List (List ℕ)) (before after : Devices) → words ≡ others → ReadsFew words before after → ReadsFew others before after
-same_words_few words others before after same reads = subst (λ (w : List (List ℕ)). ReadsFew w before after) same reads

@@ -5,3 +5,4 @@ pub mod InputLemmas
 pub mod RequestLemmas
 pub mod RunLemmas
 pub mod TextLemmas
+pub mod WholeRun

@@ -231,8 +231,3 @@ pub version_run : (words : List (List ℕ)) (before between after : Devices) (se
     → VersionGives before between result → between.faults ≡ before.faults → EndsWith result status between after → Runs words before after servers servers status
 version_run words before between after servers result status says gives silent ends =
     inr (inr (inr (inr (record { says = says; between = between; result = result; gives = gives; silent = silent; ends = ends }))), refl)
-
--- words that are the same run the same
-pub same_words_run : (words others : List (List ℕ)) (before after : Devices) (idle busy : ServersView) (status : ℕ) → words ≡ others
-    → Runs words before after idle busy status → Runs others before after idle busy status
-same_words_run words others before after idle busy status same runs = subst (λ (w : List (List ℕ)). Runs w before after idle busy status) same runs

@@ -3,6 +3,7 @@ use Rattle.std.specs.Prelude.{◌≡◌, ℕ, List, Result}
 use Rattle.mr_text.specs.Source.{SourceView}
 use Rattle.mr_text.specs.Sink.{SinkView, IsOneWrite}
 use Rattle.mr_text.specs.declared.error.WriteFault.{WriteFault}
+use Rattle.mr_sockets.specs.Servers.{ServersView}
 use Rattle.mr_tool.specs.Sources.{SourcesView}
 
 -- the four devices, as contracts see them
@@ -14,6 +15,14 @@ pub record Devices : Type 0 where
 
 abbrev pub devices : SourcesView → SourceView → SinkView → SinkView → Devices
 devices sources input output faults = record { sources = sources; input = input; output = output; faults = faults }
+
+-- all that a run may touch: its devices, and the services of the machine
+pub record Machine : Type 0 where
+  pub devices : Devices
+  pub servers : ServersView
+
+abbrev pub machine : SourcesView → SourceView → SinkView → SinkView → ServersView → Machine
+machine sources input output faults servers = record { devices = devices sources input output faults; servers = servers }
 
 -- the text was handed over in one call, whatever that answered
 abbrev pub IsToldAtOnce : List ℕ → SinkView → SinkView → Type 0

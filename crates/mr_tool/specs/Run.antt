@@ -1,7 +1,7 @@
 -- What a run does with its words and its devices.
 use Rattle.std.specs.Prelude.{◌≡◌, ℕ, ◌+◌, ◌≤◌, ◌⊎◌, List, Option, Some, None, Result, Ok, Err}
 use Rattle.mr_tool.specs.CheckCommand.{CheckGives}
-use Rattle.mr_tool.specs.Devices.{Devices, Tells}
+use Rattle.mr_tool.specs.Devices.{Devices, Machine, NoneFailed, Tells}
 use Rattle.mr_words.specs.Explain.{told_by}
 use Rattle.mr_tool.specs.ExplainCommand.{ExplainGives}
 use Rattle.mr_tool.specs.Fault.{fault_line, readings_line}
@@ -118,3 +118,15 @@ most_reads_of (Explain explanation) = 0
 -- the input is read no oftener than the command may that the words say
 abbrev pub ReadsFew : List (List ℕ) → Devices → Devices → Type 0
 ReadsFew words before after = (wanted : Wanted) → Say words wanted → after.input.reads ≤ before.input.reads + most_reads_of wanted
+
+-- what was wanted was done, or a check was made that doesn't accept
+abbrev pub IsDone : ℕ → Type 0
+IsDone status = (status ≡ DONE) ⊎ (status ≡ NOT_ACCEPTED)
+
+-- What a run of these words does, of which this is the status. Where it did what was wanted, no device failed and each service
+-- began.
+pub record IsRunOf (words : List (List ℕ)) (before after : Machine) (status : ℕ) : Type 0 where
+  pub runs : Runs words before.devices after.devices before.servers after.servers status
+  pub reads : ReadsFew words before.devices after.devices
+  pub none_failed : IsDone status → NoneFailed before.devices after.devices
+  pub all_began : IsDone status → after.servers.failures ≡ before.servers.failures

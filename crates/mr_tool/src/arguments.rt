@@ -2,9 +2,9 @@
 ghost use Rattle.std.specs.Prelude.{◌≡◌, drop, map, string_bytes, IfOk, MatchResult};
 ghost use Rattle.std.specs.IoError.{error_kind};
 ghost use Rattle.std.specs.Vec.Iter.{into_iter_items};
-ghost use Rattle.mr_tool.specs.Devices.{devices};
-ghost use Rattle.mr_tool.specs.Program.{LacksArguments};
-ghost use Rattle.mr_tool.specs.Run.{ReadsFew, Runs};
+ghost use Rattle.mr_tool.specs.Devices.{machine};
+ghost use Rattle.mr_tool.specs.Program.{IsRunOfNone};
+ghost use Rattle.mr_tool.specs.Run.{IsRunOf};
 
 use crate::fault::Fault;
 use crate::run::{run_words, tell_fault, tell_not_text};
@@ -42,14 +42,13 @@ pub fn run_arguments<
     output: &mut O,
     faults: &mut F,
 ) -> u8
-    ensures runs { let before = devices (S.told sources.old) (I.told input.old) (O.told output.old) (F.told faults.old) in
-        let after = devices (S.told sources.new) (I.told input.new) (O.told output.new) (F.told faults.new) in
+    ensures { let before = machine
+        (S.told sources.old) (I.told input.old) (O.told output.old) (F.told faults.old) servers.old in
+        let after = machine
+        (S.told sources.new) (I.told input.new) (O.told output.new) (F.told faults.new) servers.new in
         MatchResult arguments
-        (λ given. Runs (map string_bytes (drop 1 (into_iter_items given))) before after servers.old servers.new result)
-        (λ error. LacksArguments (error_kind error) before after result × (servers.new ≡ servers.old)) }
-    ensures reads { IfOk arguments (λ given. ReadsFew (map string_bytes (drop 1 (into_iter_items given)))
-        (devices (S.told sources.old) (I.told input.old) (O.told output.old) (F.told faults.old))
-        (devices (S.told sources.new) (I.told input.new) (O.told output.new) (F.told faults.new))) }
+        (λ given. IsRunOf (map string_bytes (drop 1 (into_iter_items given))) before after result)
+        (λ error. IsRunOfNone (error_kind error) before after result) }
 {
     let given = match arguments {
         Ok(given) => given,

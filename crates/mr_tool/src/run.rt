@@ -2,9 +2,9 @@
 ghost use Rattle.std.specs.Prelude.{◌≡◌, ◌⊎◌, ℕ, List, map};
 ghost use Rattle.mr_text.specs.Sink.{SinkView};
 ghost use Rattle.mr_text.specs.Source.{SourceView};
-ghost use Rattle.mr_tool.specs.Devices.{devices, IsToldAtOnce, NoneFailed};
+ghost use Rattle.mr_tool.specs.Devices.{devices, machine, IsToldAtOnce};
 ghost use Rattle.mr_tool.specs.Fault.{fault_line, not_text_line, readings_line};
-ghost use Rattle.mr_tool.specs.Run.{EndsWith, ReadsFew, Runs};
+ghost use Rattle.mr_tool.specs.Run.{EndsWith, IsRunOf, Runs};
 ghost use Rattle.mr_tool.specs.Sources.{SourcesView};
 
 use crate::commands::{run_check, run_explain, run_plan, run_script, run_timeline, write_version};
@@ -148,18 +148,11 @@ pub fn run_words<
     output: &mut O,
     faults: &mut F,
 ) -> u8
-    ensures runs { Runs (map (λ word. word.now) words.now)
-        (devices (S.told sources.old) (I.told input.old) (O.told output.old) (F.told faults.old))
-        (devices (S.told sources.new) (I.told input.new) (O.told output.new) (F.told faults.new)) servers.old servers.new result }
-    ensures reads { ReadsFew (map (λ word. word.now) words.now)
-        (devices (S.told sources.old) (I.told input.old) (O.told output.old) (F.told faults.old))
-        (devices (S.told sources.new) (I.told input.new) (O.told output.new) (F.told faults.new)) }
-
-    // What was wanted was done only where no device failed and each service began, and so was a check that doesn't accept.
-    ensures done { (result ≡ DONE) ⊎ (result ≡ NOT_ACCEPTED) → NoneFailed
-        (devices (S.told sources.old) (I.told input.old) (O.told output.old) (F.told faults.old))
-        (devices (S.told sources.new) (I.told input.new) (O.told output.new) (F.told faults.new))
-        × (servers.new.failures ≡ servers.old.failures) }
+    ensures { let before = machine
+        (S.told sources.old) (I.told input.old) (O.told output.old) (F.told faults.old) servers.old in
+        let after = machine
+        (S.told sources.new) (I.told input.new) (O.told output.new) (F.told faults.new) servers.new in
+        IsRunOf (map (λ word. word.now) words.now) before after result }
 {
     run_wanted(alloc, servers, words, sources, input, output, faults)
 }

@@ -1,18 +1,19 @@
 -- An accepted transcript vouches for its play.
-use Rattle.std.proofs.Common.{rules, ◌≡◌, ℕ, ◌&&◌, Bool, true, false, List, [], ◌∷◌, length, take, Some, None, refl, sym, ap, ◌∙◌, subst, arith, if◌then◌else◌}
+use Rattle.std.proofs.Common.{rules, ◌≡◌, ℕ, Bool, true, false, List, [], ◌∷◌, length, take, Some, None, refl, sym, ap, ◌∙◌, ◌↔◌, subst, if◌then◌else◌}
 use Rattle.std.specs.Prelude.{codes, Option}
 use Rattle.serde_json.specs.Data.{Data, array}
 use Rattle.mr_history.specs.declared.entry.Entry.{Entry}
 use Rattle.mr_history.specs.History.{IsSafe}
-use Rattle.mr_world.specs.Headline.{AllHold}
+use Rattle.mr_world.specs.Headline.{AllHold, PremisesHold}
 use Rattle.mr_world.specs.Premises.{premises_of}
-use Rattle.mr_world.specs.Setup.{SetupView}
+use Rattle.mr_world.specs.Setup.{SetupView, Begins}
+use Rattle.mr_world.specs.Steps.{WorldRun}
 use Rattle.mr_world.specs.WorldView.{WorldView}
 use Rattle.mr_world.specs.declared.event.Event.{Event}
 use Rattle.mr_world.specs.declared.note.Note.{Note}
 use Rattle.mr_world.specs.declared.premises.Premises.{Premises}
 use Rattle.mr_transcripts.proofs.PlayLemmas.{plays_run}
-use Rattle.mr_transcripts.specs.Check.{tells, all_hold, is_safe, outcome_of_play, outcome_of, IsChecked, IsVouchedFor}
+use Rattle.mr_transcripts.specs.Check.{tells, all_hold, is_safe, outcome_of, IsChecked, IsVouchedFor}
 use Rattle.mr_transcripts.specs.Play.{PlaysTo, IsPlay}
 use Rattle.mr_shown.specs.Shown.{entries_json, notes_json, premises_json, verdict_json}
 use Rattle.mr_shown.specs.Verdict.{JudgesSo}
@@ -72,11 +73,17 @@ take_all_of (event ∷ events) = ap (event ∷◌) (take_all_of events)
 take_whole : (events : List Event) (n : ℕ) → n ≡ length events → take n events ≡ events
 take_whole events n e = rw e (take_all_of events)
 
-vouched : (transcript : Data) (setup : SetupView) (events : List Event) (notes : List Note) (world : WorldView) (stop : Option Stop)
+-- the flags of the last world are the premises of setup and events
+abbrev FlagsDecide : Type 0
+FlagsDecide =
+    (setup : SetupView) (first last : WorldView) (events : List Event) → Begins setup first → WorldRun first events last
+    → AllHold (premises_of last) ↔ PremisesHold setup events
+
+vouched : FlagsDecide → (transcript : Data) (setup : SetupView) (events : List Event) (notes : List Note) (world : WorldView) (stop : Option Stop)
     (premises : Premises) (verdict : KeptVerdict) → IsPlay setup events notes world stop → premises ≡ premises_of world → JudgesSo world.history verdict
     → outcome_of transcript stop notes world.history premises verdict ≡ Accepted → IsVouchedFor transcript setup events
-vouched transcript setup events notes world (Some stop) premises verdict play same judged is = absurd (unlike (ap accepts is))
-vouched transcript setup events notes world None premises verdict play same judged is =
+vouched law transcript setup events notes world (Some stop) premises verdict play same judged is = absurd (unlike (ap accepts is))
+vouched law transcript setup events notes world None premises verdict play same judged is =
     let all = passes
     (tells transcript (codes "notes") (array (notes_json notes)))
     (tells transcript (codes "history") (array (entries_json world.history)))
@@ -86,21 +93,25 @@ vouched transcript setup events notes world None premises verdict play same judg
     (is_safe verdict)
     is in
     let whole = take_whole events (length notes) play.stops in
+    let hold : AllHold (premises_of world) = subst AllHold same (hold_all premises all.hold) in
     let plays : PlaysTo play.start events notes world = subst (λ es. PlaysTo play.start es notes world) whole play.plays in
+    let run = plays_run play.start world events notes plays in
+    let decide = law setup play.start world events play.begins run in
     record {
       notes = notes;
       start = play.start;
       end = world;
       begins = play.begins;
-      run = plays_run play.start world events notes plays;
+      run = run;
       plays = plays;
       notes_told = all.notes;
       history_told = all.history;
-      premises = subst AllHold same (hold_all premises all.hold);
+      premises = decide.0 hold;
+      premises_told = hold;
       safe = safe_judged world.history verdict judged all.safe;
     }
 
-pub accepted_vouches : (transcript : Data) (setup : SetupView) (events : List Event) (checked : Checked) → IsChecked transcript setup events checked
+pub accepted_vouches : FlagsDecide → (transcript : Data) (setup : SetupView) (events : List Event) (checked : Checked) → IsChecked transcript setup events checked
     → checked.outcome ≡ Accepted → IsVouchedFor transcript setup events
-accepted_vouches transcript setup events checked c is =
-    vouched transcript setup events c.notes c.world c.stop checked.premises checked.verdict c.play c.premises c.judges (sym c.outcome ∙ is)
+accepted_vouches law transcript setup events checked c is =
+    vouched law transcript setup events c.notes c.world c.stop checked.premises checked.verdict c.play c.premises c.judges (sym c.outcome ∙ is)

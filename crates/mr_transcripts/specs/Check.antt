@@ -4,7 +4,7 @@ use Rattle.serde_json.specs.Data.{Data, array}
 use Rattle.serde_json.specs.Find.{get}
 use Rattle.mr_history.specs.declared.entry.Entry.{Entry}
 use Rattle.mr_history.specs.History.{IsSafe}
-use Rattle.mr_world.specs.Headline.{AllHold}
+use Rattle.mr_world.specs.Headline.{AllHold, PremisesHold}
 use Rattle.mr_world.specs.Premises.{premises_of}
 use Rattle.mr_world.specs.Setup.{SetupView, Begins}
 use Rattle.mr_world.specs.Steps.{WorldRun}
@@ -65,7 +65,8 @@ pub record IsChecked (transcript : Data) (setup : SetupView) (events : List Even
   pub outcome : checked.outcome ≡ outcome_of transcript stop notes world.history checked.premises checked.verdict
 
 -- What an accepted transcript vouches for: all its events were accepted one after the other on the fleet of its setup, its
--- notes and its history are those of that run, all four premises hold for it, and each hit of it is good.
+-- notes and its history are those of that run, all four premises hold of its setup and its events, as the fleet in the end
+-- tells too, and each hit of it is good.
 pub record IsVouchedFor (transcript : Data) (setup : SetupView) (events : List Event) : Type 0 where
   pub notes : List Note
   pub start : WorldView
@@ -75,5 +76,6 @@ pub record IsVouchedFor (transcript : Data) (setup : SetupView) (events : List E
   pub plays : PlaysTo start events notes end
   pub notes_told : tells transcript (codes "notes") (array (notes_json notes)) ≡ true
   pub history_told : tells transcript (codes "history") (array (entries_json end.history)) ≡ true
-  pub premises : AllHold (premises_of end)
+  pub premises : PremisesHold setup events
+  pub premises_told : AllHold (premises_of end)
   pub safe : IsSafe end.history

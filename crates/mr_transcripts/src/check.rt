@@ -13,6 +13,7 @@ use mr_configs::fields::{check_object, field};
 use mr_configs::{PlanError, json_of};
 use mr_scripts::{MAX_SCRIPT, is_same, read_parts};
 use mr_shown::{KeptVerdict, history_value, notes_value, premises_value, verdict_value};
+use mr_world::laws::runs_decide_premises;
 use mr_world::{Event, Note, Premises, Setup, World};
 use serde_json::Value;
 use std::alloc::{AllocError, Global};
@@ -47,6 +48,19 @@ pub struct Checked {
     pub verdict: KeptVerdict,
     /// The first finding that holds.
     pub outcome: Outcome,
+}
+
+impl Checked {
+    /// An equal value.
+    pub fn copy(&self) -> Result<Checked, AllocError>
+        ensures { IfOk result (λ checked. checked ≡ self.now) }
+    {
+        Ok(Checked {
+            premises: self.premises,
+            verdict: self.verdict.copy()?,
+            outcome: self.outcome,
+        })
+    }
 }
 
 /// Whether the transcript has this value under the key.
@@ -122,7 +136,7 @@ fn compare_with_play(
     ensures refused { IfErr result (λ e. e ≡ OutOfMemory) }
 {
     let play = play_events(alloc, setup, events)?;
-    let verdict = KeptVerdict::on(&play.world)?;
+    let verdict = KeptVerdict::on(alloc, &play.world)?;
     let outcome = match play.stop {
         Some(stop) => Outcome::EventRefused(stop.index),
         None => outcome_of_play(alloc, transcript, &play.notes, &play.world, &verdict)?,
@@ -149,6 +163,7 @@ pub(crate) fn check_play(
     ensures vouched { IfOk result (λ checked. checked.outcome ≡ Outcome.Accepted → IsVouchedFor (view transcript.now) setup events.items) }
     ensures refused { IfErr result (λ e. e ≡ OutOfMemory) }
 {
+    runs_decide_premises();
     compare_with_play(alloc, transcript, setup, events)
 }
 

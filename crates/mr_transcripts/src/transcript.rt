@@ -77,7 +77,7 @@ pub(crate) fn transcript_of(
         Some(stop) => return Err(PlanError::EventRefused(stop.index, stop.refusal)),
         None => {}
     }
-    let verdict = KeptVerdict::on(&play.world)?;
+    let verdict = KeptVerdict::on(alloc, &play.world)?;
     let text = text_of(alloc, script, &play.notes, &play.world, &verdict)?;
     if text.len() >= MAX_SCRIPT {
         return Err(PlanError::TooLarge);

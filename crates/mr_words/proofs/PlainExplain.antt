@@ -12,7 +12,7 @@ use Rattle.mr_words.proofs.PlainPlan.{number_word, number_taken, value_taken}
 use Rattle.mr_words.proofs.PlainWalk.{IsPlainWord, plain_word, word_step, no_word_left}
 use Rattle.mr_words.proofs.TableLemmas.{table_complete}
 use Rattle.mr_words.specs.Command.{numbers, program_app, explain_app}
-use Rattle.mr_words.specs.Explain.{HasRefusal, Told, explanation_of, told_by}
+use Rattle.mr_words.specs.Explain.{IsNamed, Told, explanation_of, told_by}
 use Rattle.mr_words.specs.Words.{IsNoOption, Say, SaysExplain}
 use Rattle.mr_words.specs.declared.explain.Explanation.{Explanation}
 use Rattle.mr_words.specs.declared.words.Wanted.TheVariants.{Explain}
@@ -93,19 +93,21 @@ module _ (layer number : Text) (layer_plain : IsPlainWord layer) (number_plain :
   rows_found = ap (λ (w : Walk). Some (codes "explain", finished leaf.rules w.held)) walk_is
 
 -- the name of a layer is no option
-layer_word : (layer : Text) (number : ℕ) → HasRefusal layer number → IsNoOption layer
-layer_word layer number (inl h) = subst IsNoOption (sym h.0) (λ e. absurd (omega arith))
-layer_word layer number (inr (inl h)) = subst IsNoOption (sym h.0) (λ e. absurd (omega arith))
-layer_word layer number (inr (inr (inl h))) = subst IsNoOption (sym h.0) (λ e. absurd (omega arith))
-layer_word layer number (inr (inr (inr (inl h)))) = subst IsNoOption (sym h.0) (λ e. absurd (omega arith))
-layer_word layer number (inr (inr (inr (inr (inl h))))) = subst IsNoOption (sym h.0) (λ e. absurd (omega arith))
-layer_word layer number (inr (inr (inr (inr (inr (inl h)))))) = subst IsNoOption (sym h.0) (λ e. absurd (omega arith))
-layer_word layer number (inr (inr (inr (inr (inr (inr (inl h))))))) = subst IsNoOption (sym h.0) (λ e. absurd (omega arith))
-layer_word layer number (inr (inr (inr (inr (inr (inr (inr (inl h)))))))) = subst IsNoOption (sym h.0) (λ e. absurd (omega arith))
-layer_word layer number (inr (inr (inr (inr (inr (inr (inr (inr h)))))))) = subst IsNoOption (sym h.0) (λ e. absurd (omega arith))
+layer_word : (layer : Text) (number : ℕ) (name : List ℕ) → IsNamed layer number name → IsNoOption layer
+layer_word layer number name (inl h) = subst IsNoOption (sym h.0) (λ e. absurd (omega arith))
+layer_word layer number name (inr (inl h)) = subst IsNoOption (sym h.0) (λ e. absurd (omega arith))
+layer_word layer number name (inr (inr (inl h))) = subst IsNoOption (sym h.0) (λ e. absurd (omega arith))
+layer_word layer number name (inr (inr (inr (inl h)))) = subst IsNoOption (sym h.0) (λ e. absurd (omega arith))
+layer_word layer number name (inr (inr (inr (inr (inl h))))) = subst IsNoOption (sym h.0) (λ e. absurd (omega arith))
+layer_word layer number name (inr (inr (inr (inr (inr (inl h)))))) = subst IsNoOption (sym h.0) (λ e. absurd (omega arith))
+layer_word layer number name (inr (inr (inr (inr (inr (inr (inl h))))))) = subst IsNoOption (sym h.0) (λ e. absurd (omega arith))
+layer_word layer number name (inr (inr (inr (inr (inr (inr (inr (inl h)))))))) = subst IsNoOption (sym h.0) (λ e. absurd (omega arith))
+layer_word layer number name (inr (inr (inr (inr (inr (inr (inr (inr h)))))))) = subst IsNoOption (sym h.0) (λ e. absurd (omega arith))
 
 told_layer : (told : Told) → explanation_of told.layer told.number ≡ Some told → IsNoOption told.layer
-told_layer told is = layer_word told.layer told.number ((table_complete.known told.layer told.number).0 (ap is_some is))
+told_layer told is =
+    let named = (table_complete.known told.layer told.number).0 (ap is_some is) in
+    layer_word told.layer told.number named.0 named.1
 
 -- words that plainly name a refusal name it to `clap`
 pub explanation_said : (said : List Text) (explanation : Explanation) → SaysExplain said (told_by explanation) → Say said (Explain explanation)

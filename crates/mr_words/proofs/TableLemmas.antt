@@ -28,14 +28,13 @@ use Rattle.mr_proxy.specs.declared.error.ProxyError.TheVariants as proxy
 use Rattle.mr_world.specs.WorldError.{number_of_refusal as world_number}
 use Rattle.mr_world.specs.declared.error.WorldError.{WorldError}
 use Rattle.mr_world.specs.declared.error.WorldError.TheVariants as world
-use Rattle.mr_desks.specs.WorkerError.{number_of_refusal as worker_number}
-use Rattle.mr_desks.specs.declared.error.WorkerError.{WorkerError}
 use Rattle.mr_desks.specs.declared.error.WorkerError.TheVariants as worker
 use Rattle.mr_configs.specs.PlanError.{number_of_refusal as plan_number}
 use Rattle.mr_configs.specs.declared.error.PlanError.{PlanError}
 use Rattle.mr_configs.specs.declared.error.PlanError.TheVariants as plan
-use Rattle.mr_words.specs.Explain.{Told, HasRefusal, IsComplete, IsToldAs, explanation_of, is_of, lower_table, table, upper_table}
+use Rattle.mr_words.specs.Explain.{Told, HasRefusal, IsComplete, IsNamed, IsToldAs, explanation_of, is_of, lower_table, table, upper_table}
 use Rattle.mr_words.specs.Lines.{text_fault_line, node_fault_line, plan_fault_line}
+use Rattle.mr_words.specs.Names.{text_name, pool_name, clock_name, schedule_name, node_name, proxy_name, world_name, WorkersRefusal, of_worker, of_full_book, workers_number, workers_name, plan_name}
 
 -- what is found among rows by what they tell is found in what they tell
 found_in_told : {X Y : Type 0} (f : X → Y) (p : Y → Bool) (xs : List X) → option_map f (find (λ x. p (f x)) xs) ≡ find p (map f xs)
@@ -90,40 +89,40 @@ has_own layer number told h =
     let both = both_true (told.number == number) (bytes_eq told.layer layer) h in
     ((bytes_eq-Decides told.layer layer).0 both.1, (Decides-eqb told.number number).0 both.0)
 
-of_text : (refusal : TextError) → HasRefusal (codes "text") (text_number refusal)
-of_text refusal = inl (refl, (refusal, refl))
+of_text : (refusal : TextError) → IsNamed (codes "text") (text_number refusal) (text_name refusal)
+of_text refusal = inl (refl, (refusal, refl, refl))
 
-of_pool : (refusal : PoolError) → HasRefusal (codes "pools") (pool_number refusal)
-of_pool refusal = inr (inl (refl, (refusal, refl)))
+of_pool : (refusal : PoolError) → IsNamed (codes "pools") (pool_number refusal) (pool_name refusal)
+of_pool refusal = inr (inl (refl, (refusal, refl, refl)))
 
-of_clock : (refusal : ClockError) → HasRefusal (codes "clock") (clock_number refusal)
-of_clock refusal = inr (inr (inl (refl, (refusal, refl))))
+of_clock : (refusal : ClockError) → IsNamed (codes "clock") (clock_number refusal) (clock_name refusal)
+of_clock refusal = inr (inr (inl (refl, (refusal, refl, refl))))
 
-of_schedule : (refusal : ScheduleError) → HasRefusal (codes "phases") (schedule_number refusal)
-of_schedule refusal = inr (inr (inr (inl (refl, (refusal, refl)))))
+of_schedule : (refusal : ScheduleError) → IsNamed (codes "phases") (schedule_number refusal) (schedule_name refusal)
+of_schedule refusal = inr (inr (inr (inl (refl, (refusal, refl, refl)))))
 
-of_node : (refusal : NodeError) → HasRefusal (codes "node") (node_number refusal)
-of_node refusal = inr (inr (inr (inr (inl (refl, (refusal, refl))))))
+of_node : (refusal : NodeError) → IsNamed (codes "node") (node_number refusal) (node_name refusal)
+of_node refusal = inr (inr (inr (inr (inl (refl, (refusal, refl, refl))))))
 
-of_proxy : (refusal : ProxyError) → HasRefusal (codes "proxy") (proxy_number refusal)
-of_proxy refusal = inr (inr (inr (inr (inr (inl (refl, (refusal, refl)))))))
+of_proxy : (refusal : ProxyError) → IsNamed (codes "proxy") (proxy_number refusal) (proxy_name refusal)
+of_proxy refusal = inr (inr (inr (inr (inr (inl (refl, (refusal, refl, refl)))))))
 
-of_world : (refusal : WorldError) → HasRefusal (codes "world") (world_number refusal)
-of_world refusal = inr (inr (inr (inr (inr (inr (inl (refl, (refusal, refl))))))))
+of_world : (refusal : WorldError) → IsNamed (codes "world") (world_number refusal) (world_name refusal)
+of_world refusal = inr (inr (inr (inr (inr (inr (inl (refl, (refusal, refl, refl))))))))
 
-of_worker : (refusal : WorkerError) → HasRefusal (codes "workers") (worker_number refusal)
-of_worker refusal = inr (inr (inr (inr (inr (inr (inr (inl (refl, (refusal, refl)))))))))
+of_workers : (refusal : WorkersRefusal) → IsNamed (codes "workers") (workers_number refusal) (workers_name refusal)
+of_workers refusal = inr (inr (inr (inr (inr (inr (inr (inl (refl, (refusal, refl, refl)))))))))
 
-of_plan : (refusal : PlanError) → HasRefusal (codes "plan") (plan_number refusal)
-of_plan refusal = inr (inr (inr (inr (inr (inr (inr (inr (refl, (refusal, refl)))))))))
+of_plan : (refusal : PlanError) → IsNamed (codes "plan") (plan_number refusal) (plan_name refusal)
+of_plan refusal = inr (inr (inr (inr (inr (inr (inr (inr (refl, (refusal, refl, refl)))))))))
 
 -- a fact of one row, and those of the rows behind it
 infixr 30 ◌also◌
 ◌also◌ : {A B : Type 0} → A → B → A × B
 ◌also◌ a b = (a, b)
 
--- each row is of a refusal
-each_known : Each (λ told. HasRefusal told.layer told.number) table
+-- each row is of a refusal, under its name
+each_known : Each (λ told. IsNamed told.layer told.number told.name) table
 unfolding table lower_table upper_table Each
 each_known =
     of_text text.LineTooLong
@@ -162,15 +161,15 @@ each_known =
     also of_world (world.IssueRefused proxy.NoRoom)
     also of_world world.OutOfMemory
     also of_world world.NoSuchOp
-    also of_worker worker.LinkBroken
-    also of_worker worker.Mismatch
-    also of_worker worker.BookFull
-    also of_worker worker.BookDiffers
-    also of_worker worker.ReadFault
-    also of_worker worker.WriteFault
-    also of_worker worker.TurnsSpent
-    also of_worker worker.OutOfMemory
-    also of_worker worker.NoThread
+    also of_workers (of_worker worker.LinkBroken)
+    also of_workers (of_worker worker.Mismatch)
+    also of_workers of_full_book
+    also of_workers (of_worker worker.BookDiffers)
+    also of_workers (of_worker worker.ReadFault)
+    also of_workers (of_worker worker.WriteFault)
+    also of_workers (of_worker worker.TurnsSpent)
+    also of_workers (of_worker worker.OutOfMemory)
+    also of_workers (of_worker worker.NoThread)
     also of_plan plan.NotJson
     also of_plan plan.WrongKind
     also of_plan plan.MissingKey
@@ -251,17 +250,17 @@ world_known world.OutOfMemory = refl
 world_known world.NoSuchOp = refl
 
 -- each refusal of the layer has a row
-worker_known : (refusal : WorkerError) → IsSome (explanation_of (codes "workers") (worker_number refusal))
+workers_known : (refusal : WorkersRefusal) → IsSome (explanation_of (codes "workers") (workers_number refusal))
 unfolding table lower_table upper_table
-worker_known worker.LinkBroken = refl
-worker_known worker.Mismatch = refl
-worker_known worker.BookFull = refl
-worker_known worker.BookDiffers = refl
-worker_known worker.ReadFault = refl
-worker_known worker.WriteFault = refl
-worker_known worker.TurnsSpent = refl
-worker_known worker.OutOfMemory = refl
-worker_known worker.NoThread = refl
+workers_known (of_worker worker.LinkBroken) = refl
+workers_known (of_worker worker.Mismatch) = refl
+workers_known of_full_book = refl
+workers_known (of_worker worker.BookDiffers) = refl
+workers_known (of_worker worker.ReadFault) = refl
+workers_known (of_worker worker.WriteFault) = refl
+workers_known (of_worker worker.TurnsSpent) = refl
+workers_known (of_worker worker.OutOfMemory) = refl
+workers_known (of_worker worker.NoThread) = refl
 
 -- each refusal of the layer has a row, under the line of its fault
 plan_told : (refusal : PlanError) → IsToldAs (plan_fault_line refusal) (explanation_of (codes "plan") (plan_number refusal))
@@ -289,42 +288,51 @@ there_by : (layer word : List ℕ) (number same : ℕ) → layer ≡ word → nu
 there_by layer word number same e f h =
     subst (λ (l : List ℕ). IsSome (explanation_of l number)) (sym e) (subst (λ (n : ℕ). IsSome (explanation_of word n)) (sym f) h)
 
-each_told : (layer : List ℕ) (number : ℕ) → HasRefusal layer number → IsSome (explanation_of layer number)
-each_told layer number (inl h) = there_by layer (codes "text") number (text_number h.1.0) h.0 h.1.1 (is_there _ _ (text_told h.1.0))
-each_told layer number (inr (inl h)) = there_by layer (codes "pools") number (pool_number h.1.0) h.0 h.1.1 (pool_known h.1.0)
-each_told layer number (inr (inr (inl h))) = there_by layer (codes "clock") number (clock_number h.1.0) h.0 h.1.1 (clock_known h.1.0)
-each_told layer number (inr (inr (inr (inl h)))) = there_by layer (codes "phases") number (schedule_number h.1.0) h.0 h.1.1 (schedule_known h.1.0)
-each_told layer number (inr (inr (inr (inr (inl h))))) = there_by layer (codes "node") number (node_number h.1.0) h.0 h.1.1 (is_there _ _ (node_told h.1.0))
-each_told layer number (inr (inr (inr (inr (inr (inl h)))))) = there_by layer (codes "proxy") number (proxy_number h.1.0) h.0 h.1.1 (proxy_known h.1.0)
-each_told layer number (inr (inr (inr (inr (inr (inr (inl h))))))) = there_by layer (codes "world") number (world_number h.1.0) h.0 h.1.1 (world_known h.1.0)
-each_told layer number (inr (inr (inr (inr (inr (inr (inr (inl h)))))))) = there_by layer (codes "workers") number (worker_number h.1.0) h.0 h.1.1 (worker_known h.1.0)
-each_told layer number (inr (inr (inr (inr (inr (inr (inr (inr h)))))))) = there_by layer (codes "plan") number (plan_number h.1.0) h.0 h.1.1 (is_there _ _ (plan_told h.1.0))
+each_told : (layer : List ℕ) (number : ℕ) (name : List ℕ) → IsNamed layer number name → IsSome (explanation_of layer number)
+each_told layer number name (inl h) = there_by layer (codes "text") number (text_number h.1.0) h.0 h.1.1 (is_there _ _ (text_told h.1.0))
+each_told layer number name (inr (inl h)) = there_by layer (codes "pools") number (pool_number h.1.0) h.0 h.1.1 (pool_known h.1.0)
+each_told layer number name (inr (inr (inl h))) = there_by layer (codes "clock") number (clock_number h.1.0) h.0 h.1.1 (clock_known h.1.0)
+each_told layer number name (inr (inr (inr (inl h)))) = there_by layer (codes "phases") number (schedule_number h.1.0) h.0 h.1.1 (schedule_known h.1.0)
+each_told layer number name (inr (inr (inr (inr (inl h))))) = there_by layer (codes "node") number (node_number h.1.0) h.0 h.1.1 (is_there _ _ (node_told h.1.0))
+each_told layer number name (inr (inr (inr (inr (inr (inl h)))))) = there_by layer (codes "proxy") number (proxy_number h.1.0) h.0 h.1.1 (proxy_known h.1.0)
+each_told layer number name (inr (inr (inr (inr (inr (inr (inl h))))))) = there_by layer (codes "world") number (world_number h.1.0) h.0 h.1.1 (world_known h.1.0)
+each_told layer number name (inr (inr (inr (inr (inr (inr (inr (inl h)))))))) = there_by layer (codes "workers") number (workers_number h.1.0) h.0 h.1.1 (workers_known h.1.0)
+each_told layer number name (inr (inr (inr (inr (inr (inr (inr (inr h)))))))) = there_by layer (codes "plan") number (plan_number h.1.0) h.0 h.1.1 (is_there _ _ (plan_told h.1.0))
 
--- what was found, with what holds of it
-found_refusal : (layer : List ℕ) (number : ℕ) (found : Option Told)
-    → IfSome found (λ told. (is_of layer number told ≡ true) × HasRefusal told.layer told.number) → IsSome found → HasRefusal layer number
-found_refusal layer number None h some = cc
-found_refusal layer number (Some told) h some =
+-- what is found of a layer and a number has them, and the name there
+abbrev IsFound : List ℕ → ℕ → Told → Type 0
+IsFound layer number told = (is_of layer number told ≡ true) × IsNamed told.layer told.number told.name
+
+its_name : (layer : List ℕ) (number : ℕ) (told : Told) → IsFound layer number told → IsNamed layer number told.name
+its_name layer number told h =
     let own = has_own layer number told h.0 in
-    subst (λ (l : List ℕ). HasRefusal l number) own.0 (subst (λ (n : ℕ). HasRefusal told.layer n) own.1 h.1)
+    subst (λ (l : List ℕ). IsNamed l number told.name) own.0 (subst (λ (n : ℕ). IsNamed told.layer n told.name) own.1 h.1)
 
-found_own : (layer : List ℕ) (number : ℕ) (found : Option Told)
-    → IfSome found (λ told. (is_of layer number told ≡ true) × HasRefusal told.layer told.number)
+found_refusal : (layer : List ℕ) (number : ℕ) (found : Option Told) → IfSome found (IsFound layer number) → IsSome found → HasRefusal layer number
+found_refusal layer number None h some = cc
+found_refusal layer number (Some told) h some = (told.name, its_name layer number told h)
+
+found_own : (layer : List ℕ) (number : ℕ) (found : Option Told) → IfSome found (IsFound layer number)
     → IfSome found (λ told. (told.layer ≡ layer) × (told.number ≡ number))
 found_own layer number None h = tt
 found_own layer number (Some told) h = has_own layer number told h.0
 
-what_is_found : (layer : List ℕ) (number : ℕ)
-    → IfSome (explanation_of layer number) (λ told. (is_of layer number told ≡ true) × HasRefusal told.layer told.number)
-what_is_found layer number = found_so (is_of layer number) (λ told. HasRefusal told.layer told.number) table each_known
+found_named : (layer : List ℕ) (number : ℕ) (found : Option Told) → IfSome found (IsFound layer number)
+    → IfSome found (λ told. IsNamed layer number told.name)
+found_named layer number None h = tt
+found_named layer number (Some told) h = its_name layer number told h
+
+what_is_found : (layer : List ℕ) (number : ℕ) → IfSome (explanation_of layer number) (IsFound layer number)
+what_is_found layer number = found_so (is_of layer number) (λ told. IsNamed told.layer told.number told.name) table each_known
 
 pub table_complete : IsComplete explanation_of
 table_complete = record {
   own = λ layer number. found_own layer number (explanation_of layer number) (what_is_found layer number);
   known = λ layer number. (
     found_refusal layer number (explanation_of layer number) (what_is_found layer number),
-    each_told layer number,
+    λ h. each_told layer number h.0 h.1,
   );
+  named = λ layer number. found_named layer number (explanation_of layer number) (what_is_found layer number);
   text = text_told;
   node = node_told;
   plan = plan_told;

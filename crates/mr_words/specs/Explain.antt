@@ -16,11 +16,10 @@ use Rattle.mr_proxy.specs.ProxyError.{number_of_refusal as proxy_number}
 use Rattle.mr_proxy.specs.declared.error.ProxyError.{ProxyError}
 use Rattle.mr_world.specs.WorldError.{number_of_refusal as world_number}
 use Rattle.mr_world.specs.declared.error.WorldError.{WorldError}
-use Rattle.mr_desks.specs.WorkerError.{number_of_refusal as worker_number}
-use Rattle.mr_desks.specs.declared.error.WorkerError.{WorkerError}
 use Rattle.mr_configs.specs.PlanError.{number_of_refusal as plan_number}
 use Rattle.mr_configs.specs.declared.error.PlanError.{PlanError}
 use Rattle.mr_words.specs.Lines.{text_fault_line, node_fault_line, plan_fault_line}
+use Rattle.mr_words.specs.Names.{text_name, pool_name, clock_name, schedule_name, node_name, proxy_name, world_name, WorkersRefusal, workers_number, workers_name, plan_name}
 use Rattle.mr_words.specs.declared.explain.Explanation.{Explanation}
 use Rattle.mr_words.specs.declared.explanations.TheConstants.{LOWER_ROWS, UPPER_ROWS}
 
@@ -62,18 +61,22 @@ is_of layer number told = told.number == number && bytes_eq told.layer layer
 abbrev pub explanation_of : List ℕ → ℕ → Option Told
 explanation_of layer number = find (is_of layer number) table
 
--- the layer is one of the nine, and has a refusal of this number
+-- the layer is one of the nine, and has a refusal of this number, which it calls so
+abbrev pub IsNamed : List ℕ → ℕ → List ℕ → Type 0
+IsNamed layer number name =
+    ((layer ≡ codes "text") × ((refusal : TextError) × (number ≡ text_number refusal) × (name ≡ text_name refusal)))
+    ⊎ ((layer ≡ codes "pools") × ((refusal : PoolError) × (number ≡ pool_number refusal) × (name ≡ pool_name refusal)))
+    ⊎ ((layer ≡ codes "clock") × ((refusal : ClockError) × (number ≡ clock_number refusal) × (name ≡ clock_name refusal)))
+    ⊎ ((layer ≡ codes "phases") × ((refusal : ScheduleError) × (number ≡ schedule_number refusal) × (name ≡ schedule_name refusal)))
+    ⊎ ((layer ≡ codes "node") × ((refusal : NodeError) × (number ≡ node_number refusal) × (name ≡ node_name refusal)))
+    ⊎ ((layer ≡ codes "proxy") × ((refusal : ProxyError) × (number ≡ proxy_number refusal) × (name ≡ proxy_name refusal)))
+    ⊎ ((layer ≡ codes "world") × ((refusal : WorldError) × (number ≡ world_number refusal) × (name ≡ world_name refusal)))
+    ⊎ ((layer ≡ codes "workers") × ((refusal : WorkersRefusal) × (number ≡ workers_number refusal) × (name ≡ workers_name refusal)))
+    ⊎ ((layer ≡ codes "plan") × ((refusal : PlanError) × (number ≡ plan_number refusal) × (name ≡ plan_name refusal)))
+
+-- it has a refusal of this number, whatever it calls it
 abbrev pub HasRefusal : List ℕ → ℕ → Type 0
-HasRefusal layer number =
-    ((layer ≡ codes "text") × ((refusal : TextError) × (number ≡ text_number refusal)))
-    ⊎ ((layer ≡ codes "pools") × ((refusal : PoolError) × (number ≡ pool_number refusal)))
-    ⊎ ((layer ≡ codes "clock") × ((refusal : ClockError) × (number ≡ clock_number refusal)))
-    ⊎ ((layer ≡ codes "phases") × ((refusal : ScheduleError) × (number ≡ schedule_number refusal)))
-    ⊎ ((layer ≡ codes "node") × ((refusal : NodeError) × (number ≡ node_number refusal)))
-    ⊎ ((layer ≡ codes "proxy") × ((refusal : ProxyError) × (number ≡ proxy_number refusal)))
-    ⊎ ((layer ≡ codes "world") × ((refusal : WorldError) × (number ≡ world_number refusal)))
-    ⊎ ((layer ≡ codes "workers") × ((refusal : WorkerError) × (number ≡ worker_number refusal)))
-    ⊎ ((layer ≡ codes "plan") × ((refusal : PlanError) × (number ≡ plan_number refusal)))
+HasRefusal layer number = (name : List ℕ) × IsNamed layer number name
 
 -- the line that names the refusal, as the fault's line does behind the program's name
 abbrev pub heading_line : Told → List ℕ
@@ -83,11 +86,12 @@ heading_line told = told.layer ++ (codes " " ++ (decimal told.number ++ (codes "
 abbrev pub IsToldAs : List ℕ → Option Told → Type 0
 IsToldAs line found = IsSomeAnd found (λ told. line ≡ codes "migctl: " ++ heading_line told)
 
--- Exactly the refusals of the layers are told of, each under its own layer and number. The refusals that faults' lines
--- name are told of under these lines.
+-- Exactly the refusals of the layers are told of, each under its own layer and number and by the name that its layer gives
+-- it. The refusals that faults' lines name are told of under these lines.
 pub record IsComplete (explanation : List ℕ → ℕ → Option Told) : Type 0 where
   pub own : (layer : List ℕ) (number : ℕ) → IfSome (explanation layer number) (λ told. (told.layer ≡ layer) × (told.number ≡ number))
   pub known : (layer : List ℕ) (number : ℕ) → IsSome (explanation layer number) ↔ HasRefusal layer number
+  pub named : (layer : List ℕ) (number : ℕ) → IfSome (explanation layer number) (λ told. IsNamed layer number told.name)
   pub text : (refusal : TextError) → IsToldAs (text_fault_line refusal) (explanation (codes "text") (text_number refusal))
   pub node : (refusal : NodeError) → IsToldAs (node_fault_line refusal) (explanation (codes "node") (node_number refusal))
   pub plan : (refusal : PlanError) → IsToldAs (plan_fault_line refusal) (explanation (codes "plan") (plan_number refusal))

@@ -1,4 +1,5 @@
 pub mod Lines
+pub mod Names
 pub mod Explain
 pub mod Command
 pub mod WordSteps

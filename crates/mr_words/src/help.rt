@@ -37,7 +37,9 @@ pub const PLAN_NOTES: &str = notes!(
 /// The notes of `timeline`.
 pub const TIMELINE_NOTES: &str = notes!(
     "Seconds are whole seconds since the epoch, 1970-01-01 00:00:00 UTC.\n\
-    With readings, it also says how far they are apart, and whether the interval allows that.\n\
+    --readings takes one whole number of seconds for each clock, with commas and no spaces between them: 999,1100\n\
+    is two clocks that are 101 seconds apart. Then it also says the phase of each, how far they are apart, and\n\
+    whether the interval allows that.\n\
     The standard input isn't read.",
     "migctl timeline --config fleet.json --readings 999,1100"
 );
@@ -45,7 +47,8 @@ pub const TIMELINE_NOTES: &str = notes!(
 /// The notes of `explain`.
 pub const EXPLAIN_NOTES: &str = notes!(
     "The line of a fault is 'migctl: <layer> <number> <name>'. The layers are text, pools, clock,\n\
-    phases, node, proxy, world, workers and plan; each counts its faults from 1.\n\
+    phases, node, proxy, world, workers and plan; each counts its faults from 1. A line of file, net,\n\
+    input, output, memory or words has no number: it says what is wrong, and isn't explained here.\n\
     The standard input isn't read.",
     "migctl explain plan 5"
 );

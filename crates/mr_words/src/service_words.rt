@@ -84,9 +84,7 @@ fn forever_flag<'a>(alloc: Global) -> Arg<'a>
     Arg::new(alloc, "forever")
         .long("forever")
         .action(ArgAction::SetTrue)
-        .help(
-            "Serve as many connections as come, each for as long as it lasts; in place of --clients and --turns",
-        )
+        .help("Serve every connection for as long as it lasts, in place of --clients and --turns")
 }
 
 /// The command `node`.

@@ -1,3 +1,4 @@
+pub use Rattle.mr_desks.specs.Carriers
 pub use Rattle.mr_desks.specs.Closing
 pub use Rattle.mr_desks.specs.Desk
 pub use Rattle.mr_desks.specs.DeskError
@@ -17,5 +18,6 @@ pub use Rattle.mr_sessions.specs.Asking
 pub use Rattle.mr_sessions.specs.ClientSession
 pub use Rattle.mr_sessions.specs.Exchange
 pub use Rattle.mr_sessions.specs.Link
+pub use Rattle.mr_sessions.specs.Own
 pub use Rattle.mr_sessions.specs.Reading
 pub use Rattle.mr_sessions.specs.Requesting

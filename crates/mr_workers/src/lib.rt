@@ -3,9 +3,9 @@
 #![tactic(auto)]
 
 pub use mr_desks::{
-    Book, Carried, Carrier, Carriers, Closed, Desk, DeskError, DirectCarriers, Gate, LocalCarrier,
-    NodeDesk, OpenGate, RecordedProxy, RecordedState, Share, SharedNode, SharedProxy, SharedState,
-    Step, WorkerError, close,
+    Book, Carried, Carrier, Carriers, CloseError, Desk, DeskError, DirectCarriers, Gate,
+    LocalCarrier, NodeDesk, OpenGate, RecordedProxy, RecordedState, Share, SharedNode, SharedProxy,
+    SharedState, Step, WorkerError, close,
 };
 pub use mr_fleet::{ClientEnd, FleetClient, FleetEnd, FleetProxy, LinkCarriers, run_fleet};
 pub use mr_sessions::{NodeLink, Served, serve_client};

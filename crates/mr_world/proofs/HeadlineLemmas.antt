@@ -182,3 +182,18 @@ premises_told setup first last events b at_first after hold =
             (subst (λ n. StayWithin n (map (λ proxy. proxy.reading) setup.proxies) (ticks_of events)) (sym b.least) hold.near),
       );
     }
+
+-- and those that it tells are the premises of the setup and the events
+pub premises_meant : (setup : SetupView) (first last : WorldView) (events : List Event) → Begins setup first → PremisesAtFirst setup (premises_of first)
+    → PremisesAfter first events (premises_of last) → AllHold (premises_of last) → PremisesHold setup events
+premises_meant setup first last events b at_first after hold =
+    let standing : first.readings.standing ≡ map (λ proxy. proxy.reading) setup.proxies = ap (λ (r : ReadingsView). r.standing) b.readings in
+    let forward = after.forward.0 hold.forward in
+    let near = after.near.0 hold.near in
+    record {
+      same = at_first.same.0 (subst IsTrue after.same hold.same);
+      new_empty = at_first.new_empty.0 (subst IsTrue after.new_empty hold.new_empty);
+      forward = subst (λ r. NeverGoesBack r (ticks_of events)) standing forward.1;
+      near = subst (λ n. StayWithin n (map (λ proxy. proxy.reading) setup.proxies) (ticks_of events)) b.least
+          (subst (λ r. StayWithin first.terms.least r (ticks_of events)) standing near.1);
+    }

@@ -1,5 +1,5 @@
 -- The premises after a run are those before it and what its events keep.
-use Rattle.std.proofs.Common.{◌≡◌, ◌↔◌, ℕ, ◌≤◌, Bool, true, false, not, IsTrue, List, [], ◌∷◌, map, fold, refl, sym, ap, ◌∙◌, arith}
+use Rattle.std.proofs.Common.{◌≡◌, ◌↔◌, ℕ, ◌≤◌, Bool, true, false, not, IsTrue, List, [], ◌∷◌, map, fold, refl, sym, ap, ◌∙◌, subst, arith}
 use Rattle.std.proofs.lemmas.Bool.{leb-true, le-leb}
 use Rattle.std.proofs.lemmas.List.Sums.{fold-append}
 use Rattle.mr_text.specs.declared.request.Request.{Request}
@@ -107,3 +107,10 @@ first_premises within setup w b =
         λ h. let below = law.1 h in le-leb w.readings.spread w.terms.least (omega arith),
       );
     }
+
+-- of a fleet at the beginning no two readings differ by more than is told
+pub first_within : ((most : ℕ) (readings : List ℕ) → (spread_of readings ≤ most) ↔ AreWithin most readings) → (setup : SetupView) (w : WorldView) → Begins setup w
+    → AreWithin w.readings.spread w.readings.standing
+first_within within setup w b =
+    let readings = map (λ proxy. proxy.reading) setup.proxies in
+    subst (λ (r : ReadingsView). AreWithin r.spread r.standing) (sym b.readings) ((within (spread_of readings) readings).0 (omega arith))

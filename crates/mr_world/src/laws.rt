@@ -1,11 +1,11 @@
 //! What holds of a fleet, whatever happens.
-ghost use Rattle.std.specs.Prelude.{List, All};
+ghost use Rattle.std.specs.Prelude.{◌↔◌, List, All};
 ghost use Rattle.mr_proxy.specs.Sound.{IsSound};
 ghost use Rattle.mr_world.specs.declared.event.Event.{Event};
 ghost use Rattle.mr_world.specs.declared.note.Note.{Note};
 ghost use Rattle.mr_world.specs.Facts.{Facts, IsFaithfulWorld};
 ghost use Rattle.mr_world.specs.Grounded.{StaysSecured};
-ghost use Rattle.mr_world.specs.Headline.{StandsOnGround, IsPlan};
+ghost use Rattle.mr_world.specs.Headline.{AllHold, StandsOnGround, IsPlan, PremisesHold};
 ghost use Rattle.mr_world.specs.Premises.{premises_of, PremisesAtFirst, PremisesAfter};
 ghost use Rattle.mr_world.specs.Setup.{SetupView, Begins};
 ghost use Rattle.mr_world.specs.Steps.{WorldStep, WorldRun};
@@ -85,6 +85,17 @@ pub fn runs_tell_premises()
     spread_is_least();
     lowering_is_told();
     spread_is_told();
+}
+
+/// All premises that a fleet tells after a run hold exactly where those of its setup and of the run's events do.
+pub fn runs_decide_premises()
+    ensures { (setup : SetupView) (first last : WorldView) (events : List Event) → Begins setup first → WorldRun first events last
+        → AllHold (premises_of last) ↔ PremisesHold setup events }
+{
+    spread_is_least();
+    lowering_is_told();
+    spread_is_told();
+    setups_tell_premises();
 }
 
 /// As long as the premises hold each step keeps what acknowledged deletes rest on.

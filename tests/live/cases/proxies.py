@@ -75,14 +75,39 @@ def localhost_is_this_machine():
 
 @case
 def a_node_whose_name_is_no_address_loses_its_legs():
-    """Such a name is allowed in a configuration. The keys of other nodes are served."""
+    """Such a name is allowed in a configuration. The keys of other nodes are served. Also where the system would find the node
+    by it, since no name is looked up: the node listens at this port of 127.0.0.1."""
     with Fleet() as fleet:
         node = fleet.node()
-        names = [node.address, "7001", "127.0.0.1", "127.0.0.1:0x50", "[::1]:11211", "127.0.0.1:11211:1"]
+        port = node.place.port
+        hosts = ("cache1", "LOCALHOST", "localhost.", "127.1", "1.2.3", "127.0.0", "256.1.1.1", "127.0.0.256", "01.2.3.4")
+        hosts += ("127.0.0.01", "127.00.0.1", "0177.0.0.1", "0x7f.0.0.1", "2130706433", "127.0.0.1.", "+127.0.0.1", "[::1]")
+        hosts += ("[127.0.0.1]", "::ffff:127.0.0.1", "")
+        ports = ("0", f"0{port}", f"+{port}", "65536", str(port + 65536), "", f"{port}.", f"{port}:{port}", "0x50")
+        names = [node.address, "7001", "127.0.0.1"]
+        names += [f"{host}:{port}" for host in hosts] + [f"127.0.0.1:{it}" for it in ports]
         client = fleet.proxy(fleet.config(names)).client()
-        for place in range(len(names)):
-            client.ask(set_of(key_at(place, len(names)), "v"), LOST if place else STORED)
+        for place, name in enumerate(names):
+            client.send(set_of(key_at(place, len(names)), "v"))
+            client.expect(LOST if place else STORED, what=f"the answer for a node of the name {name!r}")
         client.ask(get_of(key_at(0, len(names))), hits((key_at(0, len(names)), "v")))
+
+
+@case
+def a_node_whose_name_is_an_address_is_reached_there():
+    """At one port, by the names 127.0.0.1, `localhost` and 127.0.0.2: the first two are one node."""
+    with Fleet() as fleet:
+        first = fleet.node(hosts=("127.0.0.1", "127.0.0.2"))
+        second = fleet.second_node(first, "127.0.0.2")
+        port = first.place.port
+        names = [f"127.0.0.1:{port}", f"localhost:{port}", f"127.0.0.2:{port}"]
+        client = fleet.proxy(fleet.config(names)).client()
+        own = [it.client() for it in (first, second)]
+        for place, name in enumerate(names):
+            key = key_at(place, len(names))
+            client.ask(set_of(key, name), STORED)
+            wanted = (None, name) if place == 2 else (name, None)
+            check(f"where {key} of {name} lies", wanted, tuple(it.value_of(key) for it in own))
 
 
 @case

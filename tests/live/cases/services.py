@@ -18,6 +18,14 @@ NO_ADDRESSES = (
     "127.0.0.1:11211:1",
     "[::1]:11211",
     "::1:11211",
+    "LOCALHOST:0",
+    "localhost.:0",
+    "127.1:0",
+    "127.0.0.01:0",
+    "0177.0.0.1:0",
+    "256.0.0.1:0",
+    "127.0.0.1:00",
+    "127.0.0.1:011211",
     "",
 )
 
@@ -284,7 +292,7 @@ def an_address_that_is_taken_is_a_fault():
 
 @case
 def what_is_no_address_is_a_fault():
-    """An address is a host, one colon and a port; the host is of IPv4, or `localhost`."""
+    """An address is a host, one colon and a port; the host is of IPv4, or `localhost`. No name is looked up."""
     with Fleet() as fleet:
         config = fleet.config(["127.0.0.1:1"])
         for address in NO_ADDRESSES:
@@ -312,3 +320,16 @@ def a_service_outlives_a_want_of_open_files():
         waiting.expect(hits(("k", "v")))
         for client in served:
             client.ask(get_of("k"), hits(("k", "v")))
+
+
+@case
+def ten_thousand_requests_over_one_connection_are_answered():
+    """A session has no last request but the one that ends it: 10,050 gets, by 150 at once, of a node and of a proxy."""
+    with Fleet() as fleet:
+        node = fleet.node()
+        for service in (node, fleet.proxy(fleet.config([node]))):
+            client = service.client()
+            client.ask(set_of("k", "v"), STORED)
+            for _ in range(67):
+                client.ask(get_of("k") * 150, hits(("k", "v")) * 150)
+            client.quit()

@@ -21,7 +21,7 @@ where
     C: 's,
 {
     let (link, jobs) = crossbeam_channel::unbounded(alloc).ok()?;
-    match scope.spawn(move || run_worker(rt, carrier, jobs, gate)) {
+    match scope.spawn(move || drop(run_worker(rt, carrier, jobs, gate))) {
         Ok(_) => Some(link),
         Err(_) => None,
     }

@@ -103,3 +103,15 @@ fn a_side_that_is_not_awaited_is_handed_back(rt: HostRuntime) {
         "NOT_FOUND",
     );
 }
+
+/// What a client is told where a join is copied before each of its replies.
+fn told_by_copies(rt: &impl Abort) -> &'static str {
+    let both = must(rt, Joining::two().copy());
+    let one = must(rt, both.take(Side::Old, LegReply::NotFound).copy());
+    word_of(must(rt, one.take(Side::New, LegReply::Deleted)).worst())
+}
+
+#[test]
+fn a_copied_join_awaits_the_same(rt: HostRuntime) {
+    says(&rt, 0, told_by_copies(&rt), "NOT_FOUND");
+}

@@ -192,13 +192,19 @@ fn pools_are_refused_in_order(rt: HostRuntime) {
     count_is(&rt, 4, most.len(), 1024);
 }
 
+/// Asserts that pools of these nodes share a name.
+fn share_a_name(rt: &impl Abort, alloc: Global, row: usize, old: &[&str], new: &[&str]) {
+    let old = must(rt, pool(rt, alloc, old));
+    let new = must(rt, pool(rt, alloc, new));
+    let refusal = Routing::new(old, new, NamedHash::Sum).err();
+    is(rt, row, refusal, Some(PoolError::SharedName));
+}
+
 #[test]
 fn routings_share_no_name(rt: HostRuntime) {
-    let old = must(&rt, pool(&rt, rt.alloc(), &["7001", "7002"]));
-    let new = must(&rt, pool(&rt, rt.alloc(), &["7101", "7002"]));
-    let refusal = Routing::new(old, new, NamedHash::Sum).err();
-    is(&rt, 0, refusal, Some(PoolError::SharedName));
-    is(&rt, 1, PoolError::SharedName.number(), 5);
+    share_a_name(&rt, rt.alloc(), 0, &["7001"], &["7001"]);
+    share_a_name(&rt, rt.alloc(), 1, &["7001", "7002"], &["7101", "7002"]);
+    is(&rt, 2, PoolError::SharedName.number(), 5);
 }
 
 /// Asserts that a routing and its copy are equal, and what the copy tells.

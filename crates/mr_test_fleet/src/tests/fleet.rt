@@ -1,11 +1,12 @@
 //! Fleets of two proxies over five caches. The new pool is 7101, 7102 and 7103. So `k` is kept by 7002 and 7103, `a` by 7002
 //! and 7102, and `b` by 7001 and 7103.
 mod at_once;
+mod many;
 mod phases;
 
 use super::{is, is_at, must, recorded_proxy};
 use mr_clock::Clock;
-use mr_desks::{Carrier, Closed, Gate, Share};
+use mr_desks::{Carrier, Gate, Share};
 use mr_fleet::{FleetClient, FleetEnd, FleetProxy, run_fleet};
 use mr_node::Ended;
 use mr_proxy::Answer;
@@ -88,8 +89,7 @@ fn went_well<C: Carrier, K: Clock, S: Source, W: Sink>(
     end: &FleetEnd<C, K, S, W>,
     issued: &[u64],
 ) {
-    let whole = matches!(end.book, Ok(Closed::Whole(_)));
-    is_at(rt, proxy, "whole", &whole, &true);
+    is_at(rt, proxy, "closed", &end.book.is_ok(), &true);
     were_issued(rt, proxy, &end.shares, issued);
     were_answered(rt, proxy, &end.answers, issued);
     is_at(rt, proxy, "clients", &end.ends.len(), &issued.len());

@@ -1,9 +1,8 @@
-//! A module of tests for desks, for links, for links of a fleet, and for sessions, and requests and legs that several of them
+//! A module of tests for desks, for links, and for sessions, and requests and legs that several of them
 //! are made of.
 mod broken;
 mod desks;
 mod devices;
-mod link_carriers;
 mod links;
 mod sessions;
 

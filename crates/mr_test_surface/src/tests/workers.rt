@@ -6,7 +6,7 @@ use mr_node::{CacheNode, Ended};
 use mr_proxy::{Leg, ProxyCore};
 use mr_text::{OverReader, OverWriter, Sink, Source};
 use mr_workers::{
-    Book, Carried, Carrier, Carriers, ClientEnd, Closed, Desk, DirectCarriers, FleetClient,
+    Book, Carried, Carrier, Carriers, ClientEnd, CloseError, Desk, DirectCarriers, FleetClient,
     FleetEnd, FleetProxy, Gate, LinkCarriers, LocalCarrier, NodeLink, OpenGate, RecordedProxy,
     RecordedState, Served, SharedNode, SharedProxy, WorkerError, close, run_fleet, serve_client,
 };
@@ -87,8 +87,9 @@ fn book_of<C: Carrier>(
     let mut sessions = Vec::new(alloc);
     sessions.push(served.answers)?;
     match close(alloc, desk, &[served.share], &sessions) {
-        Ok(Closed::Whole(book)) => Ok(book),
-        Ok(Closed::Differs(_)) | Err(_) => Err(Fail::from("the book differs")),
+        Ok(book) => Ok(book),
+        Err(CloseError::BookDiffers(_)) => Err(Fail::from("the book differs")),
+        Err(CloseError::OutOfMemory(_)) => Err(Fail::from("no memory")),
     }
 }
 

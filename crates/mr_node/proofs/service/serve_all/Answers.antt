@@ -85,7 +85,7 @@ returns-in-Err-read_piece-clause-session g c =
     c.serve_next.result (Ok Waits)
     (c.in-Ok-Waits.is ∙ ap (λ (s : SessionStep). Ok s) c.in-Ok-Waits.field-0-is)
     (c.serve_next.ensures c.session.invariant.so.rest c.session.invariant.so.becomes.stands) in
-    read_fails _ _ _ _ _ (station c.serve_next.new.clock c.serve_next.new.node (g.W.Sink.told c.serve_next.new.writer)) _ c.serve_next.new.requests _ c.session.invariant.so (length c.session.buffer) (g.S.Source.told c.read_piece.new.reader) c.read_piece.new.requests c.in-Err-read_piece.fault step
+    read_fails _ _ _ _ _ (station c.serve_next.new.clock c.serve_next.new.node (g.W.Sink.told c.serve_next.new.writer)) _ c.serve_next.new.requests _ c.session.invariant.so (length c.session.buffer) (g.S.Source.told c.read_piece.new.reader) c.read_piece.new.requests c.in-Err-read_piece.fault step c.read_piece.ensures.once
     (subst (λ (r : Result Bool SessionFault). PieceIs (length c.session.buffer) c.session.invariant.so.rest c.read_piece.new.requests (g.S.Source.told c.session.reader) r (g.S.Source.told c.read_piece.new.reader))
     c.in-Err-read_piece.is (c.read_piece.ensures.piece c.session.invariant.so.rest (waits_for _ _ _ _ _ (station c.serve_next.new.clock c.serve_next.new.node (g.W.Sink.told c.serve_next.new.writer)) _ c.serve_next.new.requests _ c.session.invariant.so step).stands))
 
@@ -121,6 +121,6 @@ session-preserved g c =
     let piece = (subst (λ (r : Result Bool SessionFault). PieceIs (length c.session.buffer) c.session.invariant.so.rest c.read_piece.new.requests (g.S.Source.told c.session.reader) r (g.S.Source.told c.read_piece.new.reader))
     c.in-Ok.is (c.read_piece.ensures.piece c.session.invariant.so.rest (waits_for _ _ _ _ _ (station c.serve_next.new.clock c.serve_next.new.node (g.W.Sink.told c.serve_next.new.writer)) _ c.serve_next.new.requests _ c.session.invariant.so step).stands)) in
     record {
-      so = fed _ _ _ _ _ (station c.serve_next.new.clock c.serve_next.new.node (g.W.Sink.told c.serve_next.new.writer)) _ c.serve_next.new.requests _ c.session.invariant.so (length c.session.buffer) (g.S.Source.told c.read_piece.new.reader) c.read_piece.new.requests c.in-Ok.last step piece;
+      so = fed _ _ _ _ _ (station c.serve_next.new.clock c.serve_next.new.node (g.W.Sink.told c.serve_next.new.writer)) _ c.serve_next.new.requests _ c.session.invariant.so (length c.session.buffer) (g.S.Source.told c.read_piece.new.reader) c.read_piece.new.requests c.in-Ok.last step c.read_piece.ensures.once piece;
       read = read_on _ _ _ _ _ c.session.invariant.read (length c.session.buffer) _ c.session.invariant.so.rest c.read_piece.new.requests (omega arith) (omega arith) c.if-ended.false c.read_piece.ensures.once c.read_piece.ensures.offered _ (omega arith) c.in-Ok.last piece;
     }

@@ -1,11 +1,15 @@
-use Rattle.std.proofs.Common.{◌≡◌, ◌+◌, ◌≤◌, length}
+use Rattle.std.proofs.Common.{◌≡◌, ◌+◌, ◌^◌, ◌<◌, ◌≤◌, ◌++◌, List, length}
+use Rattle.mr_proxy.specs.declared.sheet.LegSheet.{LegSheet}
 use Rattle.mr_sessions.proofs.carrying.send_all.Given as goal
 
--- nothing was lost or came back so far, and some leg is out or still to be sent
+-- the legs so far were sent, and as many as all are out or still to be sent
 abbrev pub invariant-loop-leg : goal.invariant-loop-leg
-invariant-loop-leg g l =
-    (goal.iterator-loop-leg g).can_next l.leg-iterator ×
-    (goal.iterator-loop-leg g).is_finite l.leg-iterator ×
-    (g.L.Carriers.losses l.carriers ≡ g.L.Carriers.losses l.initial.carriers) ×
-    (1 ≤ l.legs_out + length l.leg-iterator.rest.items) ×
-    (g.L.Carriers.brought l.carriers ≡ g.L.Carriers.brought l.initial.carriers)
+invariant-loop-leg g l = record {
+  can_next : (goal.iterator-loop-leg g).can_next l.leg-iterator;
+  is_finite : (goal.iterator-loop-leg g).is_finite l.leg-iterator;
+  few : length l.fn.legs.items < 2 ^ 64;
+  out : length l.fn.legs.items ≤ l.legs_out + length l.leg-iterator.rest.items;
+  front : List LegSheet;
+  splits : l.fn.legs.items ≡ front ++ l.leg-iterator.rest.items;
+  sent : g.L.Carriers.told l.carriers ≡ record (g.L.Carriers.told l.initial.carriers) { sent = (g.L.Carriers.told l.initial.carriers).sent ++ front };
+}

@@ -5,7 +5,7 @@ use Rattle.mr_text.specs.declared.error.TextError.{TextError}
 use Rattle.mr_text.specs.declared.request.Request.{Request}
 use Rattle.mr_node.specs.Session.{station}
 use Rattle.mr_sessions.specs.Account.{account}
-use Rattle.mr_sessions.specs.Asking.{AsksDesk, AsksInVain}
+use Rattle.mr_sessions.specs.Asking.{desk_rules}
 use Rattle.mr_sessions.proofs.StepLemmas.{client_step, client_refusal}
 use Rattle.mr_sessions.proofs.serving.answer_next.Goals as goal
 
@@ -21,10 +21,10 @@ returns-in-Ok-Some g c rest stands =
     let next : NextIs SpellsRequest RefusesRequest SkipsLine is_quit c.args.requests.now c.next.new.self rest (Ok (Some c.in-Ok-Some.request)) =
     subst (λ (r : Result (Option Request) TextError). NextIs SpellsRequest RefusesRequest SkipsLine is_quit c.args.requests.now c.next.new.self rest r)
     (c.in-Ok-Some.is ∙ ap (λ (o : Option Request). Ok o) c.in-Ok-Some.field-0-is) (c.next.ensures rest stands) in
-    client_step (AsksDesk g.K.Clock.reads g.K.Clock.failures g.C.Carrier.gave g.D.Desk.recorded) (AsksInVain g.K.Clock.reads g.K.Clock.failures)
+    client_step (desk_rules g.K.Clock.reads g.K.Clock.failures g.C.Carrier.gave g.D.Desk.recorded)
     rest c.args.requests.now c.next.new.self
-    (station c.args.clock.now (account c.args.log.now.share c.args.log.now.answers.items (g.L.Carriers.losses c.args.carriers.now) (g.L.Carriers.brought c.args.carriers.now)) (g.W.Sink.told c.args.writer.now))
-    (station c.answer_request.new.clock (account c.answer_request.new.log.share c.answer_request.new.log.answers.items (g.L.Carriers.losses c.answer_request.new.carriers) (g.L.Carriers.brought c.answer_request.new.carriers)) (g.W.Sink.told c.answer_request.new.writer))
+    (station c.args.clock.now (account c.args.log.now.share c.args.log.now.answers.items (g.L.Carriers.told c.args.carriers.now)) (g.W.Sink.told c.args.writer.now))
+    (station c.answer_request.new.clock (account c.answer_request.new.log.share c.answer_request.new.log.answers.items (g.L.Carriers.told c.answer_request.new.carriers)) (g.W.Sink.told c.answer_request.new.writer))
     c.in-Ok-Some.request c.answer_request.result next c.answer_request.ensures
 
 pub returns-in-Err : goal.returns-in-Err
@@ -32,7 +32,7 @@ returns-in-Err g c rest stands =
     let next : NextIs SpellsRequest RefusesRequest SkipsLine is_quit c.args.requests.now c.next.new.self rest (Err c.in-Err.refusal) =
     subst (λ (r : Result (Option Request) TextError). NextIs SpellsRequest RefusesRequest SkipsLine is_quit c.args.requests.now c.next.new.self rest r)
     c.in-Err.is (c.next.ensures rest stands) in
-    client_refusal (AsksDesk g.K.Clock.reads g.K.Clock.failures g.C.Carrier.gave g.D.Desk.recorded) (AsksInVain g.K.Clock.reads g.K.Clock.failures)
+    client_refusal (desk_rules g.K.Clock.reads g.K.Clock.failures g.C.Carrier.gave g.D.Desk.recorded)
     rest c.args.requests.now c.next.new.self c.args.clock.now
-    (account c.args.log.now.share c.args.log.now.answers.items (g.L.Carriers.losses c.args.carriers.now) (g.L.Carriers.brought c.args.carriers.now))
+    (account c.args.log.now.share c.args.log.now.answers.items (g.L.Carriers.told c.args.carriers.now))
     (g.W.Sink.told c.args.writer.now) (g.W.Sink.told c.refuse.new.writer) c.in-Err.refusal c.refuse.result c.requires next c.refuse.ensures

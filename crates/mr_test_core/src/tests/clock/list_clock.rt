@@ -32,6 +32,21 @@ fn a_list_gives_each_member_and_then_the_last(rt: HostRuntime) {
     }
 }
 
+/// Asserts that a copy of a clock that gave its first reading gives what is left, and takes nothing from the clock.
+fn is_copied(rt: &impl Abort, clock: &mut ListClock) {
+    shows(rt, 0, clock, Some(999));
+    let mut copy = must(rt, clock.copy());
+    shows(rt, 1, &mut copy, None);
+    shows(rt, 2, &mut copy, Some(1000));
+    shows(rt, 3, clock, None);
+}
+
+#[test]
+fn a_copied_list_gives_what_is_left(rt: HostRuntime) {
+    let list = must(&rt, Vec::from_slice(rt.alloc(), LISTS[0].0));
+    is_copied(&rt, &mut ListClock::new(list));
+}
+
 #[test]
 fn stands_still(rt: HostRuntime) {
     let mut clock = FixedClock(999);

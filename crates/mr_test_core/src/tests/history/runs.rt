@@ -14,7 +14,7 @@ struct Run {
 }
 
 /// Each is of the key `k` and the data `v`, but for bad items.
-static RUNS: [Run; 10] = [
+static RUNS: [Run; 12] = [
     // A hit alone: nothing stored it.
     Run {
         entries: &[
@@ -107,6 +107,34 @@ static RUNS: [Run; 10] = [
         length: 15,
         verdict: ("stale", Some(OTHER_FIRST), Some(b'k'), Some(THIRD)),
     },
+    // A delete before the item is stored and one behind it, which is answered first.
+    Run {
+        entries: &[
+            (Told::Delete(FIRST, b'k'), true),
+            (Told::Stored(Author::Beginning, b'k', b'v'), true),
+            (Told::Delete(SECOND, b'k'), true),
+            (Told::IsDeleted(SECOND), true),
+            (Told::NotFound(FIRST), true),
+            (Told::Get(THIRD, b'k'), true),
+            (Told::Items(THIRD, &[(b'k', b'v')]), true),
+        ],
+        length: 7,
+        verdict: ("stale", Some(THIRD), Some(b'k'), Some(SECOND)),
+    },
+    // A delete that is acknowledged once the get was issued, and then a get that finds nothing.
+    Run {
+        entries: &[
+            (Told::Stored(Author::Beginning, b'k', b'v'), true),
+            (Told::Get(FIRST, b'k'), true),
+            (Told::Delete(SECOND, b'k'), true),
+            (Told::IsDeleted(SECOND), true),
+            (Told::Items(FIRST, &[(b'k', b'v')]), true),
+            (Told::Get(THIRD, b'k'), true),
+            (Told::Items(THIRD, &[]), true),
+        ],
+        length: 7,
+        verdict: SAFE,
+    },
     // An answer with an item that was stored and two that weren't, and then another bad answer: the first bad item of the
     // first bad answer is named.
     Run {
@@ -174,23 +202,23 @@ fn write(rt: &impl Abort, alloc: Global, history: &mut History, entries: &[(Told
     }
 }
 
-/// Asserts what is said of a history.
-fn shows(rt: &impl Abort, row: usize, history: &History, run: &Run) {
+/// Asserts what is said of a history, without and with an index.
+fn shows(rt: &impl Abort, alloc: Global, row: usize, history: &History, run: &Run) {
     count_is(rt, row, history.entries().len(), run.length);
-    is_said(
-        rt,
-        row,
-        &words_of_verdict(judge_history(history)),
-        &run.verdict,
-    );
+    for verdict in [
+        judge_history(history),
+        must(rt, judge_indexed(alloc, history)),
+    ] {
+        is_said(rt, row, &words_of_verdict(verdict), &run.verdict);
+    }
 }
 
 /// Asserts which entries of a run fit, and what is said of the history then, and of its copy.
 fn goes(rt: &impl Abort, alloc: Global, row: usize, run: &Run) {
     let mut history = must(rt, History::new(alloc));
     write(rt, alloc, &mut history, run.entries);
-    shows(rt, row, &history, run);
-    shows(rt, row, &must(rt, history.copy()), run);
+    shows(rt, alloc, row, &history, run);
+    shows(rt, alloc, row, &must(rt, history.copy()), run);
 }
 
 #[test]

@@ -5,7 +5,9 @@ use mr_join::LegReply;
 use mr_node::{CacheNode, NodeCommand, NodeError, Perform};
 use mr_text::Key;
 use std::alloc::{AllocError, Global};
+use std::hash::RandomState;
 use std::process::Abort;
+use std::test::Fail;
 
 /// What a copy of a command comes to, through the bound.
 fn perform<P: Perform>(
@@ -27,12 +29,19 @@ fn is_step(rt: &impl Abort, alloc: Global, row: usize, node: &mut CacheNode, ste
     count_is(rt, row, node.len(), step.4);
 }
 
+/// Asserts what each step comes to.
+fn are_steps(rt: &impl Abort, alloc: Global, node: &mut CacheNode, steps: &[Step]) {
+    for (row, step) in steps.iter().enumerate() {
+        is_step(rt, alloc, row, node, step);
+    }
+}
+
 /// The capacity of a cache, commands, and when the item of a name has to expire after them, if it is kept.
 type Row = (usize, &'static [Step], u8, Option<Option<u64>>);
 
-/// Asserts what a row says. Its name is looked at before each of its commands too, which is no use of the item.
-fn is_row(rt: &impl Abort, alloc: Global, row: usize, it: &Row) {
-    let mut node = must(rt, CacheNode::new(alloc, it.0));
+/// Asserts what a row says of an empty node of its capacity. Its name is looked at before each of its commands too, which is
+/// no use of the item.
+fn is_row(rt: &impl Abort, alloc: Global, row: usize, it: &Row, mut node: CacheNode) {
     let name = must(rt, Key::new(alloc, &[it.2]));
     for step in it.1 {
         let _ = node.peek(&name);
@@ -142,8 +151,19 @@ static ROWS: [Row; 20] = [
 #[test]
 fn commands_come_to_what_their_rows_say(rt: HostRuntime) {
     for (row, it) in ROWS.iter().enumerate() {
-        is_row(&rt, rt.alloc(), row, it);
+        let node = must(&rt, CacheNode::new(rt.alloc(), it.0));
+        is_row(&rt, rt.alloc(), row, it, node);
     }
+}
+
+#[test]
+fn a_seeded_cache_answers_alike(rt: HostRuntime) -> Result<(), Fail> {
+    let seed = RandomState::new(&rt)?;
+    for (row, it) in ROWS.iter().enumerate() {
+        let node = must(&rt, CacheNode::seeded(rt.alloc(), it.0, seed));
+        is_row(&rt, rt.alloc(), row, it, node);
+    }
+    Ok(())
 }
 
 #[test]
@@ -154,6 +174,23 @@ fn a_restart_drops_all(rt: HostRuntime) {
     is(&rt, 1, node.is_empty(), true);
     let get = (100, Told::Get, b'a', Came::Miss, 0);
     is_step(&rt, rt.alloc(), 2, &mut node, &get);
+}
+
+/// Steps of a cache that keeps one item.
+static LAST_SET: [Step; 4] = [
+    FIRST,
+    SECOND_OF_ONE,
+    (100, Told::Get, b'a', Came::Miss, 1),
+    (100, Told::Get, b'b', Came::Hit, 1),
+];
+
+#[test]
+fn the_one_item_is_the_last_one_set_until_a_restart(rt: HostRuntime) {
+    let mut node = must(&rt, CacheNode::new(rt.alloc(), 1));
+    are_steps(&rt, rt.alloc(), &mut node, &LAST_SET);
+    node.restart();
+    let get = (100, Told::Get, b'b', Came::Miss, 0);
+    is_step(&rt, rt.alloc(), 4, &mut node, &get);
 }
 
 #[test]

@@ -1,8 +1,10 @@
 //! What becomes of requests and replies, one after the other.
 use super::{Asked, Came, core_of, holds, is, is_asked, issue, reply_of, request_of, says};
+use crate::tests::must;
 use mr_history::OpId;
 use mr_join::LegReply;
 use mr_proxy::{LegId, ProxyCore, ProxyError, Taken};
+use mr_text::{Cause, Reply};
 use std::alloc::Global;
 use std::process::Abort;
 
@@ -16,14 +18,16 @@ enum Step {
     Issues(u64, Asked, Name),
     /// A request is refused, and comes back.
     Refuses(u64, Asked, ProxyError),
-    /// The reply of the leg of this place becomes this.
+    /// The reply of the leg of this place becomes this: of an answer what the client is told.
     Takes(Name, u32, Came, &'static str),
-    /// A request is given up, or refused to be.
-    GivesUp(Name, Option<ProxyError>),
+    /// A request is given up, and the client told this, or it is refused to be.
+    GivesUp(Name, Result<&'static str, ProxyError>),
     /// The proxy is restarted, or refuses to be.
     Restarts(Option<ProxyError>),
     /// So many requests are under way, and so many of their legs may answer yet.
     Leaves(usize, u128),
+    /// Of those under way this request was issued first, if there is one.
+    Begins(Option<Name>),
     /// Whether the sheet of the leg of this place is lent.
     Lends(Name, u32, bool),
 }
@@ -61,11 +65,26 @@ fn refusal_of(
     }
 }
 
-/// What becomes of a reply.
-fn become_of(core: &mut ProxyCore, id: LegId, reply: LegReply) -> &'static str {
-    match core.take_reply(id, reply) {
+/// What a client is told.
+fn word_of(reply: &Reply) -> &'static str {
+    match reply {
+        Reply::NotFound => "NOT_FOUND",
+        Reply::ServerError(Cause::LegLost) => "SERVER_ERROR leg lost",
+        _ => "another answer",
+    }
+}
+
+/// What a client is told of a request that is given up.
+fn given_up(core: &mut ProxyCore, op: OpId) -> Result<&'static str, ProxyError> {
+    let answer = core.give_up(op)?;
+    Ok(word_of(&answer.into_reply()))
+}
+
+/// What becomes of a reply, by a copy of that.
+fn become_of(rt: &impl Abort, core: &mut ProxyCore, id: LegId, reply: LegReply) -> &'static str {
+    match must(rt, core.take_reply(id, reply).copy()) {
         Taken::Waiting => "waiting",
-        Taken::Answered(_) => "answered",
+        Taken::Answered(answer) => word_of(&answer.into_reply()),
         Taken::Stranger(_) => "stranger",
     }
 }
@@ -83,9 +102,10 @@ fn is_done(rt: &impl Abort, alloc: Global, row: usize, core: &mut ProxyCore, ste
         }
         Step::Takes(name, place, came, wanted) => {
             let reply = reply_of(rt, alloc, *came);
-            says(rt, row, become_of(core, leg(*name, *place), reply), wanted);
+            let became = become_of(rt, core, leg(*name, *place), reply);
+            says(rt, row, became, wanted);
         }
-        Step::GivesUp(name, refusal) => is(rt, row, core.give_up(op(*name)).err(), *refusal),
+        Step::GivesUp(name, told) => is(rt, row, given_up(core, op(*name)), *told),
         Step::Restarts(refusal) => is(rt, row, core.restart().err(), *refusal),
         Step::Leaves(outstanding, open) => {
             is(
@@ -95,6 +115,7 @@ fn is_done(rt: &impl Abort, alloc: Global, row: usize, core: &mut ProxyCore, ste
                 (*outstanding, *open),
             );
         }
+        Step::Begins(name) => is(rt, row, core.oldest(), (*name).map(op)),
         Step::Lends(name, place, lent) => {
             holds(rt, row, core.sheet_of(leg(*name, *place)).is_some(), *lent);
         }
@@ -114,7 +135,7 @@ fn runs(rt: &impl Abort, alloc: Global, script: usize, it: &Script) {
     }
 }
 
-static SCRIPTS: [Script; 4] = [
+static SCRIPTS: [Script; 5] = [
     // A delete waits for both legs.
     (
         0,
@@ -129,7 +150,7 @@ static SCRIPTS: [Script; 4] = [
             Step::Takes((0, 0), 1, Came::Found(b'v', 1), "stranger"),
             Step::Takes((0, 0), 2, Came::NotFound, "stranger"),
             Step::Leaves(1, 1),
-            Step::Takes((0, 0), 1, Came::NotFound, "answered"),
+            Step::Takes((0, 0), 1, Came::NotFound, "NOT_FOUND"),
             Step::Leaves(0, 0),
             Step::Takes((0, 0), 1, Came::NotFound, "stranger"),
         ],
@@ -152,11 +173,38 @@ static SCRIPTS: [Script; 4] = [
         0,
         1,
         &[
+            Step::Begins(None),
             Step::Issues(999, Asked::Get(b"k"), (0, 0)),
+            Step::Begins(Some((0, 0))),
             Step::Refuses(999, Asked::Get(b"b"), ProxyError::NoRoom),
-            Step::GivesUp((0, 0), None),
-            Step::GivesUp((0, 0), Some(ProxyError::NoSuchOp)),
+            Step::GivesUp((0, 0), Ok("SERVER_ERROR leg lost")),
+            Step::Begins(None),
+            Step::GivesUp((0, 0), Err(ProxyError::NoSuchOp)),
             Step::Issues(999, Asked::Get(b"k"), (0, 1)),
+        ],
+    ),
+    // Requests leave in any order, and none is known after a restart.
+    (
+        0,
+        4,
+        &[
+            Step::Issues(999, Asked::Get(b"k"), (0, 0)),
+            Step::Issues(999, Asked::Delete(b'k'), (0, 1)),
+            Step::Issues(999, Asked::Get(b"b"), (0, 2)),
+            Step::Takes((0, 1), 0, Came::NotFound, "NOT_FOUND"),
+            Step::Begins(Some((0, 0))),
+            Step::Takes((0, 1), 0, Came::NotFound, "stranger"),
+            Step::Takes((0, 0), 0, Came::Lost, "SERVER_ERROR leg lost"),
+            Step::Begins(Some((0, 2))),
+            Step::Leaves(1, 1),
+            Step::Lends((0, 2), 0, true),
+            Step::Restarts(None),
+            Step::Begins(None),
+            Step::Leaves(0, 0),
+            Step::Takes((0, 2), 0, Came::Lost, "stranger"),
+            Step::GivesUp((0, 2), Err(ProxyError::NoSuchOp)),
+            Step::Issues(999, Asked::Get(b"k"), (1, 0)),
+            Step::Begins(Some((1, 0))),
         ],
     ),
     // The last incarnation can't restart.

@@ -205,6 +205,13 @@ fn events_are_read_in_order(rt: HostRuntime) {
     events_are_so(&rt, read_whole(&rt, rt.alloc()).events());
 }
 
+#[test]
+fn a_copied_script_says_the_same(rt: HostRuntime) {
+    let copied = must(&rt, read_whole(&rt, rt.alloc()).copy());
+    setup_is_so(&rt, copied.setup());
+    events_are_so(&rt, copied.events());
+}
+
 /// What is changed in the script, and why it is none then: the first event, one in the middle and the last, and the setup.
 static REFUSED: [(&str, &str, PlanError); 5] = [
     (

@@ -6,4 +6,4 @@ pub of-requires : goal.of-requires
 of-requires g c = inl c.requires
 
 pub returns-clause-ended : goal.returns-clause-ended
-returns-clause-ended g c told = had_a_thread _ _ _ _ _ _ _ _ _ c.requires (sym c.of.ensures.ended ∙ told)
+returns-clause-ended g c told = had_a_thread _ _ _ c.requires (sym c.of.ensures.ended ∙ told)

@@ -1,71 +1,68 @@
-use Rattle.std.proofs.Common.{◌≡◌, ◌<◌, length, refl, ap, ◌∙◌, arith, ◌≤◌}
-use Rattle.std.proofs.lemmas.Option.{slice_get_read}
+use Rattle.std.proofs.Common.{◌≡◌, ◌∙◌, sym, ap, subst, remove, Some}
 use Rattle.mr_proxy.specs.contracts.proxy_core.ProxyCore.{the_view}
-use Rattle.mr_proxy.specs.Transitions.{place_of_op}
-use Rattle.mr_proxy.proofs.TakeLemmas.{given_up_at, given_up_none}
+use Rattle.mr_proxy.specs.Transitions.{place_of_op, pending_with}
+use Rattle.mr_proxy.specs.Sound.{IsSound}
+use Rattle.mr_proxy.proofs.TakeLemmas.{with_list, given_up, given_up_none}
 use Rattle.mr_proxy.proofs.proxy_core.ProxyCore.give_up.Goals as goal
+use Rattle.mr_proxy.proofs.proxy_core.ProxyCore.give_up.Goals.{in-None, in-Some}
 
 pub of-requires : goal.of-requires
 of-requires c =
-    let list = c.deref.ensures.value in
-    let at : c.in-Some.place ≡ place_of_op c.self.inside.outstanding.items c.args.op = c.in-Some.ensures.0 ∙ ap (λ l. place_of_op l c.args.op) list in
-    let same : length c.deref.result.now ≡ length c.self.inside.outstanding.items = ap length list in
-    let below = c.in-Some.ensures.1 in
-    let within : c.in-Some.place < length c.self.inside.outstanding.items = omega arith in
-    let got =
-    slice_get_read c.self.inside.outstanding.items (length c.self.inside.outstanding.items) c.in-Some.place c.remove.result refl within
-    c.remove.ensures.value in
-    let done =
-    given_up_at (the_view c.self.inside) c.args.op c.in-Some.place c.remove.result c.remove.new.self.items c.self.invariant at got c.remove.ensures.items in
-    done.answers.whole
+    let got : pending_with c.self.inside.outstanding.list c.args.op ≡ Some c.in-Some.pending = sym c.remove.ensures.value ∙ c.in-Some.is in
+    (given_up (the_view c.self.inside) c.args.op c.in-Some.pending c.self.invariant got).answers.whole
 
 pub invariant_of-self : goal.invariant_of-self
 invariant_of-self c =
-    let list = c.deref.ensures.value in
-    let at : c.in-Some.place ≡ place_of_op c.self.inside.outstanding.items c.args.op = c.in-Some.ensures.0 ∙ ap (λ l. place_of_op l c.args.op) list in
-    let same : length c.deref.result.now ≡ length c.self.inside.outstanding.items = ap length list in
-    let below = c.in-Some.ensures.1 in
-    let within : c.in-Some.place < length c.self.inside.outstanding.items = omega arith in
-    let got =
-    slice_get_read c.self.inside.outstanding.items (length c.self.inside.outstanding.items) c.in-Some.place c.remove.result refl within
-    c.remove.ensures.value in
-    let done =
-    given_up_at (the_view c.self.inside) c.args.op c.in-Some.place c.remove.result c.remove.new.self.items c.self.invariant at got c.remove.ensures.items in
-    done.sound
+    let p = the_view c.self.inside in
+    let left =
+    with_list p c.remove.new.self.proxy c.remove.new.self.incarnation c.remove.new.self.list (remove p.outstanding (place_of_op p.outstanding c.args.op))
+    c.remove.ensures.proxy c.remove.ensures.incarnation c.remove.ensures.list in
+    elim c.match-remove.branch [
+      | in-None w ↦
+          let none = given_up_none p c.args.op (sym c.remove.ensures.value ∙ w.in-None.is) in
+          subst IsSound (sym (left ∙ ap (λ list. record p { outstanding = list }) none.list)) c.self.invariant
+      | in-Some w ↦
+          let got : pending_with c.self.inside.outstanding.list c.args.op ≡ Some w.in-Some.pending = sym c.remove.ensures.value ∙ w.in-Some.is in
+          let done = given_up p c.args.op w.in-Some.pending c.self.invariant got in
+          subst IsSound (sym left) done.sound
+    ]
 
-pub returns-in-None-clause-unknown : goal.returns-in-None-clause-unknown
-returns-in-None-clause-unknown c =
-    let list = c.deref.ensures.value in
-    let at = ap (λ l. place_of_op l c.args.op) list in
-    let same : length c.deref.result.now ≡ length c.self.inside.outstanding.items = ap length list in
-    let past = c.in-None.ensures in
-    let none : length c.self.inside.outstanding.items ≤ place_of_op c.self.inside.outstanding.items c.args.op = omega arith in
-    (rw (← c.self.view_is) (given_up_none (the_view c.self.inside) c.args.op none), refl)
+pub returns-clause-sound : goal.returns-clause-sound
+returns-clause-sound c =
+    let p = the_view c.self.inside in
+    elim c.match-remove.branch [
+      | in-None w ↦ rw (w.result-is) tt
+      | in-Some w ↦
+          let got : pending_with c.self.inside.outstanding.list c.args.op ≡ Some w.in-Some.pending = sym c.remove.ensures.value ∙ w.in-Some.is in
+          let done = given_up p c.args.op w.in-Some.pending c.self.invariant got in
+          rw (w.result-is, w.of.ensures, ← c.self.view_is) done.answers
+    ]
 
-pub returns-in-Some-clause-answer : goal.returns-in-Some-clause-answer
-returns-in-Some-clause-answer c =
-    let list = c.deref.ensures.value in
-    let at : c.in-Some.place ≡ place_of_op c.self.inside.outstanding.items c.args.op = c.in-Some.ensures.0 ∙ ap (λ l. place_of_op l c.args.op) list in
-    let same : length c.deref.result.now ≡ length c.self.inside.outstanding.items = ap length list in
-    let below = c.in-Some.ensures.1 in
-    let within : c.in-Some.place < length c.self.inside.outstanding.items = omega arith in
-    let got =
-    slice_get_read c.self.inside.outstanding.items (length c.self.inside.outstanding.items) c.in-Some.place c.remove.result refl within
-    c.remove.ensures.value in
-    let done =
-    given_up_at (the_view c.self.inside) c.args.op c.in-Some.place c.remove.result c.remove.new.self.items c.self.invariant at got c.remove.ensures.items in
-    rw (← c.self.view_is, c.of.ensures) done.answer
+pub returns-clause-state : goal.returns-clause-state
+returns-clause-state c =
+    let p = the_view c.self.inside in
+    let left =
+    with_list p c.remove.new.self.proxy c.remove.new.self.incarnation c.remove.new.self.list (remove p.outstanding (place_of_op p.outstanding c.args.op))
+    c.remove.ensures.proxy c.remove.ensures.incarnation c.remove.ensures.list in
+    elim c.match-remove.branch [
+      | in-None w ↦
+          let none = given_up_none p c.args.op (sym c.remove.ensures.value ∙ w.in-None.is) in
+          rw (← c.self.view_is) (left ∙ ap (λ list. record p { outstanding = list }) none.list ∙ sym none.state)
+      | in-Some w ↦
+          let got : pending_with c.self.inside.outstanding.list c.args.op ≡ Some w.in-Some.pending = sym c.remove.ensures.value ∙ w.in-Some.is in
+          let done = given_up p c.args.op w.in-Some.pending c.self.invariant got in
+          rw (← c.self.view_is) (left ∙ done.state)
+    ]
 
-pub returns-in-Some-clause-state : goal.returns-in-Some-clause-state
-returns-in-Some-clause-state c =
-    let list = c.deref.ensures.value in
-    let at : c.in-Some.place ≡ place_of_op c.self.inside.outstanding.items c.args.op = c.in-Some.ensures.0 ∙ ap (λ l. place_of_op l c.args.op) list in
-    let same : length c.deref.result.now ≡ length c.self.inside.outstanding.items = ap length list in
-    let below = c.in-Some.ensures.1 in
-    let within : c.in-Some.place < length c.self.inside.outstanding.items = omega arith in
-    let got =
-    slice_get_read c.self.inside.outstanding.items (length c.self.inside.outstanding.items) c.in-Some.place c.remove.result refl within
-    c.remove.ensures.value in
-    let done =
-    given_up_at (the_view c.self.inside) c.args.op c.in-Some.place c.remove.result c.remove.new.self.items c.self.invariant at got c.remove.ensures.items in
-    rw (← c.self.view_is) done.state
+pub returns-clause-unchanged : goal.returns-clause-unchanged
+returns-clause-unchanged c =
+    let p = the_view c.self.inside in
+    let left =
+    with_list p c.remove.new.self.proxy c.remove.new.self.incarnation c.remove.new.self.list (remove p.outstanding (place_of_op p.outstanding c.args.op))
+    c.remove.ensures.proxy c.remove.ensures.incarnation c.remove.ensures.list in
+    elim c.match-remove.branch [
+      | in-None w ↦
+          let none = given_up_none p c.args.op (sym c.remove.ensures.value ∙ w.in-None.is) in
+          rw (w.result-is) (left ∙ ap (λ list. record p { outstanding = list }) none.list ∙ c.self.view_is)
+      | in-Some w ↦ rw (w.result-is) tt
+    ]

@@ -1,201 +1,47 @@
-use Rattle.std.proofs.Common.{◌≡◌, ◌<◌, false, length, refl, sym, ap, ◌∙◌, arith}
-use Rattle.std.proofs.lemmas.Option.{slice_get_read}
+use Rattle.std.proofs.Common.{◌∙◌, sym, ap, subst}
 use Rattle.mr_proxy.specs.contracts.proxy_core.ProxyCore.{the_view}
-use Rattle.mr_proxy.specs.Pending.{with_reply}
-use Rattle.mr_proxy.specs.Answer.{answer_of}
+use Rattle.mr_proxy.specs.Transitions.{taken_of}
+use Rattle.mr_proxy.specs.Sound.{IsSound, IsSoundAnswer}
 use Rattle.mr_proxy.specs.declared.taken.Taken.TheVariants.{Answered}
-use Rattle.mr_proxy.specs.Transitions.{place_of_op}
-use Rattle.mr_proxy.proofs.TakeLemmas.{stranger_taken, waiting_taken, last_taken}
+use Rattle.mr_proxy.specs.steps.Outstanding.{list_settled}
+use Rattle.mr_proxy.proofs.SoundLemmas.{last_reply_answers_lem}
+use Rattle.mr_proxy.proofs.TakeLemmas.{with_list, taken_list, taken_sound, taken_as, became, last_answers}
 use Rattle.mr_proxy.proofs.proxy_core.ProxyCore.take_reply.Goals as goal
-
-pub invariant_of-self : goal.invariant_of-self
-invariant_of-self c =
-    let list = c.deref.ensures.value in
-    let at : c.in-Some.place ≡ place_of_op c.self.inside.outstanding.items c.args.id.op =
-    c.in-Some.ensures.0 ∙ ap (λ l. place_of_op l c.args.id.op) list in
-    let same : length c.deref.result.now ≡ length c.self.inside.outstanding.items = ap length list in
-    let below = c.in-Some.ensures.1 in
-    let within : c.in-Some.place < length c.self.inside.outstanding.items = omega arith in
-    let got =
-    slice_get_read c.self.inside.outstanding.items (length c.self.inside.outstanding.items) c.in-Some.place c.index_mut.result.now refl within
-    c.index_mut.ensures.value in
-    let noted = with_reply c.index_mut.result.now c.args.id.place c.args.reply in
-    let done =
-    stranger_taken (the_view c.self.inside) c.args.id c.args.reply c.in-Stranger.reply c.in-Some.place c.index_mut.result.now c.take.new.self noted
-    c.self.invariant at got refl (sym c.in-Stranger.is ∙ c.take.ensures.noted) c.take.ensures.state in
-    done.sound
-
-pub invariant_of-self-in-Waiting : goal.invariant_of-self-in-Waiting
-invariant_of-self-in-Waiting c =
-    let list = c.deref.ensures.value in
-    let at : c.in-Some.place ≡ place_of_op c.self.inside.outstanding.items c.args.id.op =
-    c.in-Some.ensures.0 ∙ ap (λ l. place_of_op l c.args.id.op) list in
-    let same : length c.deref.result.now ≡ length c.self.inside.outstanding.items = ap length list in
-    let below = c.in-Some.ensures.1 in
-    let within : c.in-Some.place < length c.self.inside.outstanding.items = omega arith in
-    let got =
-    slice_get_read c.self.inside.outstanding.items (length c.self.inside.outstanding.items) c.in-Some.place c.index_mut.result.now refl within
-    c.index_mut.ensures.value in
-    let noted = with_reply c.index_mut.result.now c.args.id.place c.args.reply in
-    let done =
-    waiting_taken (the_view c.self.inside) c.args.id c.args.reply c.in-Some.place c.index_mut.result.now c.take.new.self noted
-    c.self.invariant at got refl (sym c.in-Waiting.is ∙ c.take.ensures.noted) c.take.ensures.state in
-    done.sound
+use Rattle.mr_proxy.proofs.proxy_core.ProxyCore.take_reply.Goals.{in-Stranger, in-Waiting, in-Last}
 
 pub of-requires : goal.of-requires
 of-requires c =
-    let list = c.deref.ensures.value in
-    let at : c.in-Some.place ≡ place_of_op c.self.inside.outstanding.items c.args.id.op =
-    c.in-Some.ensures.0 ∙ ap (λ l. place_of_op l c.args.id.op) list in
-    let same : length c.deref.result.now ≡ length c.self.inside.outstanding.items = ap length list in
-    let below = c.in-Some.ensures.1 in
-    let within : c.in-Some.place < length c.self.inside.outstanding.items = omega arith in
-    let got =
-    slice_get_read c.self.inside.outstanding.items (length c.self.inside.outstanding.items) c.in-Some.place c.index_mut.result.now refl within
-    c.index_mut.ensures.value in
-    let noted = with_reply c.index_mut.result.now c.args.id.place c.args.reply in
-    let done =
-    last_taken (the_view c.self.inside) c.args.id c.args.reply c.in-Some.place c.index_mut.result.now c.take.new.self c.remove.result
-    c.remove.new.self.items noted c.self.invariant at got refl (sym c.in-Last.is ∙ c.take.ensures.noted) c.take.ensures.state
-    c.remove.ensures.items c.remove.ensures.value in
-    (done.answers (answer_of c.remove.result false) refl).whole
+    (last_answers (the_view c.self.inside) c.args.id c.args.reply c.in-Last.pending c.self.invariant (sym c.in-Last.is ∙ c.take.ensures.settled)).whole
 
-pub invariant_of-self-in-Last : goal.invariant_of-self-in-Last
-invariant_of-self-in-Last c =
-    let list = c.deref.ensures.value in
-    let at : c.in-Some.place ≡ place_of_op c.self.inside.outstanding.items c.args.id.op =
-    c.in-Some.ensures.0 ∙ ap (λ l. place_of_op l c.args.id.op) list in
-    let same : length c.deref.result.now ≡ length c.self.inside.outstanding.items = ap length list in
-    let below = c.in-Some.ensures.1 in
-    let within : c.in-Some.place < length c.self.inside.outstanding.items = omega arith in
-    let got =
-    slice_get_read c.self.inside.outstanding.items (length c.self.inside.outstanding.items) c.in-Some.place c.index_mut.result.now refl within
-    c.index_mut.ensures.value in
-    let noted = with_reply c.index_mut.result.now c.args.id.place c.args.reply in
-    let done =
-    last_taken (the_view c.self.inside) c.args.id c.args.reply c.in-Some.place c.index_mut.result.now c.take.new.self c.remove.result
-    c.remove.new.self.items noted c.self.invariant at got refl (sym c.in-Last.is ∙ c.take.ensures.noted) c.take.ensures.state
-    c.remove.ensures.items c.remove.ensures.value in
-    done.sound
+pub invariant_of-self : goal.invariant_of-self
+invariant_of-self c =
+    let p = the_view c.self.inside in
+    subst IsSound
+    (sym (with_list p c.take.new.self.proxy c.take.new.self.incarnation c.take.new.self.list (list_settled p.outstanding c.args.id c.args.reply)
+    c.take.ensures.proxy c.take.ensures.incarnation c.take.ensures.list))
+    (taken_sound p c.args.id c.args.reply c.self.invariant)
 
-pub returns-in-Stranger-clause-taken : goal.returns-in-Stranger-clause-taken
-returns-in-Stranger-clause-taken c =
-    let list = c.deref.ensures.value in
-    let at : c.in-Some.place ≡ place_of_op c.self.inside.outstanding.items c.args.id.op =
-    c.in-Some.ensures.0 ∙ ap (λ l. place_of_op l c.args.id.op) list in
-    let same : length c.deref.result.now ≡ length c.self.inside.outstanding.items = ap length list in
-    let below = c.in-Some.ensures.1 in
-    let within : c.in-Some.place < length c.self.inside.outstanding.items = omega arith in
-    let got =
-    slice_get_read c.self.inside.outstanding.items (length c.self.inside.outstanding.items) c.in-Some.place c.index_mut.result.now refl within
-    c.index_mut.ensures.value in
-    let noted = with_reply c.index_mut.result.now c.args.id.place c.args.reply in
-    let done =
-    stranger_taken (the_view c.self.inside) c.args.id c.args.reply c.in-Stranger.reply c.in-Some.place c.index_mut.result.now c.take.new.self noted
-    c.self.invariant at got refl (sym c.in-Stranger.is ∙ c.take.ensures.noted) c.take.ensures.state in
-    rw (← c.self.view_is) done.became
+pub returns-clause-taken : goal.returns-clause-taken
+returns-clause-taken c =
+    let is = became (the_view c.self.inside) c.args.id c.args.reply c.take.result c.take.ensures.settled in
+    elim c.match-take.branch [
+      | in-Stranger w ↦ rw (← c.self.view_is) (w.result-is ∙ ap taken_as (sym w.in-Stranger.is) ∙ is)
+      | in-Waiting w ↦ rw (← c.self.view_is) (w.result-is ∙ ap taken_as (sym w.in-Waiting.is) ∙ is)
+      | in-Last w ↦ rw (← c.self.view_is) (w.result-is ∙ ap Answered w.of.ensures ∙ ap taken_as (sym w.in-Last.is) ∙ is)
+    ]
 
-pub returns-in-Stranger-clause-state : goal.returns-in-Stranger-clause-state
-returns-in-Stranger-clause-state c =
-    let list = c.deref.ensures.value in
-    let at : c.in-Some.place ≡ place_of_op c.self.inside.outstanding.items c.args.id.op =
-    c.in-Some.ensures.0 ∙ ap (λ l. place_of_op l c.args.id.op) list in
-    let same : length c.deref.result.now ≡ length c.self.inside.outstanding.items = ap length list in
-    let below = c.in-Some.ensures.1 in
-    let within : c.in-Some.place < length c.self.inside.outstanding.items = omega arith in
-    let got =
-    slice_get_read c.self.inside.outstanding.items (length c.self.inside.outstanding.items) c.in-Some.place c.index_mut.result.now refl within
-    c.index_mut.ensures.value in
-    let noted = with_reply c.index_mut.result.now c.args.id.place c.args.reply in
-    let done =
-    stranger_taken (the_view c.self.inside) c.args.id c.args.reply c.in-Stranger.reply c.in-Some.place c.index_mut.result.now c.take.new.self noted
-    c.self.invariant at got refl (sym c.in-Stranger.is ∙ c.take.ensures.noted) c.take.ensures.state in
-    rw (← c.self.view_is) done.state
+pub returns-clause-state : goal.returns-clause-state
+returns-clause-state c =
+    let p = the_view c.self.inside in
+    let list =
+    with_list p c.take.new.self.proxy c.take.new.self.incarnation c.take.new.self.list (list_settled p.outstanding c.args.id c.args.reply)
+    c.take.ensures.proxy c.take.ensures.incarnation c.take.ensures.list in
+    rw (← c.self.view_is) (list ∙ taken_list p c.args.id c.args.reply)
 
-pub returns-in-Waiting-clause-taken : goal.returns-in-Waiting-clause-taken
-returns-in-Waiting-clause-taken c =
-    let list = c.deref.ensures.value in
-    let at : c.in-Some.place ≡ place_of_op c.self.inside.outstanding.items c.args.id.op =
-    c.in-Some.ensures.0 ∙ ap (λ l. place_of_op l c.args.id.op) list in
-    let same : length c.deref.result.now ≡ length c.self.inside.outstanding.items = ap length list in
-    let below = c.in-Some.ensures.1 in
-    let within : c.in-Some.place < length c.self.inside.outstanding.items = omega arith in
-    let got =
-    slice_get_read c.self.inside.outstanding.items (length c.self.inside.outstanding.items) c.in-Some.place c.index_mut.result.now refl within
-    c.index_mut.ensures.value in
-    let noted = with_reply c.index_mut.result.now c.args.id.place c.args.reply in
-    let done =
-    waiting_taken (the_view c.self.inside) c.args.id c.args.reply c.in-Some.place c.index_mut.result.now c.take.new.self noted
-    c.self.invariant at got refl (sym c.in-Waiting.is ∙ c.take.ensures.noted) c.take.ensures.state in
-    rw (← c.self.view_is) done.became
-
-pub returns-in-Waiting-clause-state : goal.returns-in-Waiting-clause-state
-returns-in-Waiting-clause-state c =
-    let list = c.deref.ensures.value in
-    let at : c.in-Some.place ≡ place_of_op c.self.inside.outstanding.items c.args.id.op =
-    c.in-Some.ensures.0 ∙ ap (λ l. place_of_op l c.args.id.op) list in
-    let same : length c.deref.result.now ≡ length c.self.inside.outstanding.items = ap length list in
-    let below = c.in-Some.ensures.1 in
-    let within : c.in-Some.place < length c.self.inside.outstanding.items = omega arith in
-    let got =
-    slice_get_read c.self.inside.outstanding.items (length c.self.inside.outstanding.items) c.in-Some.place c.index_mut.result.now refl within
-    c.index_mut.ensures.value in
-    let noted = with_reply c.index_mut.result.now c.args.id.place c.args.reply in
-    let done =
-    waiting_taken (the_view c.self.inside) c.args.id c.args.reply c.in-Some.place c.index_mut.result.now c.take.new.self noted
-    c.self.invariant at got refl (sym c.in-Waiting.is ∙ c.take.ensures.noted) c.take.ensures.state in
-    rw (← c.self.view_is) done.state
-
-pub returns-in-Last-clause-taken : goal.returns-in-Last-clause-taken
-returns-in-Last-clause-taken c =
-    let list = c.deref.ensures.value in
-    let at : c.in-Some.place ≡ place_of_op c.self.inside.outstanding.items c.args.id.op =
-    c.in-Some.ensures.0 ∙ ap (λ l. place_of_op l c.args.id.op) list in
-    let same : length c.deref.result.now ≡ length c.self.inside.outstanding.items = ap length list in
-    let below = c.in-Some.ensures.1 in
-    let within : c.in-Some.place < length c.self.inside.outstanding.items = omega arith in
-    let got =
-    slice_get_read c.self.inside.outstanding.items (length c.self.inside.outstanding.items) c.in-Some.place c.index_mut.result.now refl within
-    c.index_mut.ensures.value in
-    let noted = with_reply c.index_mut.result.now c.args.id.place c.args.reply in
-    let done =
-    last_taken (the_view c.self.inside) c.args.id c.args.reply c.in-Some.place c.index_mut.result.now c.take.new.self c.remove.result
-    c.remove.new.self.items noted c.self.invariant at got refl (sym c.in-Last.is ∙ c.take.ensures.noted) c.take.ensures.state
-    c.remove.ensures.items c.remove.ensures.value in
-    rw (c.of.ensures, ← c.self.view_is) done.became
-
-pub returns-in-Last-clause-state : goal.returns-in-Last-clause-state
-returns-in-Last-clause-state c =
-    let list = c.deref.ensures.value in
-    let at : c.in-Some.place ≡ place_of_op c.self.inside.outstanding.items c.args.id.op =
-    c.in-Some.ensures.0 ∙ ap (λ l. place_of_op l c.args.id.op) list in
-    let same : length c.deref.result.now ≡ length c.self.inside.outstanding.items = ap length list in
-    let below = c.in-Some.ensures.1 in
-    let within : c.in-Some.place < length c.self.inside.outstanding.items = omega arith in
-    let got =
-    slice_get_read c.self.inside.outstanding.items (length c.self.inside.outstanding.items) c.in-Some.place c.index_mut.result.now refl within
-    c.index_mut.ensures.value in
-    let noted = with_reply c.index_mut.result.now c.args.id.place c.args.reply in
-    let done =
-    last_taken (the_view c.self.inside) c.args.id c.args.reply c.in-Some.place c.index_mut.result.now c.take.new.self c.remove.result
-    c.remove.new.self.items noted c.self.invariant at got refl (sym c.in-Last.is ∙ c.take.ensures.noted) c.take.ensures.state
-    c.remove.ensures.items c.remove.ensures.value in
-    rw (← c.self.view_is) done.state
-
-pub returns-in-Last-clause-sound : goal.returns-in-Last-clause-sound
-returns-in-Last-clause-sound c =
-    let list = c.deref.ensures.value in
-    let at : c.in-Some.place ≡ place_of_op c.self.inside.outstanding.items c.args.id.op =
-    c.in-Some.ensures.0 ∙ ap (λ l. place_of_op l c.args.id.op) list in
-    let same : length c.deref.result.now ≡ length c.self.inside.outstanding.items = ap length list in
-    let below = c.in-Some.ensures.1 in
-    let within : c.in-Some.place < length c.self.inside.outstanding.items = omega arith in
-    let got =
-    slice_get_read c.self.inside.outstanding.items (length c.self.inside.outstanding.items) c.in-Some.place c.index_mut.result.now refl within
-    c.index_mut.ensures.value in
-    let noted = with_reply c.index_mut.result.now c.args.id.place c.args.reply in
-    let done =
-    last_taken (the_view c.self.inside) c.args.id c.args.reply c.in-Some.place c.index_mut.result.now c.take.new.self c.remove.result
-    c.remove.new.self.items noted c.self.invariant at got refl (sym c.in-Last.is ∙ c.take.ensures.noted) c.take.ensures.state
-    c.remove.ensures.items c.remove.ensures.value in
-    rw (← c.self.view_is) (λ answer e. done.answers answer (ap Answered (sym c.of.ensures) ∙ e))
+pub returns-clause-sound : goal.returns-clause-sound
+returns-clause-sound c =
+    λ answer is.
+    let now_is = ap (λ v. taken_of v c.args.id c.args.reply) c.self.view_is in
+    let sound =
+    last_reply_answers_lem (the_view c.self.inside) c.args.id c.args.reply answer c.self.invariant (now_is ∙ sym (returns-clause-taken c) ∙ is) in
+    subst (λ v. IsSoundAnswer v answer) c.self.view_is sound

@@ -13,7 +13,6 @@ use mr_desks::{
     Carrier, Carriers, Desk, DirectCarriers, Gate, LocalCarrier, OpenGate, RecordedProxy,
     SharedNode, SharedProxy,
 };
-use mr_history::OpId;
 use mr_join::LegReply;
 use mr_node::{CacheNode, NodeCommand, Perform};
 use mr_proxy::{Answer, Leg, LegSheet, Taken};
@@ -50,14 +49,6 @@ fn take_answer<C: Carrier, D: Desk<C>, L: Carriers<C>, R: Wait + Abort>(
     rt.panic("not answered")
 }
 
-/// The answer to a request that is given up.
-fn give_up<C: Carrier, D: Desk<C>, R: Wait + Abort>(rt: &R, desk: &D, op: OpId) -> Answer {
-    match desk.give_up(rt, op) {
-        Some(answer) => answer,
-        None => rt.panic("not under way"),
-    }
-}
-
 /// The answer to a request whose legs go through these carriers; it is given up once a leg is handed back.
 fn answer_to<C: Carrier, D: Desk<C>, L: Carriers<C>, R: Wait + Abort>(
     rt: &R,
@@ -72,7 +63,7 @@ fn answer_to<C: Carrier, D: Desk<C>, L: Carriers<C>, R: Wait + Abort>(
     if send_all(carriers, issued.legs) {
         take_answer(rt, desk, carriers)
     } else {
-        give_up(rt, desk, issued.op)
+        must(rt, desk.give_up(rt, issued.op))
     }
 }
 

@@ -1,15 +1,15 @@
 //! When a book stands with what its sessions did.
-ghost use Rattle.std.specs.Prelude.{◌≢◌};
+ghost use Rattle.std.specs.Prelude.{◌≢◌, IfOk};
 ghost use Rattle.mr_text.specs.declared.request.Request.{Request};
 
-use super::{desk_of, issue};
+use super::{NEW, desk_of, issue};
 use crate::tests::threaded::broken::Broken;
 use crate::tests::threaded::{delete_of, get_of};
-use crate::tests::{is, must};
-use mr_desks::{Carried, Closed, Desk, RecordedProxy, Share, close};
+use crate::tests::{is, must, or_no_memory, recorded_proxy};
+use mr_desks::{Book, Carried, CloseError, Desk, RecordedProxy, Share, close};
 use mr_proxy::{Answer, Leg, Taken};
-use mr_text::Request;
-use std::alloc::Global;
+use mr_text::{Key, Request};
+use std::alloc::{AllocError, Global};
 use std::process::Abort;
 use std::sync::Wait;
 
@@ -65,10 +65,7 @@ fn give_up(
     requires { request.now ≢ Request.Quit }
 {
     let op = must(rt, issue(rt, desk, &mut session.share, request)).op;
-    match desk.give_up(rt, op) {
-        Some(answer) => must(rt, session.answers.push(answer)),
-        None => rt.panic("not under way"),
-    }
+    must(rt, session.answers.push(must(rt, desk.give_up(rt, op))));
 }
 
 /// A session that gets a key, whose leg is lost, and gives the delete of a key up.
@@ -82,25 +79,39 @@ fn play_session(rt: &(impl Wait + Abort), alloc: Global, desk: &RecordedProxy<Br
     session
 }
 
+/// What a proxy's book came to: its steps, or the number of the error.
+fn came_to(closed: Result<Book, CloseError<Broken>>) -> Result<usize, u8> {
+    match closed {
+        Ok(book) => Ok(book.steps.len()),
+        Err(error) => Err(error.number()),
+    }
+}
+
 /// Asserts whether the book of a proxy stands with what its sessions did: then it has so many steps.
-fn closes_so(rt: &impl Abort, alloc: Global, sessions: Sessions, wanted: Option<usize>) {
+fn closes_so(rt: &impl Abort, alloc: Global, sessions: Sessions, wanted: Result<usize, u8>) {
     let Sessions {
         desk,
         shares,
         answers,
     } = sessions;
-    let steps = match must(rt, close(alloc, desk, &shares, &answers)) {
-        Closed::Whole(book) => Some(book.steps.len()),
-        Closed::Differs(_) => None,
-    };
-    is(rt, "steps", &steps, &wanted);
+    let closed = close(alloc, desk, &shares, &answers);
+    is(rt, "steps", &came_to(closed), &wanted);
 }
+
+/// That a book differs has this number.
+const DIFFERS: Result<usize, u8> = Err(4);
 
 /// Adds what a session did, and asserts how many answers it took.
 fn add(rt: &impl Abort, sessions: &mut Sessions, session: Session, answers: usize) {
     is(rt, "answers", &session.answers.len(), &answers);
     must(rt, sessions.shares.push(session.share));
     must(rt, sessions.answers.push(session.answers));
+}
+
+#[test]
+fn close_errors_have_numbers(rt: HostRuntime) {
+    let no_memory = CloseError::OutOfMemory(desk_of(&rt, rt.alloc(), 4));
+    is(&rt, "number", &no_memory.number(), &8);
 }
 
 /// Two sessions of one proxy, of four steps each.
@@ -120,7 +131,7 @@ fn two_sessions(rt: &(impl Wait + Abort), alloc: Global) -> Sessions {
 #[test]
 fn a_book_stands_with_its_sessions(rt: HostRuntime) {
     let sessions = two_sessions(&rt, rt.alloc());
-    closes_so(&rt, rt.alloc(), sessions, Some(8));
+    closes_so(&rt, rt.alloc(), sessions, Ok(8));
 }
 
 /// The share of a session of another proxy, which issued two requests.
@@ -132,14 +143,14 @@ fn foreign_share(rt: &(impl Wait + Abort), alloc: Global) -> Share {
 fn a_share_of_another_proxy_differs(rt: HostRuntime) {
     let mut sessions = two_sessions(&rt, rt.alloc());
     must(&rt, sessions.shares.push(foreign_share(&rt, rt.alloc())));
-    closes_so(&rt, rt.alloc(), sessions, None);
+    closes_so(&rt, rt.alloc(), sessions, DIFFERS);
 }
 
 #[test]
 fn a_share_that_is_missing_differs(rt: HostRuntime) {
     let mut sessions = two_sessions(&rt, rt.alloc());
     is(&rt, "a share", &sessions.shares.pop().is_some(), &true);
-    closes_so(&rt, rt.alloc(), sessions, None);
+    closes_so(&rt, rt.alloc(), sessions, DIFFERS);
 }
 
 /// A copy of the first answer of each session.
@@ -158,7 +169,7 @@ fn an_answer_and_its_copy_differ(rt: HostRuntime) {
     let mut sessions = two_sessions(&rt, rt.alloc());
     let copies = copies(&rt, rt.alloc(), &sessions.answers);
     must(&rt, sessions.answers.push(copies));
-    closes_so(&rt, rt.alloc(), sessions, None);
+    closes_so(&rt, rt.alloc(), sessions, DIFFERS);
 }
 
 /// The answer to the third request of another proxy, which has the name of one here, and another key.
@@ -177,5 +188,61 @@ fn an_answer_of_another_proxy_differs(rt: HostRuntime) {
     let answers = foreign_answers(&rt, rt.alloc());
     is(&rt, "answers", &answers.len(), &1);
     must(&rt, sessions.answers.push(answers));
-    closes_so(&rt, rt.alloc(), sessions, None);
+    closes_so(&rt, rt.alloc(), sessions, DIFFERS);
+}
+
+/// A delete. It fails for want of memory alone; likewise below.
+fn delete_request(alloc: Global) -> Result<Request, AllocError>
+    ensures { IfOk result (λ request. request ≢ Request.Quit) }
+{
+    Ok(Request::Delete {
+        key: or_no_memory(Key::new(alloc, b"k"))?,
+        noreply: false,
+    })
+}
+
+/// The answer to a delete that was issued at a proxy and given up.
+fn given_up(
+    rt: &impl Wait,
+    alloc: Global,
+    desk: &RecordedProxy<Broken>,
+    share: &mut Share,
+) -> Result<Vec<Answer>, AllocError> {
+    let request = delete_request(alloc)?;
+    let issued = or_no_memory(issue(rt, desk, share, &request))?;
+    let mut answers = Vec::new(alloc);
+    answers.push(or_no_memory(desk.give_up(rt, issued.op))?)?;
+    Ok(answers)
+}
+
+/// What a proxy came to whose one session did that: its book has two steps.
+fn close_one(rt: &impl Wait, alloc: Global) -> Result<Result<usize, u8>, AllocError> {
+    let desk = recorded_proxy(alloc, 0, &NEW, 4)?;
+    let mut share = desk.share();
+    let mut answers = Vec::new(alloc);
+    answers.push(given_up(rt, alloc, &desk, &mut share)?)?;
+    let mut shares = Vec::new(alloc);
+    shares.push(share)?;
+    Ok(came_to(closed_later(alloc, desk, &shares, &answers)))
+}
+
+/// Closes a book, and once more where memory was refused.
+fn closed_later(
+    alloc: Global,
+    desk: RecordedProxy<Broken>,
+    shares: &[Share],
+    answers: &[Vec<Answer>],
+) -> Result<Book, CloseError<Broken>> {
+    match close(alloc, desk, shares, answers) {
+        Err(CloseError::OutOfMemory(back)) => close(alloc, back, shares, answers),
+        closed => closed,
+    }
+}
+
+/// Where memory to close it is refused, the proxy comes back, and its book is closed later.
+#[test]
+fn refused_memory_leaves_a_book_to_be_closed(rt: HostRuntime) {
+    if let Ok(came) = close_one(&rt, rt.alloc()) {
+        is(&rt, "closed", &came, &Ok(2));
+    }
 }

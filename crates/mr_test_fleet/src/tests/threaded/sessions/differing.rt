@@ -10,7 +10,7 @@ use mr_desks::{Carried, Carrier, Carriers, Desk, DeskError, RecordedProxy, Share
 use mr_history::OpId;
 use mr_proxy::{Answer, Issued, Taken};
 use mr_text::Request;
-use std::alloc::{AllocError, Global};
+use std::alloc::Global;
 use std::process::Abort;
 use std::sync::Wait;
 
@@ -50,11 +50,11 @@ impl<C: Carrier> Desk<C> for Torn<C> {
         self.issues.issue(rt, share, clock, request)
     }
 
-    fn take<R: Wait>(&self, rt: &R, carried: &mut Carried<C>) -> Result<Taken, AllocError> {
+    fn take<R: Wait>(&self, rt: &R, carried: &mut Carried<C>) -> Result<Taken, DeskError> {
         self.takes.take(rt, carried)
     }
 
-    fn give_up<R: Wait>(&self, rt: &R, op: OpId) -> Option<Answer> {
+    fn give_up<R: Wait>(&self, rt: &R, op: OpId) -> Result<Answer, DeskError> {
         self.takes.give_up(rt, op)
     }
 }
@@ -67,18 +67,29 @@ fn two_proxies<C: Carrier>(rt: &impl Abort, alloc: Global) -> Torn<C> {
     }
 }
 
-/// Issues the get of these keys at 999.
+/// Issues the get of these keys at a reading.
+fn issue_at<C: Carrier, D: Desk<C>, R: Wait + Abort>(
+    rt: &R,
+    alloc: Global,
+    desk: &D,
+    names: &[&[u8]],
+    reading: u64,
+) -> Issued {
+    let request = get_of(rt, alloc, names);
+    must(
+        rt,
+        desk.issue(rt, &mut desk.share(), &mut FixedClock(reading), &request),
+    )
+}
+
+/// The same before the migration.
 fn issue<C: Carrier, D: Desk<C>, R: Wait + Abort>(
     rt: &R,
     alloc: Global,
     desk: &D,
     names: &[&[u8]],
 ) -> Issued {
-    let request = get_of(rt, alloc, names);
-    must(
-        rt,
-        desk.issue(rt, &mut desk.share(), &mut FixedClock(999), &request),
-    )
+    issue_at(rt, alloc, desk, names, 999)
 }
 
 /// A client whose first request has no answer of its own. It sends a second, which isn't issued.
@@ -133,6 +144,21 @@ fn the_answer_of_another_request_that_is_given_up_differs(rt: HostRuntime) {
 fn what_was_answered_before_is_kept(rt: HostRuntime) {
     let nodes = must(&rt, make_nodes(rt.alloc(), 3));
     goes_torn(&rt, rt.alloc(), &nodes, &[&[b"k"]], &SECOND);
+}
+
+/// Asserts the same where the same get was issued at the other proxy after the migration.
+fn goes_later<'x, R: Wait + Abort>(rt: &'x R, alloc: Global, nodes: &'x Nodes) {
+    let desk: Torn<ToNode<'x, R>> = two_proxies(rt, alloc);
+    let _ = issue_at(rt, alloc, &desk.takes, &[b"k"], 2000);
+    let mut carriers = must(rt, direct(rt, alloc, nodes));
+    let _ = goes_so(rt, alloc, &desk, &mut carriers, 0, &NONE);
+}
+
+/// At the other proxy the same get has the request's name, but its leg goes to the new pool.
+#[test]
+fn the_answer_made_of_another_leg_differs(rt: HostRuntime) {
+    let nodes = must(&rt, make_nodes(rt.alloc(), 3));
+    goes_later(&rt, rt.alloc(), &nodes);
 }
 
 /// Carries the last leg of what was issued, and hands what came back to the proxy, which awaits another leg.

@@ -1,5 +1,6 @@
 //! Carriers that bring a leg late, when its request was given up.
-ghost use Rattle.std.specs.Prelude.{◌≡◌, ◌+◌, MatchOption, IfSome};
+ghost use Rattle.std.specs.Prelude.{◌+◌, option_map};
+ghost use Rattle.mr_desks.specs.Carriers.{SendIs, ReceiveIs};
 
 use super::{IN_TIME, Kept, NEW, Row, SILENT, direct, goes_so};
 use crate::tests::{Nodes, ToNode, make_nodes, must, recorded_proxy};
@@ -28,9 +29,7 @@ impl<C: Carrier + Drop> Drop for Late<C> {
 }
 
 impl<C: Carrier> Carriers<C> for Late<C> {
-    ghost losses = { λ c. c.inner.losses + c.withheld };
-
-    ghost brought = { λ c. c.inner.brought };
+    ghost told = { λ c. record c.inner.told { losses = c.inner.told.losses + c.withheld } };
 
     fn send(&mut self, leg: Leg) -> Option<Leg> {
         self.inner.send(leg)

@@ -84,16 +84,21 @@ fn plan_is(rt: &impl Abort, plan: &RequestPlan, row: Row) {
     is(rt, are_legs(plan.sheets(), legs), true);
 }
 
-/// Plans a request, and asserts what the plan says.
-fn goes(rt: &impl Abort, alloc: Global, config: &Config, row: Row) -> Result<(), Fail> {
+/// The plan of a request.
+fn planned(rt: &impl Abort, alloc: Global, config: &Config, row: Row) -> Result<RequestPlan, Fail> {
     let request = request(rt, alloc, row.0);
     match plan(alloc, config, row.1, request) {
-        Ok(plan) => {
-            plan_is(rt, &plan, row);
-            Ok(())
-        }
+        Ok(plan) => Ok(plan),
         Err(_) => Err(Fail::from("no plan")),
     }
+}
+
+/// Plans a request, and asserts what the plan and a copy of it say.
+fn goes(rt: &impl Abort, alloc: Global, config: &Config, row: Row) -> Result<(), Fail> {
+    let plan = planned(rt, alloc, config, row)?;
+    plan_is(rt, &plan, row);
+    plan_is(rt, &plan.copy()?, row);
+    Ok(())
 }
 
 #[test]
@@ -153,7 +158,9 @@ fn far_is_told(rt: &impl Abort, advice: &Advice) {
 #[test]
 fn advice_tells_phases_and_spread(rt: HostRuntime) {
     let config = must(&rt, config(rt.alloc(), FLEET));
-    far_is_told(&rt, &must(&rt, advice(rt.alloc(), &config, &[999, 1100])));
+    let far = must(&rt, advice(rt.alloc(), &config, &[999, 1100]));
+    far_is_told(&rt, &far);
+    far_is_told(&rt, &must(&rt, far.copy()));
     let near = must(&rt, advice(rt.alloc(), &config, &[1000, 1100, 1050]));
     spread_is(&rt, &near, 100, true);
     spread_is(&rt, &must(&rt, advice(rt.alloc(), &config, &[])), 0, true);

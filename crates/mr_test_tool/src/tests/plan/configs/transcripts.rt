@@ -17,12 +17,24 @@ fn transcript(alloc: Global, script: &str) -> Result<Vec<u8>, PlanError> {
     write_transcript(alloc, read_events(alloc, script.as_bytes())?)
 }
 
+/// The transcript of a copy of a script.
+fn transcript_of_copy(alloc: Global, script: &str) -> Result<Vec<u8>, PlanError> {
+    let script = read_events(alloc, script.as_bytes())?;
+    write_transcript(alloc, script.copy()?)
+}
+
+/// Asserts that the transcript was written.
+fn is_written(rt: &impl Abort, written: Result<Vec<u8>, PlanError>) {
+    match written {
+        Ok(text) => is(rt, text.as_slice() == TRANSCRIPT.as_bytes(), true),
+        Err(refusal) => is(rt, refusal, PlanError::NotJson),
+    }
+}
+
 #[test]
 fn a_script_has_a_transcript(rt: HostRuntime) {
-    match transcript(rt.alloc(), SCRIPT) {
-        Ok(text) => is(&rt, text.as_slice() == TRANSCRIPT.as_bytes(), true),
-        Err(refusal) => is(&rt, refusal, PlanError::NotJson),
-    }
+    is_written(&rt, transcript(rt.alloc(), SCRIPT));
+    is_written(&rt, transcript_of_copy(rt.alloc(), SCRIPT));
 }
 
 /// A played script: its text, whether the premises hold (the same, the new pool empty, forward, near), the get and the
@@ -80,11 +92,13 @@ fn checked_transcript(alloc: Global, script: &str) -> Result<Checked, PlanError>
     check_transcript(alloc, transcript(alloc, script)?.as_slice())
 }
 
-/// Asserts that a script is played and checked as told.
+/// Asserts that a script is played and checked as told, and that copies of what was found say the same.
 fn goes(rt: &impl Abort, alloc: Global, played: &Played) -> Result<(), Fail> {
     match checked_transcript(alloc, played.0) {
         Ok(checked) => {
             is_checked(rt, &checked, played);
+            is_checked(rt, &checked.copy()?, played);
+            is(rt, stale(&checked.verdict.copy()?) == played.2, true);
             Ok(())
         }
         Err(_) => Err(Fail::from("refused")),
