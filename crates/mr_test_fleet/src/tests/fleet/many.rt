@@ -105,8 +105,10 @@ fn goes<'x, R: Threads + Wait + Abort + Sync>(
     for _ in 0..row.clients {
         must(rt, issued.push(row.issued));
     }
-    for (proxy, end) in ends.into_iter().enumerate() {
+    let mut proxy: usize = 0;
+    for end in ends {
         were_told(rt, proxy, end, &issued, row);
+        proxy = proxy.saturating_add(1);
     }
 }
 
