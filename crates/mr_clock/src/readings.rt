@@ -74,7 +74,8 @@ impl Readings {
     /// Sets the reading of a proxy, or answers NoSuchProxy where there is none. It looks at each reading once.
     pub fn set(&mut self, proxy: usize, reading: u64) -> Result<(), ClockError>
         ensures { MatchResult result
-            (λ _. (proxy < length self.old.standing) × (self.new ≡ readings_after self.old (record { proxy = proxy; reading = reading })))
+            (λ _. (proxy < length self.old.standing)
+            × (self.new ≡ readings_after self.old (record { proxy = proxy; reading = reading })))
             (λ e. (e ≡ NoSuchProxy) × (length self.old.standing ≤ proxy) × (self.new ≡ self.old)) }
     {
         if proxy >= self.standing.len() {

@@ -60,7 +60,8 @@ pub fn stand_apart(values: &[Value], others: &[Value]) -> bool
 
 /// Why the names make no pool, in the order of the checks of a pool.
 fn check_names(values: &[Value]) -> Result<(), PoolError>
-    ensures accepted { IfOk result (λ _. pool_of_names (names_in (map view values.now)) ≡ Ok (names_in (map view values.now))) }
+    ensures accepted { IfOk result
+        (λ _. pool_of_names (names_in (map view values.now)) ≡ Ok (names_in (map view values.now))) }
     ensures refused { IfErr result (λ e. pool_of_names (names_in (map view values.now)) ≡ Err (PlanError.BadPool e)) }
 {
     if !are_node_names(values) {
@@ -79,7 +80,8 @@ fn check_names(values: &[Value]) -> Result<(), PoolError>
 /// The names of the pool that a value is: each a text, and together a pool's.
 pub fn names_of_pool(value: &Value) -> Result<&[Value], PlanError>
     ensures names { IfOk result (λ values. pool_in (view value.now) ≡ Ok (names_in (map view values.now))) }
-    ensures pool { IfOk result (λ values. pool_of_names (names_in (map view values.now)) ≡ Ok (names_in (map view values.now))) }
+    ensures pool { IfOk result
+        (λ values. pool_of_names (names_in (map view values.now)) ≡ Ok (names_in (map view values.now))) }
     ensures refused { IfErr result (λ e. pool_in (view value.now) ≡ Err e) }
 {
     check_object(value, &["servers"])?;

@@ -49,8 +49,10 @@ pub fn name_pointed_to(text: &str) -> Option<&str>
 
 /// The names of the pool that a value points to.
 fn pool_behind<'a>(pools: &'a Value, value: &Value) -> Result<&'a [Value], PlanError>
-    ensures names { IfOk result (λ values. pool_behind (view pools.now) (view value.now) ≡ Ok (names_in (map view values.now))) }
-    ensures pool { IfOk result (λ values. pool_of_names (names_in (map view values.now)) ≡ Ok (names_in (map view values.now))) }
+    ensures names { IfOk result
+        (λ values. pool_behind (view pools.now) (view value.now) ≡ Ok (names_in (map view values.now))) }
+    ensures pool { IfOk result
+        (λ values. pool_of_names (names_in (map view values.now)) ≡ Ok (names_in (map view values.now))) }
     ensures refused { IfErr result (λ e. pool_behind (view pools.now) (view value.now) ≡ Err e) }
 {
     let text = value.as_str().ok_or(PlanError::BadRoute)?;
@@ -82,8 +84,10 @@ fn schedule_of(start: u64, interval: u64) -> Result<Schedule, PlanError>
 pub fn migration_of<'a>(pools: &'a Value, route: &Value) -> Result<Migration<'a>, PlanError>
     ensures migration { IfOk result (λ found. migration_of (view pools.now) (view route.now)
         ≡ Ok (record { old = names_in (map view found.old.now); new = names_in (map view found.new.now); schedule = found.schedule })) }
-    ensures old { IfOk result (λ found. pool_of_names (names_in (map view found.old.now)) ≡ Ok (names_in (map view found.old.now))) }
-    ensures new { IfOk result (λ found. pool_of_names (names_in (map view found.new.now)) ≡ Ok (names_in (map view found.new.now))) }
+    ensures old { IfOk result
+        (λ found. pool_of_names (names_in (map view found.old.now)) ≡ Ok (names_in (map view found.old.now))) }
+    ensures new { IfOk result
+        (λ found. pool_of_names (names_in (map view found.new.now)) ≡ Ok (names_in (map view found.new.now))) }
     ensures refused { IfErr result (λ e. migration_of (view pools.now) (view route.now) ≡ Err e) }
 {
     if !is_migration(route) {

@@ -31,7 +31,8 @@ impl<C: Carrier> Carried<C> {
     /// Carries a leg, once. Where that fails the leg is lost.
     pub fn of(carrier: &mut C, leg: Leg) -> Carried<C>
         ensures sheet { result.back.sheet ≡ leg }
-        ensures once { C.carries carrier.old leg (Some result.back.reply) carrier.new × (C.faults carrier.new ≡ C.faults carrier.old)
+        ensures once { C.carries carrier.old leg (Some result.back.reply) carrier.new
+            × (C.faults carrier.new ≡ C.faults carrier.old)
             ⊎ C.carries carrier.old leg None carrier.new × (C.faults carrier.new ≡ C.faults carrier.old + 1) × (result.back.reply ≡ Failed LegLost) }
     {
         let reply = match carrier.carry(leg.sheet()) {

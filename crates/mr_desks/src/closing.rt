@@ -126,7 +126,8 @@ fn is_counted<C: Carrier>(
     shares: &[Share],
     sessions: &[Vec<Answer>],
 ) -> bool
-    ensures { IsTrue result ↔ CountsIssues opening.now state.now.core shares.now (map (λ session. session.items) sessions.now) }
+    ensures { IsTrue result
+        ↔ CountsIssues opening.now state.now.core shares.now (map (λ session. session.items) sessions.now) }
 {
     opening.alike(state.core())
         && is_sum_of(state.core().next(), shares)
@@ -141,8 +142,11 @@ fn stands_with<C: Carrier>(
     shares: &[Share],
     sessions: &[Vec<Answer>],
 ) -> Result<bool, AllocError>
-    ensures stands { IfOk result (λ stands. IsTrue stands ↔ StandsWith opening.now state.now.core state.now.steps shares.now (map (λ session. session.items) sessions.now)) }
-    ensures counted { OnErr result (CountsIssues opening.now state.now.core shares.now (map (λ session. session.items) sessions.now)) }
+    ensures stands { IfOk result
+        (λ stands. IsTrue stands ↔ StandsWith opening.now state.now.core state.now.steps shares.now
+        (map (λ session. session.items) sessions.now)) }
+    ensures counted { OnErr result
+        (CountsIssues opening.now state.now.core shares.now (map (λ session. session.items) sessions.now)) }
 {
     if !is_counted(state, opening, shares, sessions) {
         return Ok(false);

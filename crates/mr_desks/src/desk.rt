@@ -44,7 +44,8 @@ pub trait Desk<C: Carrier> {
         ensures issued { IfOk result (λ issued.
             DeskIssues C.gave (clock_call K.reads K.failures clock.old clock.new) share.old request.now issued.op issued.legs.items) }
         ensures has_leg { IfOk result (λ issued. 1 ≤ length issued.legs.items) }
-        ensures refused { IfErr result (DeskRefuses C.gave recorded (clock_call K.reads K.failures clock.old clock.new) share.old) }
+        ensures refused { IfErr result
+            (DeskRefuses C.gave recorded (clock_call K.reads K.failures clock.old clock.new) share.old) }
         ensures answerable { IfErr result (λ e. e ≢ NoSuchOp) }
         ensures share { MatchResult result (λ _. share.new ≡ share.old + 1) (λ _. share.new ≡ share.old) };
 

@@ -52,7 +52,8 @@ impl<C: Carrier> Model for DirectCarriers<C> {
 
 /// Carries a leg by the carrier of a node. A leg whose carrier is missing is handed back.
 fn carry_to<C: Carrier>(nodes: &mut Vec<C>, node: usize, leg: Leg) -> Result<Carried<C>, Leg>
-    ensures carried { IfOk result (λ carried. (carried.back.sheet ≡ leg) × NodeCarries C.carries C.faults node nodes.old.items carried.back nodes.new.items) }
+    ensures carried { IfOk result (λ carried.
+        (carried.back.sheet ≡ leg) × NodeCarries C.carries C.faults node nodes.old.items carried.back nodes.new.items) }
     ensures back { IfErr result (λ back. (back ≡ leg) × (slice_get nodes.old.items node ≡ None)) }
     ensures unchanged { OnErr result (nodes.new.items ≡ nodes.old.items) }
 {
@@ -67,7 +68,8 @@ fn carry<C: Carrier>(pools: &mut Vec<Vec<C>>, leg: Leg) -> Result<Carried<C>, Le
     ensures carried { IfOk result (λ carried. (carried.back.sheet ≡ leg)
         × PoolCarries C.carries C.faults (map (λ nodes. nodes.items) pools.old.items) carried.back (map (λ nodes. nodes.items) pools.new.items)) }
     ensures back { IfErr result (λ back. (back ≡ leg) × LacksCarrier (map (λ nodes. nodes.items) pools.old.items) leg) }
-    ensures unchanged { OnErr result (map (λ nodes. nodes.items) pools.new.items ≡ map (λ nodes. nodes.items) pools.old.items) }
+    ensures unchanged { OnErr result
+        (map (λ nodes. nodes.items) pools.new.items ≡ map (λ nodes. nodes.items) pools.old.items) }
 {
     let pool = leg.sheet().pool_number();
     let node = leg.sheet().node as usize;

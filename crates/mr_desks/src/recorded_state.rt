@@ -168,7 +168,8 @@ impl<C: Carrier> RecordedState<C> {
         ensures issued { IfOk result (λ issued.
             IssuesAt (with_share self.old share.old) reading request.now issued.op issued.legs.items (with_share self.new share.new)) }
         ensures has_leg { IfOk result (λ issued. 1 ≤ length issued.legs.items) }
-        ensures refused { IfErr result (IsDeskRefusal (why_refused (with_share self.old share.old) reading request.now)) }
+        ensures refused { IfErr result
+            (IsDeskRefusal (why_refused (with_share self.old share.old) reading request.now)) }
         ensures unchanged { OnErr result ((self.new ≡ self.old) × (share.new ≡ share.old)) }
     {
         let legs = self.legs_of(share, reading, request)?;

@@ -11,7 +11,8 @@ use std::alloc::{AllocError, Global};
 /// Takes a copy of a reply, as the proxy does, and gives the answer that it brings, if it brings one.
 fn take_copy(core: &mut ProxyCore, back: &LegBack) -> Result<Option<Answer>, AllocError>
     ensures core { OnOk result (core.new ≡ after_take core.old back.now.sheet.id back.now.reply) }
-    ensures answer { IfOk result (λ answer. option_map (λ a. a) answer ≡ answered_in (taken_of core.old back.now.sheet.id back.now.reply)) }
+    ensures answer { IfOk result
+        (λ answer. option_map (λ a. a) answer ≡ answered_in (taken_of core.old back.now.sheet.id back.now.reply)) }
 {
     let reply = back.reply.copy()?;
     match core.take_reply(back.sheet.id, reply) {

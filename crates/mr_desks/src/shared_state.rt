@@ -140,8 +140,10 @@ impl<C: Carrier> SharedState<C> {
     #[tactic(auto, using(crate::proofs::KeptLemmas::last_answer_stands, crate::proofs::KeptLemmas::last_answer_in_time))]
     pub fn take(&mut self, carried: &mut Carried<C>) -> Taken
         ensures became { BecomesOf self.old carried.old.back result }
-        ensures own { open_sheet self.old carried.old.back.sheet.id ≡ Some carried.old.back.sheet → self.new ≡ after_take self.old carried.old.back.sheet.id carried.old.back.reply }
-        ensures foreign { open_sheet self.old carried.old.back.sheet.id ≢ Some carried.old.back.sheet → self.new ≡ self.old }
+        ensures own { open_sheet self.old carried.old.back.sheet.id ≡ Some carried.old.back.sheet
+            → self.new ≡ after_take self.old carried.old.back.sheet.id carried.old.back.reply }
+        ensures foreign { open_sheet self.old carried.old.back.sheet.id ≢ Some carried.old.back.sheet
+            → self.new ≡ self.old }
         ensures stands { TakenStands C.gave result }
         ensures in_time { TakenInTime result }
         ensures left { carried.new.back ≡ record carried.old.back { reply = Failed LegLost } }

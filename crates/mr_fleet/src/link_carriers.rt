@@ -74,7 +74,8 @@ impl<'a, C: Carrier, R: Wait> LinkCarriers<'a, C, R> {
     fn send_on(&mut self, leg: Leg) -> Option<Leg>
         ensures leg { IfSome result (λ back. back ≡ leg) }
         ensures sent { MatchOption result (HasLink self.old.links leg) (λ _. ⊤) }
-        ensures awaited { MatchOption result (self.new.awaited ≡ self.old.awaited + 1) (λ _. self.new.awaited ≡ self.old.awaited) }
+        ensures awaited { MatchOption result (self.new.awaited ≡ self.old.awaited + 1)
+            (λ _. self.new.awaited ≡ self.old.awaited) }
         ensures links { self.new.links ≡ self.old.links }
         ensures told { self.new.told ≡ self.old.told }
     {

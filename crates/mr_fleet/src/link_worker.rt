@@ -34,7 +34,8 @@ impl WorkerCounts {
         rt: &R,
         jobs: &Receiver<LinkJob<C>>,
     ) -> Option<LinkJob<C>>
-        ensures taken { MatchOption result (self.new.taken ≡ self.old.taken) (λ _. self.new.taken ≡ self.old.taken + 1) }
+        ensures taken { MatchOption result (self.new.taken ≡ self.old.taken)
+            (λ _. self.new.taken ≡ self.old.taken + 1) }
         ensures carried { self.new.carried ≡ self.old.carried }
     {
         let job = jobs.recv(rt).ok()?;
@@ -44,7 +45,8 @@ impl WorkerCounts {
 
     /// Carries a job that was taken.
     fn carry<C: Carrier, R: Wait>(&mut self, rt: &R, job: LinkJob<C>, carrier: &mut C)
-        ensures once { (back : LegBack) × (back.sheet ≡ job) × CarriesOnce C.carries C.faults carrier.old back carrier.new }
+        ensures once { (back : LegBack) × (back.sheet ≡ job)
+            × CarriesOnce C.carries C.faults carrier.old back carrier.new }
         ensures taken { self.new.taken ≡ self.old.taken }
         ensures carried { self.new.carried ≡ self.old.carried + 1 }
     {

@@ -57,7 +57,8 @@ fn rooms_for<C: Carrier + Drop, K: Clock + Drop, S: Source + Drop, W: Sink + Dro
     proxies: &[FleetProxy<C, K, S, W>],
 ) -> Result<Vec<ProxyRoom<C, K, S, W>>, AllocError>
     ensures count { IfOk result (λ rooms. vec_len rooms ≡ length proxies.now) }
-    ensures limits { IfOk result (λ rooms. map (λ room. room.ending.limit) rooms.items ≡ map (λ proxy. vec_len proxy.clients) proxies.now) }
+    ensures limits { IfOk result
+        (λ rooms. map (λ room. room.ending.limit) rooms.items ≡ map (λ proxy. vec_len proxy.clients) proxies.now) }
 {
     let mut rooms = Vec::new(alloc);
     for proxy in proxies {
@@ -102,7 +103,8 @@ impl<C: Carrier + Drop, K: Clock + Drop, S: Source + Drop, W: Sink + Drop> Fleet
         proxies: &[FleetProxy<C, K, S, W>],
     ) -> Result<FleetRoom<C, K, S, W>, AllocError>
         ensures count { IfOk result (λ room. vec_len room.rooms ≡ length proxies.now) }
-        ensures limits { IfOk result (λ room. map (λ one. one.ending.limit) room.rooms.items ≡ map (λ proxy. vec_len proxy.clients) proxies.now) }
+        ensures limits { IfOk result (λ room.
+            map (λ one. one.ending.limit) room.rooms.items ≡ map (λ proxy. vec_len proxy.clients) proxies.now) }
     {
         let rooms = rooms_for(alloc, proxies)?;
         let count = rooms.len();

@@ -31,7 +31,8 @@ fn take_apart<C: Carrier + Drop, K: Clock + Drop, S: Source + Drop, W: Sink + Dr
     ensures count { vec_len result.0 ≡ vec_len result.1 }
     ensures within { vec_len result.1 ≤ vec_len proxies }
     ensures desks { result.0.items ≡ map (λ proxy. proxy.desk) proxies.items }
-    ensures clients { map (λ one. vec_len one.clients) result.1.items ≡ map (λ proxy. vec_len proxy.clients) proxies.items }
+    ensures clients { map (λ one. vec_len one.clients) result.1.items ≡ map
+        (λ proxy. vec_len proxy.clients) proxies.items }
 {
     let mut rooms = rooms.into_iter();
     for proxy in proxies {
@@ -95,7 +96,8 @@ fn serve_fleet<
     requires room_for_threads { vec_len prepared ≤ vec_capacity underway }
     requires room_for_endings { vec_len prepared ≤ vec_capacity endings }
     ensures count { vec_len result ≡ vec_len prepared }
-    ensures clients { map (λ ending. vec_len ending.ends) result.items ≡ map (λ one. vec_len one.clients) prepared.items }
+    ensures clients { map (λ ending. vec_len ending.ends) result.items ≡ map
+        (λ one. vec_len one.clients) prepared.items }
 {
     thread::scope(
         thread::scope_env(),
@@ -129,7 +131,8 @@ fn run_in<
     gate: &G,
 ) -> Vec<FleetEnd<C, K, S, W>>
     requires count { vec_len room.rooms ≡ vec_len proxies }
-    requires limits { map (λ one. one.ending.limit) room.rooms.items ≡ map (λ proxy. vec_len proxy.clients) proxies.items }
+    requires limits { map (λ one. one.ending.limit) room.rooms.items ≡ map
+        (λ proxy. vec_len proxy.clients) proxies.items }
     ensures openings { map (λ end. end.opening.value) result.items ≡ map (λ proxy. proxy.desk) proxies.items }
     ensures clients { map (λ end. vec_len end.ends) result.items ≡ map (λ proxy. vec_len proxy.clients) proxies.items }
 {
@@ -166,8 +169,10 @@ pub fn run_fleet<
     proxies: Vec<FleetProxy<C, K, S, W>>,
     gate: &G,
 ) -> Result<Vec<FleetEnd<C, K, S, W>>, Vec<FleetProxy<C, K, S, W>>>
-    ensures openings { IfOk result (λ ends. map (λ end. end.opening.value) ends.items ≡ map (λ proxy. proxy.desk) proxies.items) }
-    ensures clients { IfOk result (λ ends. map (λ end. vec_len end.ends) ends.items ≡ map (λ proxy. vec_len proxy.clients) proxies.items) }
+    ensures openings { IfOk result
+        (λ ends. map (λ end. end.opening.value) ends.items ≡ map (λ proxy. proxy.desk) proxies.items) }
+    ensures clients { IfOk result
+        (λ ends. map (λ end. vec_len end.ends) ends.items ≡ map (λ proxy. vec_len proxy.clients) proxies.items) }
     ensures back { IfErr result (λ back. back ≡ proxies) }
 {
     match FleetRoom::new(alloc, &proxies) {

@@ -26,7 +26,8 @@ pub(crate) struct Deletes {
 impl Deletes {
     /// No delete.
     fn new(alloc: Global) -> Deletes
-        ensures { (history : List Entry) (key : List ℕ) (read : ℕ) → AreIssuedBy history key read 0 → AreBounds history key read result }
+        ensures { (history : List Entry) (key : List ℕ) (read : ℕ)
+            → AreIssuedBy history key read 0 → AreBounds history key read result }
     {
         Deletes {
             bounds: Vec::new(alloc),
@@ -36,7 +37,8 @@ impl Deletes {
 
     /// Adds the delete that was issued at the start and is acknowledged at this place.
     fn add(&mut self, place: usize, start: usize) -> Result<(), AllocError>
-        ensures { OnOk result ((history : List Entry) (key : List ℕ) → IsAcknowledgement history key start place → AreBounds history key place self.old
+        ensures { OnOk result ((history : List Entry) (key : List ℕ)
+            → IsAcknowledgement history key start place → AreBounds history key place self.old
             → AreBounds history key (place + 1) self.new) }
     {
         let latest = self.latest;
@@ -74,7 +76,8 @@ pub(crate) fn note_delete<'a>(
     start: usize,
     place: usize,
 ) -> Result<(), AllocError>
-    ensures { OnOk result ((history : List Entry) → IsAcknowledgement history key.now start place → AreBounded history place deletes.old → AreBounded history (place + 1) deletes.new) }
+    ensures { OnOk result ((history : List Entry) → IsAcknowledgement history key.now start place
+        → AreBounded history place deletes.old → AreBounded history (place + 1) deletes.new) }
 {
     let mut of_key = match deletes.remove(&key.as_bytes()) {
         Some(of_key) => of_key,
@@ -91,7 +94,8 @@ pub(crate) fn latest_delete<'a>(
     key: &'a Key,
     place: usize,
 ) -> usize
-    ensures { (history : List Entry) (read : ℕ) → AreBounded history read deletes.now → place ≤ read → AreIssuedBy history key.now place result }
+    ensures { (history : List Entry) (read : ℕ) → AreBounded history read deletes.now
+        → place ≤ read → AreIssuedBy history key.now place result }
 {
     match deletes.get(&key.as_bytes()) {
         Some(of_key) => of_key.latest_before(place),

@@ -38,7 +38,8 @@ fn note_issue(
     entry: &Entry,
     place: usize,
 ) -> Result<(), AllocError>
-    ensures { OnOk result ((history : List Entry) → IsWellFormed history → At history place entry.now → KnowsIssues history place issues.old
+    ensures { OnOk result ((history : List Entry) → IsWellFormed history
+        → At history place entry.now → KnowsIssues history place issues.old
         → KnowsIssues history (place + 1) issues.new) }
 {
     if let Entry::Issued { op, .. } = entry {
@@ -99,7 +100,8 @@ impl<'a> Index<'a> {
         requires indexed { IsIndex self.now }
         requires well_formed { IsWellFormed self.now.entries.now }
         requires issued { WasIssued (take self.now.read self.now.entries.now) op }
-        ensures { MatchOption result (IsNoDelete self.now.entries.now op) (λ found. IsDelete self.now.entries.now op found.0.now found.1) }
+        ensures { MatchOption result (IsNoDelete self.now.entries.now op)
+            (λ found. IsDelete self.now.entries.now op found.0.now found.1) }
     {
         let start = *self.issues.get(&op)?;
         let entry = self.entries.get(start)?;

@@ -10,12 +10,14 @@ ghost use Rattle.mr_history.specs.Judgement.{Judges};
 
 /// A well formed history stays so with one more entry that fits.
 pub fn fitting_entry_keeps_form()
-    ensures { (history : List Entry) (entry : Entry) → IsWellFormed history → Fits history entry → IsWellFormed (history ++ entry ∷ []) }
+    ensures { (history : List Entry) (entry : Entry) → IsWellFormed history
+        → Fits history entry → IsWellFormed (history ++ entry ∷ []) }
 {}
 
 /// An item that was stored in time for an answer stays so, whatever comes behind.
 pub fn fresh_grows()
-    ensures { (history later : List Entry) (item : Item) (issue answer : ℕ) → IsWellFormed (history ++ later) → IsFreshHit history item issue answer
+    ensures { (history later : List Entry) (item : Item) (issue answer : ℕ)
+        → IsWellFormed (history ++ later) → IsFreshHit history item issue answer
         → issue ≤ length history → IsFreshHit (history ++ later) item issue answer }
 {}
 

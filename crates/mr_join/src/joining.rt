@@ -107,7 +107,8 @@ impl Joining<One> {
 
     /// Takes the last reply. Where its side isn't the one awaited, both are handed back as they were.
     pub fn take(self, side: Side, reply: LegReply) -> Result<Joined, (Joining<One>, LegReply)>
-        ensures joined { IfOk result (λ joined. (self.awaits ≡ side ∷ []) × (joined ≡ with_side_reply self.came side reply)) }
+        ensures joined { IfOk result
+            (λ joined. (self.awaits ≡ side ∷ []) × (joined ≡ with_side_reply self.came side reply)) }
         ensures refused { IfErr result (λ back. (¬ (self.awaits ≡ side ∷ [])) × (back.0 ≡ self) × (back.1 ≡ reply)) }
     {
         if side != self.state.awaited {

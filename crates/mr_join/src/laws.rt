@@ -13,7 +13,8 @@ pub fn worst_is_first_of_greatest()
 
 /// Each item of an answer is what a leg of that get found under the key that the leg asked for.
 pub fn items_are_hits()
-    ensures { (request : Request) (replies : List LegReply) (items : List Item) → joined_reply request replies ≡ Items items
+    ensures { (request : Request) (replies : List LegReply) (items : List Item)
+        → joined_reply request replies ≡ Items items
         → AreHits request replies items }
 {}
 

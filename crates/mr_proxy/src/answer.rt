@@ -86,7 +86,8 @@ impl Answer {
     /// in one call.
     pub fn write<W: Sink>(&self, writer: &mut W) -> Result<(), WriteFault>
         ensures text { Writes (canonical_reply (reply_of self.now)) (W.told writer.old) result (W.told writer.new) }
-        ensures calls { TakesFewCalls (canonical_reply (reply_of self.now)) (parts_of_reply (reply_of self.now)) (W.told writer.old) (W.told writer.new) }
+        ensures calls { TakesFewCalls (canonical_reply (reply_of self.now))
+            (parts_of_reply (reply_of self.now)) (W.told writer.old) (W.told writer.new) }
     {
         write_joined(self.pending.request(), self.pending.slots(), writer)
     }

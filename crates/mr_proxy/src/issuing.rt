@@ -13,7 +13,8 @@ use mr_text::Request;
 pub fn issue_copy(core: &mut ProxyCore, reading: u64, request: &Request) -> Option<Issued>
     requires { request.now ≢ Request.Quit }
     ensures accepted { IfSome result (λ _. refusal_of core.old ≡ None) }
-    ensures state { MatchOption result (core.new ≡ core.old) (λ _. core.new ≡ after_issue core.old reading request.now) }
+    ensures state { MatchOption result (core.new ≡ core.old)
+        (λ _. core.new ≡ after_issue core.old reading request.now) }
     ensures op { IfSome result (λ issued. issued.op ≡ next_op core.old) }
     ensures legs { IfSome result (λ issued. issued.legs.items ≡ sheets_of core.old reading request.now) }
     ensures has_leg { IfSome result (λ issued. 1 ≤ length issued.legs.items) }

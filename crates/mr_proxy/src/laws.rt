@@ -27,13 +27,15 @@ use mr_join::laws::{acknowledged_by_all, items_are_hits};
 
 /// The sheet of each place is a command of the request, to a side that the reading gives.
 pub fn sheets_say()
-    ensures { (routing : RoutingView) (hops : List Hop) (op : OpId) (u : ℕ) (request : Request) (place : ℕ) (sheet : LegSheet)
+    ensures { (routing : RoutingView) (hops : List Hop) (op : OpId)
+        (u : ℕ) (request : Request) (place : ℕ) (sheet : LegSheet)
         → slice_get (sheets_by routing hops op u request) place ≡ Some sheet → IsSheetOf routing hops op u request place sheet }
 {}
 
 /// The pool of each sheet is one that the reading gives for the sheet's command. The schedule has one hop.
 pub fn pools_by_reading()
-    ensures { (routing : RoutingView) (hops : List Hop) (op : OpId) (u : ℕ) (request : Request) (place : ℕ) (sheet : LegSheet)
+    ensures { (routing : RoutingView) (hops : List Hop) (op : OpId)
+        (u : ℕ) (request : Request) (place : ℕ) (sheet : LegSheet)
         → length hops ≡ 1 → slice_get (sheets_by routing hops op u request) place ≡ Some sheet → GoesBy hops u (pool_at sheet) sheet.command }
 {}
 
@@ -46,13 +48,15 @@ pub fn delete_goes()
 
 /// Each leg of a get asks for the key of its place.
 pub fn gets_ask_in_order()
-    ensures { (routing : RoutingView) (hops : List Hop) (op : OpId) (u : ℕ) (keys : List (List ℕ)) (place : ℕ) (sheet : LegSheet)
+    ensures { (routing : RoutingView) (hops : List Hop) (op : OpId)
+        (u : ℕ) (keys : List (List ℕ)) (place : ℕ) (sheet : LegSheet)
         → slice_get (sheets_by routing hops op u (Get keys)) place ≡ Some sheet → AsksFor keys place sheet }
 {}
 
 /// A fresh proxy is sound.
 pub fn fresh_is_sound()
-    ensures { (number incarnation : ℕ) (routing : RoutingView) (hops : List Hop) (room : ℕ) → IsRouting routing → IsSchedule hops
+    ensures { (number incarnation : ℕ) (routing : RoutingView) (hops : List Hop) (room : ℕ)
+        → IsRouting routing → IsSchedule hops
         → IsSound (fresh_proxy number incarnation routing hops room) }
 {}
 
@@ -69,7 +73,8 @@ pub fn last_reply_answers()
 
 /// The answer to a request that is given up is sound: one of its legs at least didn't answer.
 pub fn given_up_early()
-    ensures { (p : ProxyView) (op : OpId) (answer : AnswerView) → IsSound p → given_up_of p op ≡ Some answer → IsSoundAnswer p answer }
+    ensures { (p : ProxyView) (op : OpId) (answer : AnswerView) → IsSound p
+        → given_up_of p op ≡ Some answer → IsSoundAnswer p answer }
 {}
 
 /// Each item of a get's answer is a hit that was noted for a leg of that get and of that key.

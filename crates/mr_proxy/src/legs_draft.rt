@@ -97,7 +97,8 @@ impl LegsDraft {
         keys: &[Key],
     ) -> Result<LegsDraft, AllocError>
         requires { length keys.now < 2 ^ 32 }
-        ensures { IfOk result (λ draft. draft ≡ sheets_from routing.now op 0 (targets_of (side ∷ []) (map Get keys.now))) }
+        ensures { IfOk result
+            (λ draft. draft ≡ sheets_from routing.now op 0 (targets_of (side ∷ []) (map Get keys.now))) }
     {
         let mut draft = LegsDraft::new(alloc, keys.len())?;
         for key in keys {
@@ -131,7 +132,8 @@ impl LegsDraft {
         key: &Key,
     ) -> Result<LegsDraft, AllocError>
         requires { length sides.now < 2 ^ 32 }
-        ensures { IfOk result (λ draft. draft ≡ sheets_from routing.now op 0 (targets_of sides.now (Delete key.now ∷ []))) }
+        ensures { IfOk result
+            (λ draft. draft ≡ sheets_from routing.now op 0 (targets_of sides.now (Delete key.now ∷ []))) }
     {
         let mut draft = LegsDraft::new(alloc, sides.len())?;
         for side in sides {

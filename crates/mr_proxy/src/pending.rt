@@ -43,7 +43,8 @@ impl Model for Pending {
 
     ghost view = { λ p. record { op = p.op; request = p.request; reading = p.reading; slots = p.slots.items } };
 
-    ghost invariant = { λ p. HasRoomFor p.request p.items.items (vec_capacity p.items) × (p.awaited ≡ count_by is_open p.slots.items) };
+    ghost invariant = { λ p. HasRoomFor p.request p.items.items (vec_capacity p.items)
+        × (p.awaited ≡ count_by is_open p.slots.items) };
 }
 
 impl Pending {

@@ -321,7 +321,8 @@ impl ProxyCore {
     #[tactic(auto, using(crate::proofs::DraftLemmas::get_length, crate::proofs::DraftLemmas::delete_length))]
     pub fn would_issue(&self, reading: u64, request: &Request) -> Result<u64, ProxyError>
         requires { request.now ≢ Request.Quit }
-        ensures legs { IfOk result (λ legs. (refusal_of self.now ≡ None) × (legs ≡ length (sheets_of self.now reading request.now))) }
+        ensures legs { IfOk result
+            (λ legs. (refusal_of self.now ≡ None) × (legs ≡ length (sheets_of self.now reading request.now))) }
         ensures refused { IfErr result (λ e. refusal_of self.now ≡ Some e) }
     {
         if let Some(refusal) = self.refusal() {

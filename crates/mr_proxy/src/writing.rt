@@ -23,7 +23,8 @@ pub(crate) fn write_joined<W: Sink>(
     writer: &mut W,
 ) -> Result<(), WriteFault>
     requires { 1 ≤ length slots.now }
-    ensures text { Writes (canonical_reply (joined_reply request.now (map reply_of_slot slots.now))) (W.told writer.old) result (W.told writer.new) }
+    ensures text { Writes (canonical_reply (joined_reply request.now (map reply_of_slot slots.now)))
+        (W.told writer.old) result (W.told writer.new) }
     ensures calls { TakesFewCalls (canonical_reply (joined_reply request.now (map reply_of_slot slots.now)))
         (parts_of_reply (joined_reply request.now (map reply_of_slot slots.now))) (W.told writer.old) (W.told writer.new) }
 {
@@ -38,7 +39,8 @@ pub(crate) fn write_joined<W: Sink>(
 
 /// The items that the legs of these keys found.
 fn write_found<W: Sink>(keys: &[Key], slots: &[Slot], writer: &mut W) -> Result<(), WriteFault>
-    ensures text { Writes (canonical_reply (Items (hits_of keys.now (map reply_of_slot slots.now)))) (W.told writer.old) result (W.told writer.new) }
+    ensures text { Writes (canonical_reply (Items (hits_of keys.now (map reply_of_slot slots.now))))
+        (W.told writer.old) result (W.told writer.new) }
     ensures calls { TakesFewCalls (canonical_reply (Items (hits_of keys.now (map reply_of_slot slots.now))))
         (length (hits_of keys.now (map reply_of_slot slots.now))) (W.told writer.old) (W.told writer.new) }
 {
@@ -54,8 +56,10 @@ fn put_found<W: Sink>(
     buffer: &mut FixedBuffer,
     writer: &mut W,
 ) -> Result<(), WriteFault>
-    ensures text { Gathers (canonical_reply (Items (hits_of keys.now (map reply_of_slot slots.now)))) buffer.old (W.told writer.old) result buffer.new (W.told writer.new) }
-    ensures calls { (W.told writer.new).calls ≤ (W.told writer.old).calls + owes buffer.old + 2 * length (hits_of keys.now (map reply_of_slot slots.now)) }
+    ensures text { Gathers (canonical_reply (Items (hits_of keys.now (map reply_of_slot slots.now)))) buffer.old
+        (W.told writer.old) result buffer.new (W.told writer.new) }
+    ensures calls { (W.told writer.new).calls ≤ (W.told writer.old).calls + owes buffer.old + 2 * length
+        (hits_of keys.now (map reply_of_slot slots.now)) }
 {
     put_hits(keys, slots, buffer, writer)?;
     put_end(buffer, writer)
@@ -69,8 +73,10 @@ fn put_hits<W: Sink>(
     buffer: &mut FixedBuffer,
     writer: &mut W,
 ) -> Result<(), WriteFault>
-    ensures text { Gathers (items_text (hits_of keys.now (map reply_of_slot slots.now))) buffer.old (W.told writer.old) result buffer.new (W.told writer.new) }
-    ensures calls { Costs (2 * length (hits_of keys.now (map reply_of_slot slots.now))) buffer.old (W.told writer.old) result buffer.new (W.told writer.new) }
+    ensures text { Gathers (items_text (hits_of keys.now (map reply_of_slot slots.now))) buffer.old
+        (W.told writer.old) result buffer.new (W.told writer.new) }
+    ensures calls { Costs (2 * length (hits_of keys.now (map reply_of_slot slots.now))) buffer.old
+        (W.told writer.old) result buffer.new (W.told writer.new) }
 {
     for (place, key) in keys.iter().enumerate() {
         if place >= slots.len() {
@@ -88,8 +94,10 @@ fn put_hit<W: Sink>(
     buffer: &mut FixedBuffer,
     writer: &mut W,
 ) -> Result<(), WriteFault>
-    ensures text { Gathers (items_text (hits_of (key.now ∷ []) (reply_of_slot slot.now ∷ []))) buffer.old (W.told writer.old) result buffer.new (W.told writer.new) }
-    ensures calls { Costs (2 * length (hits_of (key.now ∷ []) (reply_of_slot slot.now ∷ []))) buffer.old (W.told writer.old) result buffer.new (W.told writer.new) }
+    ensures text { Gathers (items_text (hits_of (key.now ∷ []) (reply_of_slot slot.now ∷ []))) buffer.old
+        (W.told writer.old) result buffer.new (W.told writer.new) }
+    ensures calls { Costs (2 * length (hits_of (key.now ∷ []) (reply_of_slot slot.now ∷ []))) buffer.old
+        (W.told writer.old) result buffer.new (W.told writer.new) }
 {
     match slot.outcome(&LOST) {
         LegReply::Hit { flags, block } => put_item(key, *flags, block, buffer, writer),
@@ -101,7 +109,8 @@ fn put_hit<W: Sink>(
 #[tactic(auto, using(crate::proofs::WritingLemmas::parts_by))]
 fn write_outcome<W: Sink>(outcome: &LegReply, writer: &mut W) -> Result<(), WriteFault>
     ensures text { Writes (canonical_reply (reply_by outcome.now)) (W.told writer.old) result (W.told writer.new) }
-    ensures calls { TakesFewCalls (canonical_reply (reply_by outcome.now)) (parts_of_reply (reply_by outcome.now)) (W.told writer.old) (W.told writer.new) }
+    ensures calls { TakesFewCalls (canonical_reply (reply_by outcome.now))
+        (parts_of_reply (reply_by outcome.now)) (W.told writer.old) (W.told writer.new) }
 {
     match outcome {
         LegReply::Stored => write_reply(&Reply::Stored, writer),

@@ -15,5 +15,6 @@ pub fn refused_setups_have_no_fleet()
 
 /// Where a number stands in a JSON text that isn't whole, the text is no script: its kind alone has it refused.
 pub fn scripts_have_no_float()
-    ensures { (bytes : List ℕ) (value : Data) (parts : ScriptParts) → IsJson bytes value → script_of value ≡ Ok parts → has_float value ≡ false }
+    ensures { (bytes : List ℕ) (value : Data) (parts : ScriptParts)
+        → IsJson bytes value → script_of value ≡ Ok parts → has_float value ≡ false }
 {}

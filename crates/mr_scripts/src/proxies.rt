@@ -27,9 +27,11 @@ pub struct ProxyDraft<'a> {
 
 /// The own configuration of a proxy.
 fn own_draft(value: &Value) -> Result<Option<Draft<'_>>, PlanError>
-    ensures config { IfOk result (λ own. (common : ConfigView) → config_or common (get (codes "config") (view value.now)) ≡ Ok (config_chosen common own)) }
+    ensures config { IfOk result (λ own. (common : ConfigView)
+        → config_or common (get (codes "config") (view value.now)) ≡ Ok (config_chosen common own)) }
     ensures ready { IfOk result (λ own. CanOwnBeMade own) }
-    ensures refused { IfErr result (λ e. (common : ConfigView) → config_or common (get (codes "config") (view value.now)) ≡ Err e) }
+    ensures refused { IfErr result
+        (λ e. (common : ConfigView) → config_or common (get (codes "config") (view value.now)) ≡ Err e) }
 {
     match value.get("config") {
         None => Ok(None),
@@ -42,7 +44,8 @@ fn own_draft(value: &Value) -> Result<Option<Draft<'_>>, PlanError>
 
 /// Looks at a proxy whole, without taking memory, and tells the first refusal.
 fn proxy_draft(value: &Value) -> Result<ProxyDraft<'_>, PlanError>
-    ensures proxy { IfOk result (λ draft. (common : ConfigView) → proxy_of common (view value.now) ≡ Ok (proxy_drafted common draft)) }
+    ensures proxy { IfOk result
+        (λ draft. (common : ConfigView) → proxy_of common (view value.now) ≡ Ok (proxy_drafted common draft)) }
     ensures ready { IfOk result (λ draft. CanOwnBeMade draft.own) }
     ensures refused { IfErr result (λ e. (common : ConfigView) → proxy_of common (view value.now) ≡ Err e) }
 {
@@ -91,7 +94,8 @@ impl ProxyDraft<'_> {
 /// it.
 pub fn check_proxies(values: &[Value]) -> Result<(), PlanError>
     ensures accepted { OnOk result ((common : ConfigView) → IsOk (all_of (proxy_of common) (map view values.now))) }
-    ensures refused { IfErr result (λ e. (common : ConfigView) → all_of (proxy_of common) (map view values.now) ≡ Err e) }
+    ensures refused { IfErr result
+        (λ e. (common : ConfigView) → all_of (proxy_of common) (map view values.now) ≡ Err e) }
 {
     for value in values {
         match proxy_draft(value) {
@@ -122,7 +126,8 @@ pub fn make_proxies(
 ) -> Result<Vec<ProxySetup>, AllocError>
     requires common { IsConfigReady common.now }
     requires ready { IsOk (all_of (proxy_of (config_drafted common.now)) (map view values.now)) }
-    ensures { IfOk result (λ proxies. all_of (proxy_of (config_drafted common.now)) (map view values.now) ≡ Ok proxies.items) }
+    ensures { IfOk result
+        (λ proxies. all_of (proxy_of (config_drafted common.now)) (map view values.now) ≡ Ok proxies.items) }
 {
     let mut proxies = Vec::with_capacity(alloc, values.len())?;
     for value in values {

@@ -86,7 +86,8 @@ fn check_counts(held: usize, proxies: usize, events: usize) -> Result<(), PlanEr
 #[tactic(auto, using(crate::proofs::ScriptLemmas::counted))]
 fn values_of_events<'a>(setup: &SetupDraft<'_>, events: &'a Value) -> Result<&'a [Value], PlanError>
     requires { IsSetupReady setup.now }
-    ensures parts { IfOk result (λ values. script_between (setup_drafted setup.now) (view events.now) ≡ parts_between (setup_drafted setup.now) (map view values.now)) }
+    ensures parts { IfOk result (λ values. script_between (setup_drafted setup.now)
+        (view events.now) ≡ parts_between (setup_drafted setup.now) (map view values.now)) }
     ensures ready { IfOk result (λ values. IsOk (events_of 0 (map view values.now))) }
     ensures refused { IfErr result (λ e. script_between (setup_drafted setup.now) (view events.now) ≡ Err e) }
 {
@@ -122,7 +123,8 @@ impl ScriptDraft<'_> {
     /// What it says, made.
     fn make(&self, alloc: Global) -> Result<(Setup, Vec<Event>), AllocError>
         requires { IsScriptReady self.now }
-        ensures { IfOk result (λ parts. parts_drafted self.now ≡ Ok (record { setup = parts.0; events = parts.1.items })) }
+        ensures { IfOk result
+            (λ parts. parts_drafted self.now ≡ Ok (record { setup = parts.0; events = parts.1.items })) }
     {
         let setup = self.setup.make(alloc)?;
         let events = make_events(alloc, self.events)?;
@@ -133,7 +135,8 @@ impl ScriptDraft<'_> {
 /// The fleet and the events that a value's keys of a script say. Whether it has other keys is looked at before.
 #[tactic(auto, using(crate::proofs::HomeLemmas::read_as))]
 pub fn read_parts(alloc: Global, value: &Value) -> Result<(Setup, Vec<Event>), PlanError>
-    ensures parts { IfOk result (λ parts. script_in (view value.now) ≡ Ok (record { setup = parts.0; events = parts.1.items })) }
+    ensures parts { IfOk result
+        (λ parts. script_in (view value.now) ≡ Ok (record { setup = parts.0; events = parts.1.items })) }
     ensures playable { IfOk result (λ parts. IsPlayable parts.0) }
     ensures refused { IfErr result (λ e. RefusesParts (view value.now) e) }
 {

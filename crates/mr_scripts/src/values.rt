@@ -22,7 +22,8 @@ fn same_number(number: &Number, other: &Number) -> bool
 /// Whether both have as many members.
 #[tactic(auto, using(crate::proofs::ValueLemmas::members_counted))]
 fn are_as_many(members: &Map<String, Value>, others: &Map<String, Value>) -> bool
-    ensures { result ≡ (count_members (members_view members.now.entries) == count_members (members_view others.now.entries)) }
+    ensures { result ≡
+        (count_members (members_view members.now.entries) == count_members (members_view others.now.entries)) }
 {
     members.len() == others.len()
 }

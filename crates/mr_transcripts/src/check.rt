@@ -98,7 +98,8 @@ fn outcome_of_play(
     world: &World,
     verdict: &KeptVerdict,
 ) -> Result<Outcome, AllocError>
-    ensures { IfOk result (λ outcome. outcome ≡ outcome_of_play (view transcript.now) notes.now world.now.history (premises_of world.now) verdict.now) }
+    ensures { IfOk result (λ outcome. outcome ≡ outcome_of_play
+        (view transcript.now) notes.now world.now.history (premises_of world.now) verdict.now) }
 {
     let premises = world.premises();
     if !tells(transcript, "notes", &notes_value(alloc, notes)?) {
@@ -160,7 +161,8 @@ pub(crate) fn check_play(
     requires few { length setup.proxies < 2 ^ 32 }
     requires makeable { CanBeMade setup }
     ensures checked { IfOk result (IsChecked (view transcript.now) setup events.items) }
-    ensures vouched { IfOk result (λ checked. checked.outcome ≡ Outcome.Accepted → IsVouchedFor (view transcript.now) setup events.items) }
+    ensures vouched { IfOk result
+        (λ checked. checked.outcome ≡ Outcome.Accepted → IsVouchedFor (view transcript.now) setup events.items) }
     ensures refused { IfErr result (λ e. e ≡ OutOfMemory) }
 {
     runs_decide_premises();
@@ -185,7 +187,8 @@ fn check_outcome(value: &Value) -> Result<(), PlanError>
 
 /// What a transcript says was played.
 fn played_parts(alloc: Global, value: &Value) -> Result<(Setup, Vec<Event>), PlanError>
-    ensures played { IfOk result (λ parts. played_parts (view value.now) ≡ Ok (record { setup = parts.0; events = parts.1.items })) }
+    ensures played { IfOk result
+        (λ parts. played_parts (view value.now) ≡ Ok (record { setup = parts.0; events = parts.1.items })) }
     ensures playable { IfOk result (λ parts. IsPlayable parts.0) }
     ensures refused { IfErr result (RefusesPlayed (view value.now)) }
 {

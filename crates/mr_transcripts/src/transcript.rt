@@ -22,7 +22,8 @@ fn with_outcome(
     world: &World,
     verdict: &KeptVerdict,
 ) -> Result<Value, AllocError>
-    ensures { IfOk result (λ value. view value ≡ with_outcome (view script) notes.now world.now.history (premises_of world.now) verdict.now) }
+    ensures { IfOk result (λ value.
+        view value ≡ with_outcome (view script) notes.now world.now.history (premises_of world.now) verdict.now) }
 {
     let mut members = match script {
         Value::Object(members) => members,

@@ -60,7 +60,8 @@ pub fn with_option<'a>(
 /// no number.
 pub fn number_or(matches: &ArgMatches, name: &str, usual: u64) -> Option<u64>
     ensures found { IfSome result (IsNumberOr usual (one_of name.now (rows_of (found_of matches.now)))) }
-    ensures missing { IfNone result ((number : ℕ) → ¬ IsNumberOr usual (one_of name.now (rows_of (found_of matches.now))) number) }
+    ensures missing { IfNone result
+        ((number : ℕ) → ¬ IsNumberOr usual (one_of name.now (rows_of (found_of matches.now))) number) }
 {
     match matches.try_get_one(name) {
         Ok(Some(number)) => Some(number),

@@ -139,7 +139,8 @@ fn asks_forever(matches: &ArgMatches) -> bool
 /// The number of an option that `--forever` stands in place of: the greatest one with that flag, and else the option's or
 /// the usual one. It is none where both were given, or where the option's word is no number.
 fn bound_or(matches: &ArgMatches, name: &str, usual: u64) -> Option<u64>
-    ensures found { IfSome result (IsBoundOr usual (is_forever (rows_of (found_of matches.now))) (one_of name.now (rows_of (found_of matches.now)))) }
+    ensures found { IfSome result (IsBoundOr usual (is_forever (rows_of (found_of matches.now)))
+        (one_of name.now (rows_of (found_of matches.now)))) }
     ensures missing { IfNone result ((number : ℕ)
         → ¬ IsBoundOr usual (is_forever (rows_of (found_of matches.now))) (one_of name.now (rows_of (found_of matches.now))) number) }
 {
@@ -168,7 +169,8 @@ pub fn node_values<'a>(matches: &ArgMatches<'a>) -> Option<NodeValues<'a>>
 /// The values of the command `proxy`, where each of them was found or is the usual one.
 pub fn proxy_values<'a>(matches: &ArgMatches<'a>) -> Option<ProxyValues<'a>>
     ensures found { IfSome result (HasProxyValues (rows_of (found_of matches.now))) }
-    ensures missing { IfNone result ((values : ProxyValues) → ¬ HasProxyValues (rows_of (found_of matches.now)) values) }
+    ensures missing { IfNone result
+        ((values : ProxyValues) → ¬ HasProxyValues (rows_of (found_of matches.now)) values) }
 {
     Some(ProxyValues {
         config: matches.get_str("config")?,

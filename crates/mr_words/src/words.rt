@@ -215,7 +215,8 @@ fn with_command<'a>(
     program: Result<Command<'a>, AllocError>,
     command: Result<Command<'a>, AllocError>,
 ) -> Result<Command<'a>, AllocError>
-    ensures { IfOk result (λ whole. IsOkAnd program.entry (λ old. IsOkAnd command.entry (λ made. AddsSubcommand old made whole))) }
+    ensures { IfOk result
+        (λ whole. IsOkAnd program.entry (λ old. IsOkAnd command.entry (λ made. AddsSubcommand old made whole))) }
 {
     let command = command?;
     program?.subcommand(command)
@@ -287,8 +288,10 @@ fn timeline_values<'a>(
 
 /// The explanation that the values of the command `explain` name, where there is one.
 fn explanation_in(matches: &ArgMatches) -> Option<Explanation<'static>>
-    ensures found { IfSome result (λ explanation. HasExplanation (rows_of (found_of matches.now)) (told_by explanation)) }
-    ensures missing { IfNone result ((explanation : Explanation) → ¬ HasExplanation (rows_of (found_of matches.now)) (told_by explanation)) }
+    ensures found { IfSome result
+        (λ explanation. HasExplanation (rows_of (found_of matches.now)) (told_by explanation)) }
+    ensures missing { IfNone result
+        ((explanation : Explanation) → ¬ HasExplanation (rows_of (found_of matches.now)) (told_by explanation)) }
 {
     find_explanation(matches.get_str("layer")?, matches.get_one("number")?)
 }
@@ -354,7 +357,8 @@ fn refusal_of_values(matches: &ArgMatches) -> &'static str
 /// other faults.
 pub fn read_words<'a>(alloc: Global, words: &'a [&'a str]) -> Result<Wanted<'a>, WordsFault>
     ensures exactly { ReadsWords (map (λ word. word.now) words.entry.now) result }
-    ensures plainly { (wanted : Wanted) → SaysPlainly (map (λ word. word.now) words.entry.now) wanted → ReadsAs wanted result }
+    ensures plainly { (wanted : Wanted)
+        → SaysPlainly (map (λ word. word.now) words.entry.now) wanted → ReadsAs wanted result }
     ensures version { SaysVersion (map (λ word. word.now) words.entry.now) → TellsVersion result }
 {
     let mut program = program(alloc)?;

@@ -28,7 +28,8 @@ use mr_proxy::laws::{
 /// Each step keeps a fleet in order: names are given out once, messages go to nodes that are there, and what the
 /// history gains fits.
 pub fn steps_keep_tracked()
-    ensures { (old new : WorldView) (event : Event) (note : Note) → IsTracked old → WorldStep old event note new → IsTracked new }
+    ensures { (old new : WorldView) (event : Event) (note : Note)
+        → IsTracked old → WorldStep old event note new → IsTracked new }
 {
     spread_is_least();
     steps_keep_sound();
@@ -41,7 +42,8 @@ pub fn steps_keep_tracked()
 
 /// Each step keeps what every fleet shows, and what that rests on.
 pub fn steps_keep_faithful()
-    ensures { (old new : WorldView) (event : Event) (note : Note) → IsTracked old → IsTracked new → IsFaithfulWorld old → WorldStep old event note new → IsFaithfulWorld new }
+    ensures { (old new : WorldView) (event : Event) (note : Note) → IsTracked old → IsTracked new
+        → IsFaithfulWorld old → WorldStep old event note new → IsFaithfulWorld new }
 {
     sheets_say();
     last_reply_answers();
@@ -53,7 +55,8 @@ pub fn steps_keep_faithful()
 /// After every run of a fleet in order each acknowledged delete was performed on the side of each of its legs, what
 /// was stored was set and what was removed was deleted, and each item of an answer came back from a node.
 pub fn runs_show_facts()
-    ensures { (old new : WorldView) (events : List Event) → IsTracked old → IsFaithfulWorld old → WorldRun old events new → Facts new }
+    ensures { (old new : WorldView) (events : List Event) → IsTracked old
+        → IsFaithfulWorld old → WorldRun old events new → Facts new }
 {
     steps_keep_tracked();
     steps_keep_faithful();
@@ -66,7 +69,8 @@ pub fn setups_begin_faithful()
 
 /// A fleet whose proxies are sound is in order at the beginning.
 pub fn setups_begin_tracked()
-    ensures { (setup : SetupView) (world : WorldView) → Begins setup world → All IsSound world.proxies → IsTracked world }
+    ensures { (setup : SetupView) (world : WorldView) → Begins setup world
+        → All IsSound world.proxies → IsTracked world }
 {
     spread_is_least();
 }
@@ -80,7 +84,8 @@ pub fn setups_tell_premises()
 
 /// The premises after a run are those before it, as far as its events keep them.
 pub fn runs_tell_premises()
-    ensures { (old new : WorldView) (events : List Event) → IsTracked old → WorldRun old events new → PremisesAfter old events (premises_of new) }
+    ensures { (old new : WorldView) (events : List Event) → IsTracked old
+        → WorldRun old events new → PremisesAfter old events (premises_of new) }
 {
     spread_is_least();
     lowering_is_told();
@@ -89,7 +94,8 @@ pub fn runs_tell_premises()
 
 /// All premises that a fleet tells after a run hold exactly where those of its setup and of the run's events do.
 pub fn runs_decide_premises()
-    ensures { (setup : SetupView) (first last : WorldView) (events : List Event) → Begins setup first → WorldRun first events last
+    ensures { (setup : SetupView) (first last : WorldView) (events : List Event)
+        → Begins setup first → WorldRun first events last
         → AllHold (premises_of last) ↔ PremisesHold setup events }
 {
     spread_is_least();
@@ -100,7 +106,8 @@ pub fn runs_decide_premises()
 
 /// As long as the premises hold each step keeps what acknowledged deletes rest on.
 pub fn steps_keep_secured()
-    ensures { (old new : WorldView) (event : Event) (note : Note) → IsTracked old → IsTracked new → IsFaithfulWorld old → IsFaithfulWorld new
+    ensures { (old new : WorldView) (event : Event) (note : Note) → IsTracked old
+        → IsTracked new → IsFaithfulWorld old → IsFaithfulWorld new
         → StaysSecured old → WorldStep old event note new → StaysSecured new }
 {
     runs_tell_premises();
@@ -118,7 +125,8 @@ pub fn steps_keep_secured()
 
 /// So does every run.
 pub fn runs_keep_secured()
-    ensures { (old new : WorldView) (events : List Event) → IsTracked old → IsFaithfulWorld old → StaysSecured old → WorldRun old events new → StaysSecured new }
+    ensures { (old new : WorldView) (events : List Event) → IsTracked old
+        → IsFaithfulWorld old → StaysSecured old → WorldRun old events new → StaysSecured new }
 {
     steps_keep_tracked();
     steps_keep_faithful();
@@ -135,7 +143,8 @@ pub fn secured_fleets_show_ground()
 
 /// A fleet stands on that at the beginning.
 pub fn setups_begin_secured()
-    ensures { (setup : SetupView) (world : WorldView) → Begins setup world → All (λ proxy. IsPlan proxy.routing proxy.schedule) world.proxies → StaysSecured world }
+    ensures { (setup : SetupView) (world : WorldView) → Begins setup world
+        → All (λ proxy. IsPlan proxy.routing proxy.schedule) world.proxies → StaysSecured world }
 {
     recency_step_is_cache_step();
 }

@@ -54,7 +54,8 @@ impl World {
         ensures facts { IfOk result (λ world. Facts world) }
         ensures ground { IfOk result (λ world. StandsOnGround world) }
         ensures safe { IfOk result (λ world. DeletesHold world) }
-        ensures refused { IfErr result (λ e. ((e ≡ NoSuchNode) × ¬ CanBeMade setup) ⊎ ((e ≡ OutOfMemory) × CanBeMade setup)) }
+        ensures refused { IfErr result
+            (λ e. ((e ≡ NoSuchNode) × ¬ CanBeMade setup) ⊎ ((e ≡ OutOfMemory) × CanBeMade setup)) }
     {
         setups_begin_tracked();
         setups_begin_faithful();
@@ -69,7 +70,8 @@ impl World {
     /// NoSuchProxy, NoSuchNode, NoSuchMessage or NoSuchOp, IssueRefused, OutOfMemory; IssueRefused never carries
     /// OutOfMemory.
     pub fn step(&mut self, event: Event) -> Result<Note, WorldError>
-        ensures accepted { IfOk result (λ note. (refusal_of_event self.old event ≡ None) × WorldStep self.old event note self.new) }
+        ensures accepted { IfOk result
+            (λ note. (refusal_of_event self.old event ≡ None) × WorldStep self.old event note self.new) }
         ensures refused { IfErr result (λ e. IsEventRefusal (refusal_of_event self.old event) event e) }
         ensures unchanged { OnErr result (self.new ≡ self.old) }
         ensures premises { IfOk result (λ _. PremisesAfter self.old (event ∷ []) (premises_of self.new)) }
@@ -90,7 +92,8 @@ impl World {
         ensures played { IfOk result (λ _. WorldRun self.old events.items self.new) }
         ensures premises { IfOk result (λ _. PremisesAfter self.old events.items (premises_of self.new)) }
         ensures stopped { IfErr result (λ stop. IsStopped self.old events.items stop.0 stop.1 self.new) }
-        ensures premises_then { IfErr result (λ stop. PremisesAfter self.old (take stop.0 events.items) (premises_of self.new)) }
+        ensures premises_then { IfErr result
+            (λ stop. PremisesAfter self.old (take stop.0 events.items) (premises_of self.new)) }
         ensures facts { Facts self.new }
         ensures ground { StandsOnGround self.new }
         ensures safe { DeletesHold self.new }

@@ -115,7 +115,8 @@ pub(crate) fn join_all<
     requires unused { endings.items ≡ [] }
     requires room { vec_len underway ≤ vec_capacity endings }
     ensures count { vec_len result ≡ vec_len underway }
-    ensures clients { map (λ ending. vec_len ending.ends) result.items ≡ map (λ one. vec_len one.started) underway.items }
+    ensures clients { map (λ ending. vec_len ending.ends) result.items ≡ map
+        (λ one. vec_len one.started) underway.items }
 {
     for one in underway {
         let Underway { started, ending } = one;

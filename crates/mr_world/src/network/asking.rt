@@ -45,7 +45,8 @@ fn make_room(
     ensures count { IfOk result (λ count. count ≡ length (sheets_of proxy.now reading request.now)) }
     ensures room { IfOk result (λ count. vec_len sent.new + count ≤ vec_capacity sent.new) }
     ensures spare { OnOk result (1 ≤ history.new.spare) }
-    ensures refused { IfErr result (λ e. MatchOption (refusal_of proxy.now) (e ≡ OutOfMemory) (λ refusal. e ≡ IssueRefused refusal)) }
+    ensures refused { IfErr result
+        (λ e. MatchOption (refusal_of proxy.now) (e ≡ OutOfMemory) (λ refusal. e ≡ IssueRefused refusal)) }
 {
     let count = match proxy.would_issue(reading, request) {
         Ok(count) => count as usize,

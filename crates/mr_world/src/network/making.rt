@@ -287,9 +287,12 @@ impl Network {
         requires { length setup.proxies < 2 ^ 32 }
         ensures begins { IfOk result (λ network. CanBeMade setup × Begins setup network.world) }
         ensures sound { IfOk result (λ network. All IsSound network.world.proxies) }
-        ensures plans { IfOk result (λ network. All (λ proxy. IsPlan proxy.routing proxy.schedule) network.world.proxies) }
-        ensures numbers { IfOk result (λ network. network.numbers ≡ numbers_of network.world.nodes network.world.proxies) }
-        ensures refused { IfErr result (λ e. ((e ≡ NoSuchNode) × ¬ CanBeMade setup) ⊎ ((e ≡ OutOfMemory) × CanBeMade setup)) }
+        ensures plans { IfOk result
+            (λ network. All (λ proxy. IsPlan proxy.routing proxy.schedule) network.world.proxies) }
+        ensures numbers { IfOk result
+            (λ network. network.numbers ≡ numbers_of network.world.nodes network.world.proxies) }
+        ensures refused { IfErr result
+            (λ e. ((e ≡ NoSuchNode) × ¬ CanBeMade setup) ⊎ ((e ≡ OutOfMemory) × CanBeMade setup)) }
     {
         if !can_be_made(&setup) {
             return Err(WorldError::NoSuchNode);

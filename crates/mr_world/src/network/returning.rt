@@ -29,7 +29,8 @@ fn tell(history: &mut History, answer: Answer)
 
 /// Appends what a reply that came back leads to, and tells what that is.
 fn note_taken(history: &mut History, taken: Taken) -> Note
-    requires unanswered { (answer : AnswerView) → taken ≡ Taken.Answered answer → IsUnanswered history.old.entries answer.op }
+    requires unanswered { (answer : AnswerView) → taken ≡ Taken.Answered answer
+        → IsUnanswered history.old.entries answer.op }
     requires spare { 1 ≤ history.old.spare }
     ensures note { result ≡ note_of taken }
     ensures history { history.new.entries ≡ history.old.entries ++ answered_by taken }
