@@ -1,3 +1,4 @@
 pub mod ClientEndLemmas
 pub mod FleetEndLemmas
+pub mod SendLemmas
 pub mod TurnLemmas

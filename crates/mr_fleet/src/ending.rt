@@ -53,7 +53,11 @@ impl<C: Carrier + Drop, K: Clock + Drop, S: Source + Drop, W: Sink + Drop> Endin
         ensures ends { vec_len self.new.ends ≡ vec_len self.old.ends + 1 }
         ensures limit { self.new.limit ≡ self.old.limit }
     {
-        let (end, share, answers) = one.into_parts();
+        let FinishedClient {
+            end,
+            share,
+            answers,
+        } = one;
         self.shares.push_reserved(share);
         self.answers.push_reserved(answers);
         self.ends.push_reserved(end);

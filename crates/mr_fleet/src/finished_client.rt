@@ -9,26 +9,21 @@ use mr_desks::{Carrier, Share, WorkerError};
 use mr_node::Ended;
 use mr_proxy::Answer;
 use mr_text::{Sink, Source};
-use std::marker::PhantomData;
 use std::snapshot::Snapshot;
 
 /// What a client's thread hands over: how the client ended, and what its proxy's book is held against.
 #[derive(Drop)]
 pub(crate) struct FinishedClient<C: Carrier, K: Clock, S: Source, W: Sink> {
-    /// How its session ended, or why it ended early. NoThread where none could be made for it.
-    pub ended: Result<Ended, WorkerError>,
-    reader: S,
-    writer: W,
-    /// How many reads its session could make at most.
-    pub turns: u64,
-    share: Share,
-    answers: Vec<Answer>,
-    carrier: PhantomData<C>,
-    clock: PhantomData<K>,
+    /// How it ended.
+    pub end: ClientEnd<C, K, S, W>,
+    /// How many requests it issued.
+    pub share: Share,
+    /// The answers that it took.
+    pub answers: Vec<Answer>,
 
-    /// The client had a session, and this is its end; or it had no thread.
-    pub ghost stands: { ∥ EndStands (desk_rules K.reads K.failures C.gave true) turns
-        (client_end (S.told reader) (W.told writer) share answers.items ended) ∥₁ },
+    /// They are those that its end speaks of.
+    pub ghost issued: { end.issued.value ≡ share },
+    pub ghost took: { end.took.value.items ≡ answers.items },
 }
 
 impl<C: Carrier, K: Clock, S: Source, W: Sink> FinishedClient<C, K, S, W> {
@@ -43,18 +38,15 @@ impl<C: Carrier, K: Clock, S: Source, W: Sink> FinishedClient<C, K, S, W> {
     ) -> FinishedClient<C, K, S, W>
         requires { EndStands (desk_rules K.reads K.failures C.gave true) turns
             (client_end (S.told reader) (W.told writer) share answers.items ended) }
-        ensures ended { result.ended ≡ ended }
-        ensures turns { result.turns ≡ turns }
+        ensures ended { result.end.result ≡ ended }
+        ensures turns { result.end.turns ≡ turns }
     {
+        let issued = Snapshot::of(&share);
+        let took = Snapshot::of(&answers);
         FinishedClient {
-            ended,
-            reader,
-            writer,
-            turns,
+            end: ClientEnd::of(ended, reader, writer, turns, issued, took),
             share,
             answers,
-            carrier: PhantomData,
-            clock: PhantomData,
         }
     }
 
@@ -69,32 +61,9 @@ impl<C: Carrier, K: Clock, S: Source, W: Sink> FinishedClient<C, K, S, W> {
     ) -> FinishedClient<C, K, S, W>
         requires { HadSession (desk_rules K.reads K.failures C.gave true) turns
             (client_end (S.told reader) (W.told writer) share answers.items ended) }
-        ensures ended { result.ended ≢ Err WorkerError.NoThread }
-        ensures turns { result.turns ≡ turns }
+        ensures ended { result.end.result ≢ Err WorkerError.NoThread }
+        ensures turns { result.end.turns ≡ turns }
     {
         FinishedClient::of(ended, reader, writer, turns, share, answers)
-    }
-
-    /// How the client ended, how many requests it issued, and the answers that it took.
-    pub(crate) fn into_parts(self) -> (ClientEnd<C, K, S, W>, Share, Vec<Answer>)
-        ensures ended { result.0.result ≡ self.ended }
-        ensures turns { result.0.turns ≡ self.turns }
-        ensures issued { result.0.issued.value ≡ result.1 }
-        ensures took { result.0.took.value.items ≡ result.2.items }
-    {
-        let Self {
-            ended,
-            reader,
-            writer,
-            turns,
-            share,
-            answers,
-            carrier: _,
-            clock: _,
-        } = self;
-        let issued = Snapshot::of(&share);
-        let took = Snapshot::of(&answers);
-        let end = ClientEnd::of(ended, reader, writer, turns, issued, took);
-        (end, share, answers)
     }
 }

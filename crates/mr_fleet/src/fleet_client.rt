@@ -59,8 +59,8 @@ impl<K: Clock + Drop, S: Source, W: Sink> FleetClient<K, S, W> {
         desk: &RecordedProxy<C>,
         links: Links<C>,
     ) -> FinishedClient<C, K, S, W>
-        ensures ended { result.ended ≢ Err WorkerError.NoThread }
-        ensures turns { result.turns ≡ self.turns }
+        ensures ended { result.end.result ≢ Err WorkerError.NoThread }
+        ensures turns { result.end.turns ≡ self.turns }
     {
         let Self {
             mut clock,
@@ -92,8 +92,8 @@ impl<K: Clock + Drop, S: Source, W: Sink> FleetClient<K, S, W> {
         alloc: Global,
         desk: &RecordedProxy<C>,
     ) -> FinishedClient<C, K, S, W>
-        ensures ended { result.ended ≡ Err WorkerError.NoThread }
-        ensures turns { result.turns ≡ self.turns }
+        ensures ended { result.end.result ≡ Err WorkerError.NoThread }
+        ensures turns { result.end.turns ≡ self.turns }
     {
         let Self {
             clock: _,
