@@ -25,6 +25,8 @@ file, where a case doesn't say otherwise. The fields:
     output added   the same again, but only what the output has beside the JSON of the standard input: of a transcript what
                    came of its script
     checked        what `check` has to say of the wanted output: a run of its own, which ends with 3 where it isn't `accepted`
+    cut            `everywhere`: the input isn't given whole, but in turn each of its beginnings, from none of its bytes to all but
+                   the last one; each is a case, that wants the same answer
     faults         the standard error, empty where it isn't given; `...` is any text but the empty one, whose wording isn't ours
     status         0 where it isn't given
 
@@ -46,7 +48,7 @@ CASES = pathlib.Path(__file__).resolve().parent / "cases"
 SHARED = CASES / "files"
 ANY = object()
 
-FIELD = re.compile(r"(words|files|file \S+(?: of \S+)?|input(?: of \S+)?|output(?: json| added)?|checked|faults|status):(?: (.*))?")
+FIELD = re.compile(r"(words|files|file \S+(?: of \S+)?|input(?: of \S+)?|output(?: json| added)?|checked|cut|faults|status):(?: (.*))?")
 INNER = r"\\\([^\n]*?\*\d+(?:\|[^\n]*?)?\)"
 PIECE = re.compile(rf"\\\(((?:{INNER}|[^\n])*?)\*(\d+)(?:\|([^\n]*?))?\)" + r"|\\x([0-9a-fA-F]{2})|\\(.)")
 LETTERS = {"r": "\r", "n": "\n", "t": "\t", "\\": "\\"}
@@ -192,6 +194,15 @@ def case_of(name, fields):
     return Case(name, words, files, stdin, status, stdout, stderr)
 
 
+def cuts(case, where):
+    """A case for each beginning of the input of one."""
+    if where != ("everywhere", []):
+        raise BadCase("an input is cut everywhere")
+    for size in range(len(case.stdin)):
+        name = f"{case.name}, after {size} bytes"
+        yield Case(name, case.words, case.files, case.stdin[:size], case.status, case.stdout, case.stderr)
+
+
 def sections(lines):
     """The head of a file and its cases: of each the name, None for the head, and its fields."""
     found = [(None, {})]
@@ -232,7 +243,7 @@ def cases_in(path, word):
             name = f"{path.relative_to(CASES).with_suffix('')}: {short_name}"
             if word in name:
                 case = case_of(name, fields)
-                yield case
+                yield from cuts(case, fields["cut"]) if "cut" in fields else [case]
                 if "checked" in fields:
                     yield checked(case, value(*fields["checked"]))
     except (BadCase, ValueError) as error:

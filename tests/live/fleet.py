@@ -5,6 +5,7 @@ import os
 import pathlib
 import resource
 import shutil
+import signal
 import subprocess
 import tempfile
 import time
@@ -109,13 +110,41 @@ class Service:
         if not self.listens():
             raise Wrong(f"the second start of {self.name()}", "something that listens", self.printed())
 
+    def stop(self):
+        """Stops it, as one that hangs, and waits until each of its threads has stopped."""
+        self.child.send_signal(signal.SIGSTOP)
+        until = time.monotonic() + PATIENCE
+        while not all(it.read_text().rsplit(")", 1)[1].split()[0] == "T" for it in self.threads()):
+            if time.monotonic() > until:
+                raise Wrong(f"the stop of {self.name()}", "threads that have stopped", "others")
+            time.sleep(0.005)
+
+    def threads(self):
+        """The files that tell the state of each of its threads."""
+        return pathlib.Path(f"/proc/{self.child.pid}/task").glob("*/stat")
+
+    def go_on(self):
+        """Lets it go on."""
+        self.child.send_signal(signal.SIGCONT)
+
     def open_files(self):
         """How many files it has open."""
         return len(os.listdir(f"/proc/{self.child.pid}/fd"))
 
+    def processor_seconds(self):
+        """How much processor time it took so far, in its own code and in the system's."""
+        words = pathlib.Path(f"/proc/{self.child.pid}/stat").read_text(encoding="ascii").rsplit(") ", 1)[1].split()
+        return (int(words[11]) + int(words[12])) / os.sysconf("SC_CLK_TCK")
+
     def limit_files(self, most):
         """From now on it may have so many open files."""
         resource.prlimit(self.child.pid, resource.RLIMIT_NOFILE, (most, most))
+
+    def limit_memory(self, more):
+        """From now on it may take so many bytes of addresses more than it has."""
+        pages = int(pathlib.Path(f"/proc/{self.child.pid}/statm").read_text().split()[0])
+        most = pages * resource.getpagesize() + more
+        resource.prlimit(self.child.pid, resource.RLIMIT_AS, (most, most))
 
     def name(self):
         """What it is called in what a failure says."""
@@ -205,12 +234,12 @@ class Fleet:
             whole["hash"] = hash_name
         return self.new_file(json.dumps(whole).encode())
 
-    def run(self, *words, stdin=b"", stdin_file=None, stdout=subprocess.PIPE):
+    def run(self, *words, stdin=b"", stdin_file=None, stdout=subprocess.PIPE, memory=None):
         """Runs a command to its end, and gives its status, its output and what stands on standard error. Its input is this
-        text, or the open file of this number, which is closed then."""
+        text, or the open file of this number, which is closed then. It may be limited to so many bytes of addresses."""
         given = subprocess.PIPE if stdin_file is None else stdin_file
         try:
-            child = self.start_command(*words, stdin=given, stdout=stdout)
+            child = self.start_command(*words, stdin=given, stdout=stdout, memory=memory)
         finally:
             if stdin_file is not None:
                 os.close(stdin_file)
@@ -222,9 +251,11 @@ class Fleet:
             CHILDREN.end(child)
         return child.returncode, output, faults
 
-    def start_command(self, *words, stdin=subprocess.PIPE, stdout=subprocess.PIPE):
+    def start_command(self, *words, stdin=subprocess.PIPE, stdout=subprocess.PIPE, memory=None):
         """Starts a command, which is ended with the case at the latest."""
         words = [program(), *(os.fspath(word) for word in words)]
+        if memory is not None:
+            words = ["sh", "-c", f'ulimit -v {memory // 1024}; exec "$@"', "sh", *words]
         child = CHILDREN.start(words, stdin=stdin, stdout=stdout, stderr=subprocess.PIPE)
         self.commands.append(child)
         return child

@@ -12,10 +12,10 @@ It is written from the documents and not from the program's code, so that a mist
     drawing, coverage               cases; what they come to, counted
 """
 from . import commands
-from .coverage import kinds, missing
-from .drawing import Drawn, draw
+from .coverage import kinds_of, missing
+from .drawing import SORTS, Drawn
 
-__all__ = ["Drawn", "answer", "draw", "kinds", "missing"]
+__all__ = ["SORTS", "Drawn", "answer", "kinds_of", "missing"]
 
 
 def answer(drawn):

@@ -1,19 +1,19 @@
 """What drawn cases come to, counted, so that a generator that no longer comes to a line is noticed: on that line the reference
 would agree with any program.
 """
-import collections
 import re
 
 from .history import ACKNOWLEDGES
 from .phases import PHASES
-from .refusals import NAMES
+from .refusals import NUMBERS
 from .transcripts import DIFFERENCES
 
 # What reads a configuration is one kind of command, whichever it is.
 READS = {"plan": "configuration", "timeline": "configuration", "run": "script", "check": "transcript"}
 
-CONFIG_REFUSALS = NAMES["plan"][:8]
-SCRIPT_REFUSALS = NAMES["plan"][:11]
+PLAN_REFUSALS = list(NUMBERS["plan"])
+CONFIG_REFUSALS = PLAN_REFUSALS[: PLAN_REFUSALS.index("BadHash") + 1]
+SCRIPT_REFUSALS = [name for name in PLAN_REFUSALS if name != "EventRefused"]
 PLAY_MARKS = {
     "a hit": b'"items":[{',
     "a miss": b'"items":[]',
@@ -29,18 +29,13 @@ PLAY_MARKS = {
 }
 
 
-def kinds(pairs):
-    """How often each kind of answer stands in pairs of a drawn case and its answer."""
-    return collections.Counter(kind for drawn, answer in pairs for kind in kinds_of(drawn, answer))
-
-
-def missing(pairs):
-    """The kinds that ought to stand in these pairs, where they are some two thousand, and don't."""
-    found = kinds(pairs)
-    return [kind for kind in EXPECTED if kind not in found]
+def missing(found):
+    """The kinds that ought to be found of each sort of cases, where they are some two thousand, and aren't."""
+    return [(sort, kind) for sort, expected in EXPECTED.items() for kind in expected if kind not in found[sort]]
 
 
 def kinds_of(drawn, answer):
+    """The kinds of what a drawn case comes to."""
     command = drawn.words[0]
     if answer.stderr:
         yield fault_kind(command, answer.stderr.decode().rstrip("\n"))
@@ -93,26 +88,11 @@ KINDS_OF_OUTPUT = {"plan": kinds_of_plan, "timeline": kinds_of_timeline, "run": 
 
 
 def line_of(layer, name):
-    return f"migctl: {layer} {NAMES[layer].index(name) + 1} {name}"
+    return f"migctl: {layer} {NUMBERS[layer][name]} {name}"
 
 
-EXPECTED = [
-    "file",
-    "migctl: words --readings",
-    *(line_of("text", name) for name in NAMES["text"]),
-    *(f"configuration: {line_of('plan', name)}" for name in CONFIG_REFUSALS),
-    *(f"{what}: {line_of('plan', name)}" for what in ("script", "transcript") for name in SCRIPT_REFUSALS),
-    f"script: {line_of('plan', 'EventRefused')}",
-    *(f"plan: {phase}" for phase in PHASES),
-    *(f"plan: {count} legs" for count in range(4)),
-    *(f"timeline: reading {phase}" for phase in PHASES),
-    "timeline: spread ok",
-    "timeline: spread far",
-    f"timeline: {PHASES[0]} none",
-    "run: safe",
-    "run: safe with a hit",
-    "run: stale",
-    *(f"run: {name}" for name in PLAY_MARKS),
+CONFIG_LINES = [f"configuration: {line_of('plan', name)}" for name in CONFIG_REFUSALS]
+CHECK_LINES = [
     "check: verdict safe",
     "check: verdict stale",
     "check: accepted",
@@ -121,3 +101,28 @@ EXPECTED = [
     *(f"check: not accepted: {difference}" for difference in DIFFERENCES),
     *(f"check: {premise} {holds}" for premise in ("same", "new_empty", "forward", "near") for holds in ("true", "false")),
 ]
+OFTEN_REFUSED = ("NotJson", "WrongKind", "MissingKey", "UnknownKey", "BadPool", "BadRoute", "BadEvent")
+# What two thousand cases of each sort come to.
+EXPECTED = {
+    "drawn": [
+        "file",
+        "migctl: words --readings",
+        *(line_of("text", name) for name in NUMBERS["text"]),
+        *CONFIG_LINES,
+        *(f"{what}: {line_of('plan', name)}" for what in ("script", "transcript") for name in SCRIPT_REFUSALS),
+        f"script: {line_of('plan', 'EventRefused')}",
+        *(f"plan: {phase}" for phase in PHASES),
+        *(f"plan: {count} legs" for count in range(4)),
+        *(f"timeline: reading {phase}" for phase in PHASES),
+        "timeline: spread ok",
+        "timeline: spread far",
+        f"timeline: {PHASES[0]} none",
+        "run: safe",
+        "run: safe with a hit",
+        "run: stale",
+        *(f"run: {name}" for name in PLAY_MARKS),
+        *CHECK_LINES,
+    ],
+    "transcript": [*(f"transcript: {line_of('plan', name)}" for name in OFTEN_REFUSED), *CHECK_LINES],
+    "configuration": [*CONFIG_LINES, *(f"plan: {count} legs" for count in range(3)), f"timeline: {PHASES[0]} none"],
+}

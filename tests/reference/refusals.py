@@ -1,9 +1,12 @@
-"""The refusals and the line that the program prints of each. Written from docs/FORMATS.md, "The faults"."""
+"""The refusals and the line that the program prints of each, by number. Written from docs/FORMATS.md, "The faults"; those that
+a text alone never comes to aren't here.
+"""
 
-NAMES = {
-    "text": ("LineTooLong", "BadKey", "BadNumber", "WrongWords", "DataTooLong", "BadDataEnd", "UnknownCommand", "Truncated"),
-    "plan": ("NotJson", "WrongKind", "MissingKey", "UnknownKey", "BadPool", "BadRoute", "BadSchedule", "BadHash", "BadSetup",
-             "BadEvent", "TooLarge", "EventRefused"),
+NUMBERS = {
+    "text": {"LineTooLong": 1, "BadKey": 2, "BadNumber": 3, "WrongWords": 4, "DataTooLong": 5, "BadDataEnd": 6,
+             "UnknownCommand": 7, "Truncated": 8},
+    "plan": {"NotJson": 1, "WrongKind": 2, "MissingKey": 3, "UnknownKey": 4, "BadPool": 5, "BadRoute": 6, "BadSchedule": 7,
+             "BadHash": 8, "BadSetup": 9, "BadEvent": 10, "TooLarge": 11, "EventRefused": 12},
 }
 
 
@@ -16,8 +19,12 @@ class Refusal(Exception):
         self.name = name
 
     @property
+    def number(self):
+        return NUMBERS[self.layer][self.name]
+
+    @property
     def line(self):
-        return f"migctl: {self.layer} {NAMES[self.layer].index(self.name) + 1} {self.name}"
+        return f"migctl: {self.layer} {self.number} {self.name}"
 
 
 def text(name):

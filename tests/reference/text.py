@@ -48,6 +48,22 @@ def is_block(data):
 
 def first_request(data):
     """The request that an input begins with, or the refusal that it gets. The input ends behind these bytes."""
+    request, _ = request_at(data)
+    return request
+
+
+def request_at(data):
+    """The same, and how many bytes it takes."""
+    line, behind = first_line(data)
+    words = words_of(line)
+    if not words or words[0] not in READERS:
+        raise refusals.text("UnknownCommand")
+    request = READERS[words[0]](words[1:], data[behind:])
+    return request, behind + (len(request.data) + 2 if isinstance(request, Set) else 0)
+
+
+def first_line(data):
+    """The line that these bytes begin with, without its end, and how many bytes it takes with it."""
     end = data.find(b"\n")
     if end < 0:
         raise refusals.text("LineTooLong" if len(data) >= MOST_OF_LINE + 2 else "Truncated")
@@ -56,10 +72,11 @@ def first_request(data):
         line = line[:-1]
     if len(line) > MOST_OF_LINE:
         raise refusals.text("LineTooLong")
-    words = [word for word in line.split(b" ") if word]
-    if not words or words[0] not in READERS:
-        raise refusals.text("UnknownCommand")
-    return READERS[words[0]](words[1:], data[end + 1:])
+    return line, end + 1
+
+
+def words_of(line):
+    return [word for word in line.split(b" ") if word]
 
 
 def read_quit(words, _):
@@ -88,10 +105,15 @@ def read_set(words, rest):
     check_keys(words[:1])
     flags = number(words[1], rb"[0-9]+", FLAGS)
     exptime = number(words[2], rb"-?[0-9]+", EXPTIMES)
-    size = number(words[3], rb"[0-9]+", BYTES)
+    return Set(words[0], flags, exptime, block(rest, size_of(words[3])), len(words) == 5)
+
+
+def size_of(word):
+    """How many bytes a block has by a word of its line."""
+    size = number(word, rb"[0-9]+", BYTES)
     if size > MOST_OF_BLOCK:
         raise refusals.text("DataTooLong")
-    return Set(words[0], flags, exptime, block(rest, size), len(words) == 5)
+    return size
 
 
 def check_keys(words):

@@ -32,6 +32,12 @@ spelling_not_empty bytes (Delete key false) is = line_not_empty bytes is.is_line
 spelling_not_empty bytes (Delete key true) is = line_not_empty bytes is.is_line.line is.is_line.is_line
 spelling_not_empty bytes Quit is = line_not_empty bytes is.is_line.line is.is_line.is_line
 
+-- bytes that begin with a request are some
+pub some_bytes : (bytes after : List ℕ) (request : Request) → BeginsWith SpellsRequest bytes request after → 1 ≤ length bytes
+some_bytes bytes after request is =
+    let some = spelling_not_empty is.spelling request is.spells in
+    omega (arith, length-append is.spelling after, ap length is.splits)
+
 pub served_unless_quit : (request : Request) → request ≢ Quit → IsServed request
 served_unless_quit (Get keys) other = tt
 served_unless_quit (Set key flags exptime block noreply) other = tt
@@ -111,11 +117,11 @@ module _ {C P : Type 0} (Does : Outcomes C P) (rest : List ℕ) (old new : Reade
       inl (Unknown, skips.line, after, skips.splits, (skips.words, skips.is_line, skips.unknown), (refl, refl), is.1),
     )
 
-    lacks_memory : (result : Result SessionStep SessionFault) → AnswersRefusal OutOfMemory written result written'
+    lacks_memory : (result : Result SessionStep SessionFault) → 1 ≤ length rest → AnswersRefusal OutOfMemory written result written'
         → StepIs Does (station clock node written) (station clock node written') old.ended rest new result
-    lacks_memory (Ok step) is = absurd (is.0 refl)
-    lacks_memory (Err e) (inl is) = inl (is.1, ap (station clock node) is.2)
-    lacks_memory (Err e) (inr is) = absurd is.1
+    lacks_memory (Ok step) some is = absurd (is.0 refl)
+    lacks_memory (Err e) some (inl is) = inl (is.1, ap (station clock node) is.2, some)
+    lacks_memory (Err e) some (inr is) = absurd is.1
 
     -- a refusal is answered
     pub step_of_refusal : (refusal : TextError) (result : Result SessionStep SessionFault) → old.closed ≡ false
@@ -132,4 +138,4 @@ module _ {C P : Type 0} (Does : Outcomes C P) (rest : List ℕ) (old new : Reade
     step_of_refusal (UnknownCommand false) result going next is = skips_unknown result next.1 next.2 next.3 is
     step_of_refusal Truncated result going next is = ends_refused Truncated result next.2 refl (λ e. next.1) (λ e. cc) is
     step_of_refusal Closed result going next is = (let shut = next.0 in let both : true ≡ false = sym shut ∙ going in cc)
-    step_of_refusal OutOfMemory result going next is = lacks_memory result is
+    step_of_refusal OutOfMemory result going next is = lacks_memory result (some_bytes rest next.2 next.1 next.3) is

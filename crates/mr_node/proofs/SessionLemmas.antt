@@ -17,7 +17,7 @@ use Rattle.mr_node.specs.declared.session.SessionFault.TheVariants.{OutOfMemory,
 use Rattle.mr_node.specs.declared.session.SessionStep.{SessionStep}
 use Rattle.mr_node.specs.declared.session.SessionStep.TheVariants.{Served, Waits, Ends}
 use Rattle.mr_node.specs.Output.{Exchange, ReadsExchanges, SpellsExchange, answer_to, output_of, text_of_answer, text_of_exchange}
-use Rattle.mr_node.specs.Session.{Station, Answers, StopsAnswering, Performs, DoesExchange, ServesInTurn, SessionServes, SessionIs, PieceIs, LastWriteFailed, NoWriteFailed}
+use Rattle.mr_node.specs.Session.{Station, Answers, StopsAnswering, Performs, DoesExchange, HasNoBuffer, StopsForMemory, ServesInTurn, SessionServes, SessionIs, PieceIs, LastWriteFailed, NoWriteFailed}
 use Rattle.mr_node.specs.steps.Step.{StepIs}
 use Rattle.mr_node.specs.Outcome.{Outcomes}
 
@@ -102,6 +102,19 @@ module _ {C P : Type 0} (Does : Outcomes C P) (reader : SourceView) (old : Stati
         (ServesInTurn.reads [] so.in_turn unfinished (record { takes = none ∙ sym (append-nil reader'.taken); once = once }));
   }
 
+  -- there was no memory for bytes that came
+  stops_for_memory : (reader' : SourceView) (now : Station C P) (rest : List ℕ) → 1 ≤ length rest → SessionServes Does reader reader' old now rest
+      → SessionIs Does reader reader' old now (Err OutOfMemory)
+  stops_for_memory reader' now rest some so = inr (record {
+    rest = rest;
+    serves = so;
+    came = omega (arith, ap (λ (l : List ℕ). length l) so.takes, length-append reader.taken (so.bytes ++ rest), length-append so.bytes rest);
+  })
+
+  -- there was no memory for the buffer
+  pub no_buffer : SessionIs Does reader reader old old (Err OutOfMemory)
+  no_buffer = inl (record { unread = refl; idle = refl })
+
   -- a service under way
   pub record UnderWay (reader' : SourceView) (now : Station C P) (requests : ReaderView) (ended : Bool) : Type 0 where
     pub rest : List ℕ
@@ -181,7 +194,8 @@ module _ {C P : Type 0} (Does : Outcomes C P) (reader : SourceView) (old : Stati
 
     pub step_fails : (e : SessionFault) → StepIs Does now new ended so.rest requests' (Err e) → SessionIs Does reader reader' old new (Err e)
     step_fails e (inl step) = subst (λ (x : SessionFault). SessionIs Does reader reader' old new (Err x)) (sym step.0)
-        (so.rest, subst (λ (s : Station C P). SessionServes Does reader reader' old s so.rest) (sym step.1) so.serves)
+        (stops_for_memory reader' new so.rest step.2
+        (subst (λ (s : Station C P). SessionServes Does reader reader' old s so.rest) (sym step.1) so.serves))
     step_fails e (inr step) = subst (λ (x : SessionFault). SessionIs Does reader reader' old new (Err x)) (sym step.0)
         (so.rest, now, so.serves, step.1)
 
@@ -211,7 +225,9 @@ module _ {C P : Type 0} (Does : Outcomes C P) (reader : SourceView) (old : Stati
         (so.rest, serves_unfed reader' reader'' new so.rest (waits step) step.1 once fault.1 fault.2, step.1)
     read_fails room reader'' requests'' e step once (inr lacks) =
         subst (λ (x : SessionFault). SessionIs Does reader reader'' old new (Err x)) (sym lacks.0)
-        (so.rest ++ lacks.1.0, serves_fed reader' reader'' new so.rest lacks.1.0 (waits step) step.1 once lacks.1.1 lacks.1.2)
+        (stops_for_memory reader'' new (so.rest ++ lacks.1.0)
+        (let some = lacks.1.4 in omega (arith, length-append so.rest lacks.1.0))
+        (serves_fed reader' reader'' new so.rest lacks.1.0 (waits step) step.1 once lacks.1.1 lacks.1.2))
 
   -- the writer failed once where a fault of it ends the service, and the call that failed was the last
   pub write_fails : (reader' : SourceView) (new : Station C P) (result : Result Ended SessionFault) → SessionIs Does reader reader' old new result
@@ -230,7 +246,8 @@ module _ {C P : Type 0} (Does : Outcomes C P) (reader : SourceView) (old : Stati
   pub writes_well : (reader' : SourceView) (new : Station C P) (result : Result Ended SessionFault) → SessionIs Does reader reader' old new result
       → result ≢ Err WriteFault → NoWriteFailed old.writer new.writer
   writes_well reader' new (Ok _) is other = answered_well is.1 is.2.writer new.writer is.7 ∙ is.3.writes.steady
-  writes_well reader' new (Err OutOfMemory) is other = is.1.writes.steady
+  writes_well reader' new (Err OutOfMemory) (inl none) other = ap (λ (s : Station C P). s.writer.failures) none.idle
+  writes_well reader' new (Err OutOfMemory) (inr stop) other = stop.serves.writes.steady
   writes_well reader' new (Err ReadFault) is other = is.1.writes.steady
   writes_well reader' new (Err WriteFault) is other = absurd (other refl)
   writes_well reader' new (Err TurnsSpent) is other = is.1.writes.steady

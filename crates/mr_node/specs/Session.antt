@@ -1,5 +1,5 @@
 -- What a session over a stream of requests reads, does and writes, whatever performs them, and how it ends.
-use Rattle.std.specs.Prelude.{◌≡◌, ◌≢◌, ℕ, ◌+◌, ◌*◌, ◌≤◌, ◌⊎◌, List, [], ◌∷◌, ◌++◌, length, Bool, true, false, Option, Some, None, Result, Ok, Err, if◌then◌else◌}
+use Rattle.std.specs.Prelude.{◌≡◌, ◌≢◌, ℕ, ◌+◌, ◌*◌, ◌<◌, ◌≤◌, ◌⊎◌, List, [], ◌∷◌, ◌++◌, length, Bool, true, false, Option, Some, None, Result, Ok, Err, if◌then◌else◌}
 use Rattle.std.specs.Io.KnownBytes.{Consumes, Keeps, IsAtEnd}
 use Rattle.mr_text.specs.Canonical.{canonical_reply}
 use Rattle.mr_text.specs.Gathering.{TakesFewCalls, parts_of_reply}
@@ -22,7 +22,7 @@ use Rattle.mr_node.specs.Output.{Exchange, ReadsExchanges, SpellsExchange, answe
 use Rattle.mr_node.specs.Output.Exchange.{Asked, Unknown}
 use Rattle.mr_node.specs.Outcome.{Outcomes}
 
--- how many bytes there is room for in each read
+-- how many bytes there is room for in each read, which is the length of the buffer
 abbrev pub read_length : ℕ
 read_length = 4096
 
@@ -105,9 +105,20 @@ LeavesUnanswered Does rest old new =
     ((refusal : TextError) × FaultAt SpellsRequest RefusesRequest refusal rest × (skips_line refusal ≡ false) × (new.clock ≡ old.clock)
     × (new.node ≡ old.node) × StopsAnswering (reply_to_refusal refusal) old.writer new.writer)
 
+-- there was no memory for the session's buffer: nothing was read, done or written
+pub record HasNoBuffer {C P : Type 0} (reader reader' : SourceView) (old new : Station C P) : Type 0 where
+  pub unread : reader' ≡ reader
+  pub idle : new ≡ old
+
+-- there was no memory for bytes that came: a beginning of them was served
+pub record StopsForMemory {C P : Type 0} (Does : Outcomes C P) (reader reader' : SourceView) (old new : Station C P) : Type 0 where
+  pub rest : List ℕ
+  pub serves : SessionServes Does reader reader' old new rest
+  pub came : length reader.taken < length reader'.taken
+
 -- What a session has read, done and written when it ends. After a fault of the reader and after the last read that was
--- allowed all that is whole was served, and after want of memory a beginning of it. After a fault of the writer a
--- beginning was served, what came next was done once, and a beginning of its answer was written.
+-- allowed all that is whole was served, and after want of memory a beginning of it, or nothing was read or written. After a
+-- fault of the writer a beginning was served, what came next was done once, and a beginning of its answer was written.
 module _ {C P : Type 0} (Does : Outcomes C P) (reader reader' : SourceView) (old new : Station C P) where
   abbrev pub SessionIs : Result Ended SessionFault → Type 0
   SessionIs (Ok ended) =
@@ -115,7 +126,7 @@ module _ {C P : Type 0} (Does : Outcomes C P) (reader reader' : SourceView) (old
       × EndsSo reader'.left rest ended answer × (new.clock ≡ between.clock) × (new.node ≡ between.node) × Answers answer between.writer new.writer
   SessionIs (Err ReadFault) = (rest : List ℕ) × SessionServes Does reader reader' old new rest × IsUnfinished SpellsRequest RefusesRequest rest
   SessionIs (Err TurnsSpent) = (rest : List ℕ) × SessionServes Does reader reader' old new rest × IsUnfinished SpellsRequest RefusesRequest rest
-  SessionIs (Err OutOfMemory) = (rest : List ℕ) × SessionServes Does reader reader' old new rest
+  SessionIs (Err OutOfMemory) = HasNoBuffer reader reader' old new ⊎ StopsForMemory Does reader reader' old new
   SessionIs (Err WriteFault) =
       (rest : List ℕ) × (between : Station C P) × SessionServes Does reader reader' old between rest × LeavesUnanswered Does rest between new
 
@@ -152,7 +163,8 @@ PieceIs room rest requests old (Ok ended) new =
     × (ended ≡ false → 1 ≤ length piece) × (ended ≡ true → IsAtEnd new.left) × Becomes requests (rest ++ piece) ended false × (new.failures ≡ old.failures)
 PieceIs room rest requests old (Err fault) new =
     ((fault ≡ ReadFault) × (new.taken ≡ old.taken) × Keeps old.left new.left × (new.failures ≡ old.failures + 1)) ⊎
-    ((fault ≡ OutOfMemory) × ((piece : List ℕ) × (new.taken ≡ old.taken ++ piece) × Consumes old.left new.left piece × (length piece ≤ room))
+    ((fault ≡ OutOfMemory)
+    × ((piece : List ℕ) × (new.taken ≡ old.taken ++ piece) × Consumes old.left new.left piece × (length piece ≤ room) × (1 ≤ length piece))
     × (new.failures ≡ old.failures))
 
 -- an answer is written, or the writer fails

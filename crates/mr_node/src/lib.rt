@@ -22,4 +22,3 @@ pub use error::NodeError;
 pub use expiry::MAX_RELATIVE_EXPTIME;
 pub use perform::Perform;
 pub use service::serve;
-pub use session::READ_LENGTH;

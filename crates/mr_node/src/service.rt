@@ -12,18 +12,20 @@ use crate::error::NodeError;
 use crate::outcome::outcome;
 use crate::perform::Perform;
 use crate::session::{
-    READ_LENGTH, SessionFault, SessionStep, answer_refusal, is_silent, read_piece, write_answer,
+    SessionFault, SessionStep, answer_refusal, is_silent, read_piece, write_answer,
 };
 use mr_clock::Clock;
-use mr_text::{Reply, Request, RequestReader, Sink, Source};
+use mr_text::{FixedBuffer, Reply, Request, RequestReader, Sink, Source};
 use std::alloc::Global;
 
 /// Serves the requests that the reader gives, and writes their answers, until the client quits, the input ends, or a
 /// request is refused after which nothing more can be read; the answer to that refusal is written first. At most `turns`
-/// reads are made. Each request is served at a reading of the clock taken after it has arrived.
+/// reads are made. Each request is served at a reading of the clock taken after it has arrived. One buffer, made before the
+/// first read, serves for all reads and answers.
 ///
-/// ReadFault, WriteFault and OutOfMemory where the reader, the writer, or memory for reading failed; TurnsSpent where one
-/// more read would be needed. Want of memory in a command, and a fault of the clock, are answered.
+/// ReadFault and WriteFault where the reader or the writer failed; OutOfMemory where the buffer couldn't be made, and then
+/// nothing was read or written, or where memory for what was read was refused; TurnsSpent where one more read would be
+/// needed. Want of memory in a command, and a fault of the clock, are answered.
 pub fn serve<P: Perform, S: Source, W: Sink, C: Clock>(
     alloc: Global,
     node: &mut P,
@@ -50,7 +52,7 @@ pub fn serve<P: Perform, S: Source, W: Sink, C: Clock>(
     }
 }
 
-/// Serves all that comes, until the session ends.
+/// Makes the buffer, and serves all that comes until the session ends.
 fn serve_all<P: Perform, S: Source, W: Sink, C: Clock>(
     alloc: Global,
     node: &mut P,
@@ -65,11 +67,13 @@ fn serve_all<P: Perform, S: Source, W: Sink, C: Clock>(
         (station clock.old node.old (W.told writer.old)) (station clock.new node.new (W.told writer.new)) result }
     ensures counts { Counts turns (S.told reader.old) (S.told reader.new) result }
 {
-    let mut buffer = [0; READ_LENGTH];
+    let Ok(mut buffer) = Box::new(alloc, FixedBuffer::new()) else {
+        return Err(SessionFault::OutOfMemory);
+    };
     let mut ended = false;
     let mut turns_left = turns;
     'session: loop {
-        match serve_next(alloc, node, requests, writer, clock) {
+        match serve_next(alloc, node, requests, &mut buffer, writer, clock) {
             Ok(SessionStep::Served) => {}
             Ok(SessionStep::Ends(how)) => return Ok(how),
             Ok(SessionStep::Waits) => {
@@ -95,6 +99,7 @@ fn serve_next<P: Perform, W: Sink, C: Clock>(
     alloc: Global,
     node: &mut P,
     requests: &mut RequestReader,
+    buffer: &mut FixedBuffer,
     writer: &mut W,
     clock: &mut C,
 ) -> Result<SessionStep, SessionFault>
@@ -105,8 +110,8 @@ fn serve_next<P: Perform, W: Sink, C: Clock>(
 {
     match requests.next() {
         Ok(None) => Ok(SessionStep::Waits),
-        Ok(Some(request)) => serve_request(alloc, node, writer, clock, request),
-        Err(refusal) => answer_refusal(refusal, writer),
+        Ok(Some(request)) => serve_request(alloc, node, buffer, writer, clock, request),
+        Err(refusal) => answer_refusal(refusal, buffer, writer),
     }
 }
 
@@ -115,6 +120,7 @@ fn serve_next<P: Perform, W: Sink, C: Clock>(
 fn serve_request<P: Perform, W: Sink, C: Clock>(
     alloc: Global,
     node: &mut P,
+    buffer: &mut FixedBuffer,
     writer: &mut W,
     clock: &mut C,
     request: Request,
@@ -127,7 +133,7 @@ fn serve_request<P: Perform, W: Sink, C: Clock>(
     }
     let silent = is_silent(&request);
     let reply = outcome(alloc, node, clock, request);
-    write_answer(answer_to(silent, reply), writer)?;
+    write_answer(answer_to(silent, reply), buffer, writer)?;
     Ok(SessionStep::Served)
 }
 

@@ -1,19 +1,17 @@
 //! One session over a stream of requests, whatever performs them: how it ends, what gets no answer, the answer to a
 //! refusal, reading a piece, and writing an answer.
-ghost use Rattle.std.specs.Prelude.{◌≡◌, ◌+◌, ◌<◌, ℕ, List, length, false, OnErr};
+ghost use Rattle.std.specs.Prelude.{◌≡◌, ◌+◌, ℕ, List, false, OnErr};
 ghost use Rattle.mr_text.specs.Source.{least_with};
 ghost use Rattle.mr_text.specs.Stream.{StandsFor, skips_line};
 ghost use Rattle.mr_node.specs.Output.{is_silent, reply_to_refusal};
-ghost use Rattle.mr_node.specs.Session.{PieceIs, WritesAnswer, AnswersRefusal};
+ghost use Rattle.mr_node.specs.Session.{PieceIs, WritesAnswer, AnswersRefusal, read_length};
 
 use crate::ended::Ended;
 use mr_text::{
-    Cause, Reply, Request, RequestReader, Sink, Source, TextError, WriteFault, write_reply,
+    Cause, FixedBuffer, Reply, Request, RequestReader, Sink, Source, TextError, WriteFault,
+    send_reply,
 };
 use thiserror::Error;
-
-/// How many bytes there is room for in each read.
-pub const READ_LENGTH: usize = 4096;
 
 /// Why a session ended early.
 #[derive(Clone, Copy, Debug, PartialEq, Eq, Error)]
@@ -43,32 +41,32 @@ pub enum SessionStep {
     Ends(Ended),
 }
 
-/// Reads once and hands what came to the reader of requests. Whether it was the end of the input.
+/// Reads once, into the buffer, and hands what came to the reader of requests. Whether it was the end of the input.
 ///
 /// ReadFault where the source failed. OutOfMemory where there was none for what came, which is lost then. Either leaves
 /// the reader of requests as it was.
 pub fn read_piece<S: Source>(
     reader: &mut S,
     requests: &mut RequestReader,
-    buffer: &mut [u8],
+    buffer: &mut FixedBuffer,
 ) -> Result<bool, SessionFault>
-    requires room { 0 < length buffer.old }
     requires not_ended { requests.old.ended ≡ false }
     requires not_closed { requests.old.closed ≡ false }
     ensures once { (S.told reader.new).reads ≡ (S.told reader.old).reads + 1 }
-    ensures offered { (S.told reader.new).least_room ≡ least_with (S.told reader.old).least_room (length buffer.old) }
+    ensures offered { (S.told reader.new).least_room ≡ least_with (S.told reader.old).least_room read_length }
     ensures piece { (rest : List ℕ) → StandsFor requests.old rest
-        → PieceIs (length buffer.old) rest requests.new (S.told reader.old) result (S.told reader.new) }
+        → PieceIs read_length rest requests.new (S.told reader.old) result (S.told reader.new) }
     ensures unfed { OnErr result (requests.new ≡ requests.old) }
 {
-    let Ok(count) = reader.read(buffer) else {
+    if buffer.fill(reader).is_err() {
         return Err(SessionFault::ReadFault);
-    };
-    if count == 0 {
+    }
+    let piece = buffer.as_slice();
+    if piece.is_empty() {
         requests.end();
         return Ok(true);
     }
-    match requests.feed(&buffer[..count]) {
+    match requests.feed(piece) {
         Ok(()) => Ok(false),
         Err(_) => Err(SessionFault::OutOfMemory),
     }
@@ -116,6 +114,7 @@ pub fn skips_line(refusal: TextError) -> bool
 /// OutOfMemory, without an answer, where memory for the request was refused. WriteFault where the sink failed.
 pub fn answer_refusal<W: Sink>(
     refusal: TextError,
+    buffer: &mut FixedBuffer,
     writer: &mut W,
 ) -> Result<SessionStep, SessionFault>
     ensures { AnswersRefusal refusal (W.told writer.old) result (W.told writer.new) }
@@ -123,7 +122,7 @@ pub fn answer_refusal<W: Sink>(
     if refusal == TextError::OutOfMemory {
         return Err(SessionFault::OutOfMemory);
     }
-    write_answer(reply_to_refusal(refusal), writer)?;
+    write_answer(reply_to_refusal(refusal), buffer, writer)?;
     if skips_line(refusal) {
         Ok(SessionStep::Served)
     } else {
@@ -131,14 +130,18 @@ pub fn answer_refusal<W: Sink>(
     }
 }
 
-/// Writes an answer. Where there is none the sink isn't touched. WriteFault where the sink failed.
-pub fn write_answer<W: Sink>(answer: Option<Reply>, writer: &mut W) -> Result<(), SessionFault>
+/// Writes an answer, gathered in the buffer. Where there is none the sink isn't touched. WriteFault where the sink failed.
+pub fn write_answer<W: Sink>(
+    answer: Option<Reply>,
+    buffer: &mut FixedBuffer,
+    writer: &mut W,
+) -> Result<(), SessionFault>
     ensures { WritesAnswer answer (W.told writer.old) result (W.told writer.new) }
 {
     let Some(reply) = answer else {
         return Ok(());
     };
-    match write_reply(&reply, writer) {
+    match send_reply(&reply, buffer, writer) {
         Ok(()) => Ok(()),
         Err(WriteFault) => Err(SessionFault::WriteFault),
     }

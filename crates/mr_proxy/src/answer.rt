@@ -9,7 +9,7 @@ use crate::pending::Pending;
 use crate::slot::Slot;
 use crate::writing::write_joined;
 use mr_history::OpId;
-use mr_text::{Reply, Request, Sink, WriteFault};
+use mr_text::{FixedBuffer, Reply, Request, Sink, WriteFault};
 use std::alloc::AllocError;
 use std::marker::Model;
 
@@ -89,7 +89,17 @@ impl Answer {
         ensures calls { TakesFewCalls (canonical_reply (reply_of self.now))
             (parts_of_reply (reply_of self.now)) (W.told writer.old) (W.told writer.new) }
     {
-        write_joined(self.pending.request(), self.pending.slots(), writer)
+        self.send(&mut FixedBuffer::new(), writer)
+    }
+
+    /// Writes what the client is told, as `write` does, through a buffer that is lent to it. What stands in that before is
+    /// forgotten.
+    pub fn send<W: Sink>(&self, buffer: &mut FixedBuffer, writer: &mut W) -> Result<(), WriteFault>
+        ensures text { Writes (canonical_reply (reply_of self.now)) (W.told writer.old) result (W.told writer.new) }
+        ensures calls { TakesFewCalls (canonical_reply (reply_of self.now))
+            (parts_of_reply (reply_of self.now)) (W.told writer.old) (W.told writer.new) }
+    {
+        write_joined(self.pending.request(), self.pending.slots(), buffer, writer)
     }
 
     /// What the client is told. It takes no memory: the room was made at the issue.

@@ -11,15 +11,16 @@ use crate::join::place_of_worst;
 use crate::slot::{LOST, Slot};
 use mr_join::LegReply;
 use mr_text::{
-    Cause, FixedBuffer, Key, Reply, Request, Sink, WriteFault, put_end, put_item, write_reply,
-    write_server_error,
+    Cause, FixedBuffer, Key, Reply, Request, Sink, WriteFault, put_end, put_item, send_reply,
+    send_server_error,
 };
 
-/// Writes the joined reply of the legs of a request.
+/// Writes the joined reply of the legs of a request, through a buffer that is lent to it.
 #[tactic(auto, using(crate::proofs::JoinLemmas::found_by_worst, crate::proofs::JoinLemmas::failed_by_worst))]
 pub(crate) fn write_joined<W: Sink>(
     request: &Request,
     slots: &[Slot],
+    buffer: &mut FixedBuffer,
     writer: &mut W,
 ) -> Result<(), WriteFault>
     requires { 1 ≤ length slots.now }
@@ -31,21 +32,26 @@ pub(crate) fn write_joined<W: Sink>(
     let worst = &slots[place_of_worst(slots)];
     match request {
         Request::Get { keys } if !worst.has_failed() => {
-            write_found(keys.as_slice(), slots, writer)
+            write_found(keys.as_slice(), slots, buffer, writer)
         }
-        _ => write_outcome(worst.outcome(&LOST), writer),
+        _ => write_outcome(worst.outcome(&LOST), buffer, writer),
     }
 }
 
 /// The items that the legs of these keys found.
-fn write_found<W: Sink>(keys: &[Key], slots: &[Slot], writer: &mut W) -> Result<(), WriteFault>
+fn write_found<W: Sink>(
+    keys: &[Key],
+    slots: &[Slot],
+    buffer: &mut FixedBuffer,
+    writer: &mut W,
+) -> Result<(), WriteFault>
     ensures text { Writes (canonical_reply (Items (hits_of keys.now (map reply_of_slot slots.now))))
         (W.told writer.old) result (W.told writer.new) }
     ensures calls { TakesFewCalls (canonical_reply (Items (hits_of keys.now (map reply_of_slot slots.now))))
         (length (hits_of keys.now (map reply_of_slot slots.now))) (W.told writer.old) (W.told writer.new) }
 {
-    let mut buffer = FixedBuffer::new();
-    put_found(keys, slots, &mut buffer, writer)?;
+    buffer.clear();
+    put_found(keys, slots, buffer, writer)?;
     buffer.send(writer)
 }
 
@@ -107,16 +113,20 @@ fn put_hit<W: Sink>(
 
 /// The reply to a set or a delete whose worst leg came to this, or to a get that failed by it.
 #[tactic(auto, using(crate::proofs::WritingLemmas::parts_by))]
-fn write_outcome<W: Sink>(outcome: &LegReply, writer: &mut W) -> Result<(), WriteFault>
+fn write_outcome<W: Sink>(
+    outcome: &LegReply,
+    buffer: &mut FixedBuffer,
+    writer: &mut W,
+) -> Result<(), WriteFault>
     ensures text { Writes (canonical_reply (reply_by outcome.now)) (W.told writer.old) result (W.told writer.new) }
     ensures calls { TakesFewCalls (canonical_reply (reply_by outcome.now))
         (parts_of_reply (reply_by outcome.now)) (W.told writer.old) (W.told writer.new) }
 {
     match outcome {
-        LegReply::Stored => write_reply(&Reply::Stored, writer),
-        LegReply::Deleted => write_reply(&Reply::Deleted, writer),
-        LegReply::NotFound => write_reply(&Reply::NotFound, writer),
-        LegReply::Failed(cause) => write_server_error(cause, writer),
-        LegReply::Hit { .. } | LegReply::Miss => write_server_error(&Cause::LegLost, writer),
+        LegReply::Stored => send_reply(&Reply::Stored, buffer, writer),
+        LegReply::Deleted => send_reply(&Reply::Deleted, buffer, writer),
+        LegReply::NotFound => send_reply(&Reply::NotFound, buffer, writer),
+        LegReply::Failed(cause) => send_server_error(cause, buffer, writer),
+        LegReply::Hit { .. } | LegReply::Miss => send_server_error(&Cause::LegLost, buffer, writer),
     }
 }

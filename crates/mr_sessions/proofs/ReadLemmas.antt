@@ -1,18 +1,26 @@
 -- What reads brought so far.
-use Rattle.std.proofs.Common.{◌≡◌, ◌∙◌, ℕ, ◌+◌, ◌≤◌, List, [], ◌++◌, true, false, Option, Some, None, Result, Ok, Err, refl, sym, ap, subst, inl, inr, arith, append_assoc}
+use Rattle.std.proofs.Common.{◌≡◌, ◌∙◌, ℕ, ◌+◌, ◌<◌, ◌≤◌, ◌⊎◌, Bool, List, [], ◌++◌, true, false, Option, Some, None, Result, Ok, Err, refl, sym, ap, subst, inl, inr, arith, append_assoc}
 use Rattle.std.proofs.KnownBytes.{Consumes-nil, Consumes-trans}
 use Rattle.std.proofs.lemmas.List.{append-nil}
-use Rattle.mr_text.specs.Replies.{SpellsReply, RefusesReply, SkipsNone, is_no_last}
+use Rattle.mr_text.specs.Replies.{SpellsReply, RefusesReply, HoldsReply, HoldsPartOfReply, MayWantMemory, NextReplyIs}
 use Rattle.mr_text.specs.Source.{SourceView, AreOffered, least_with}
 use Rattle.mr_text.specs.Stream.{ReaderView, BeginsWith, Becomes}
-use Rattle.mr_text.specs.Stream.{NextIs as TextNextIs}
 use Rattle.mr_text.specs.declared.error.TextError.{TextError}
 use Rattle.mr_text.specs.declared.error.TextError.TheVariants.{LineTooLong, BadKey, BadNumber, WrongWords, DataTooLong, BadDataEnd, UnknownCommand, Truncated, Closed, OutOfMemory as NoMemory}
 use Rattle.mr_text.specs.declared.reply.Reply.{Reply}
 use Rattle.mr_desks.specs.declared.error.WorkerError.{WorkerError}
 use Rattle.mr_desks.specs.declared.error.WorkerError.TheVariants.{LinkBroken, Mismatch, BookDiffers, ReadFault, WriteFault, TurnsSpent, OutOfMemory, NoThread}
-use Rattle.mr_sessions.specs.Reading.{NeedsMore, HoldsReply, BringsPiece, Brings, HasBrought, HasNoReply, read_length}
+use Rattle.mr_sessions.specs.Reading.{NeedsMore, BringsPiece, Brings, HasBrought, HasNoReply, read_length}
 use Rattle.mr_sessions.specs.steps.Reading.{IsOpen, ReplyIs, NextIs, ReplyPieceIs, fault_of}
+
+-- what memory is wanted for
+wanted : (ended : Bool) (bytes : List ℕ) → MayWantMemory ended bytes → HoldsReply bytes ⊎ HoldsPartOfReply bytes
+wanted ended bytes (inl whole) = inl whole
+wanted ended bytes (inr part) = inr part.1
+
+at_least : (bytes : List ℕ) (More : Type 0) → HoldsReply bytes ⊎ HoldsPartOfReply bytes → HoldsReply bytes ⊎ HoldsPartOfReply bytes ⊎ More
+at_least bytes More (inl whole) = inl whole
+at_least bytes More (inr part) = inr (inl part)
 
 -- one more read is offered as much
 still_offered : (least room : ℕ) (old new : Option ℕ) → least ≤ room → AreOffered least old → new ≡ least_with old room → AreOffered least new
@@ -24,7 +32,7 @@ module _ (old new : ReaderView) where
   refused : (refusal : TextError) → RefusesReply refusal old.kept → (other : TextError) × RefusesReply other old.kept
   refused refusal is = (refusal, is)
 
-  pub next_refused : (refusal : TextError) → IsOpen old → TextNextIs SpellsReply RefusesReply SkipsNone is_no_last old new old.kept (Err refusal)
+  pub next_refused : (refusal : TextError) → IsOpen old → NextReplyIs old new old.kept (Err refusal)
       → NextIs old.kept (Err (fault_of refusal)) new
   next_refused LineTooLong going is = refused LineTooLong is.1
   next_refused BadKey going is = refused BadKey is.1
@@ -36,7 +44,14 @@ module _ (old new : ReaderView) where
   next_refused (UnknownCommand false) going is = absurd is.2
   next_refused Truncated going is = (let unended = going.0 in let ended = is.1 in let both : true ≡ false = sym ended ∙ unended in cc)
   next_refused Closed going is = (let unclosed = going.1 in let closed = is.0 in let both : true ≡ false = sym closed ∙ unclosed in cc)
-  next_refused NoMemory going is = (is.1, is.2, is.3)
+  next_refused NoMemory going is = wanted old.ended old.kept is.1
+
+  -- an answer that is no refusal
+  pub next_given : (found : Option Reply) → IsOpen old → NextReplyIs old new old.kept (Ok found) → NextIs old.kept (Ok found) new
+  next_given (Some reply) going is =
+      (subst (BeginsWith SpellsReply old.kept reply) (sym is.3.stands) is.2, (is.3.is_ended ∙ going.0, is.3.is_closed))
+  next_given None going is =
+      (is.1, record { stands = is.3.stands; is_ended = is.3.is_ended ∙ going.0; is_closed = is.3.is_closed })
 
 -- reading under way: what came so far, and what is kept
 pub record Reading (turns : ℕ) (kept : List ℕ) (old : SourceView) (turns_left : ℕ) (replies : ReaderView) (now : SourceView) : Type 0 where
@@ -117,7 +132,7 @@ module _ (turns : ℕ) (kept : List ℕ) (old : SourceView) where
     reading_stops OutOfMemory replies' new last = record {
       came = so.came ++ last.0;
       brought = brought_more so.came last.0 now new so.brought needs allowed_more last.1;
-      wanted = inr (let once = last.1.once in let before = so.brought.counted in omega arith);
+      wanted = inr (inr (let once = last.1.once in let before = so.brought.counted in omega arith));
     }
     reading_stops Mismatch replies' new last = absurd last
     reading_stops BookDiffers replies' new last = absurd last
@@ -154,7 +169,7 @@ module _ (turns : ℕ) (kept : List ℕ) (old : SourceView) where
     no_reply OutOfMemory replies' next = record {
       came = so.came;
       brought = so.brought;
-      wanted = inl (subst HoldsReply so.becomes.stands next);
+      wanted = at_least (kept ++ so.came) (old.reads < now.reads) (subst (λ (s : List ℕ). HoldsReply s ⊎ HoldsPartOfReply s) so.becomes.stands next);
     }
     no_reply LinkBroken replies' next = absurd next
     no_reply BookDiffers replies' next = absurd next

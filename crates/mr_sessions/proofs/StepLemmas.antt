@@ -13,7 +13,7 @@ use Rattle.mr_node.specs.declared.session.SessionFault.{SessionFault}
 use Rattle.mr_node.specs.declared.session.SessionFault.TheVariants as fault
 use Rattle.mr_node.specs.declared.session.SessionStep.{SessionStep}
 use Rattle.mr_node.specs.declared.session.SessionStep.TheVariants.{Served}
-use Rattle.mr_node.proofs.ServiceLemmas.{step_of_request, step_of_refusal}
+use Rattle.mr_node.proofs.ServiceLemmas.{some_bytes, step_of_request, step_of_refusal}
 use Rattle.mr_node.proofs.SessionLemmas.{UnderWay, stepped, step_fails}
 use Rattle.mr_desks.specs.declared.error.WorkerError.{WorkerError}
 use Rattle.mr_desks.specs.declared.error.WorkerError.TheVariants.{LinkBroken, Mismatch, BookDiffers, ReadFault, WriteFault, TurnsSpent, OutOfMemory, NoThread}
@@ -62,7 +62,7 @@ module _ {C P : Type 0} (rules : ClientRules C P) where
         → ClientStepIs rules before after old.ended rest new result
     client_step request (Ok step) next is = step_of_request rules.Answered rest old new before after request (Ok step) next is
     client_step request (Err WriteFault) next is = step_of_request rules.Answered rest old new before after request (Err fault.WriteFault) next is
-    client_step request (Err OutOfMemory) next is = inl (refl, is)
+    client_step request (Err OutOfMemory) next is = inl (refl, is, some_bytes rest next.1 request next.2)
     client_step request (Err BookDiffers) next is =
         (request, next.2.spelling, next.1, next.2.splits, next.2.spells, is.0, is.1, is.2)
     client_step request (Err LinkBroken) next is = absurd is

@@ -135,7 +135,9 @@ module _ {K : Type 0} (reads : ClockRelation K) (failures : K → ℕ) (gave : G
       subst (AddsUp recorded first 0) (sym is.6) (serves_sum reader reader' old is.2 is.0 is.3 sum)
   session_sum reader reader' old new (Err ReadFault) is sum = serves_sum reader reader' old new is.0 is.1 sum
   session_sum reader reader' old new (Err TurnsSpent) is sum = serves_sum reader reader' old new is.0 is.1 sum
-  session_sum reader reader' old new (Err OutOfMemory) is sum = serves_sum reader reader' old new is.0 is.1 sum
+  session_sum reader reader' old new (Err OutOfMemory) (inl none) sum =
+      subst (AddsUp recorded first 0) (sym (ap (λ (s : Station K Account). s.node) none.idle)) sum
+  session_sum reader reader' old new (Err OutOfMemory) (inr stop) sum = serves_sum reader reader' old new stop.rest stop.serves sum
   session_sum reader reader' old new (Err WriteFault) (rest, between, so, inl next) sum =
       adds_exchange between new next.0 next.5 (serves_sum reader reader' old between rest so sum)
   session_sum reader reader' old new (Err WriteFault) (rest, between, so, inr next) sum =

@@ -1,11 +1,10 @@
 -- What is read of a node's stream until its next reply is whole.
 use Rattle.std.specs.Prelude.{◌≡◌, ℕ, ◌+◌, ◌<◌, ◌≤◌, ◌⊎◌, List, [], ◌++◌, length}
 use Rattle.std.specs.Io.KnownBytes.{Consumes, Keeps, IsAtEnd}
-use Rattle.mr_text.specs.Replies.{SpellsReply, RefusesReply}
+use Rattle.mr_text.specs.Replies.{SpellsReply, RefusesReply, HoldsReply, HoldsPartOfReply}
 use Rattle.mr_text.specs.Source.{SourceView, AreOffered, least_with}
-use Rattle.mr_text.specs.Stream.{BeginsWith, IsUnfinished}
+use Rattle.mr_text.specs.Stream.{IsUnfinished}
 use Rattle.mr_text.specs.declared.error.TextError.{TextError}
-use Rattle.mr_text.specs.declared.reply.Reply.{Reply}
 use Rattle.mr_node.specs.Session.{read_length as room_of_read}
 use Rattle.mr_desks.specs.declared.error.WorkerError.{WorkerError}
 use Rattle.mr_desks.specs.declared.error.WorkerError.TheVariants.{LinkBroken, Mismatch, ReadFault, TurnsSpent, OutOfMemory}
@@ -86,15 +85,11 @@ pub record BringsNoReply (turns : ℕ) (kept : List ℕ) (old new : SourceView) 
   pub refusal : TextError
   pub refused : RefusesReply refusal (kept ++ came)
 
--- a reply is whole at the front of the bytes
-abbrev pub HoldsReply : List ℕ → Type 0
-HoldsReply bytes = (reply : Reply) × (after : List ℕ) × BeginsWith SpellsReply bytes reply after
-
--- there was no memory for a reply that is whole, or for what a read brought
+-- there was no memory for a reply that is whole, for an item of one that isn't yet, or for what a read brought
 pub record NeedsMemory (turns : ℕ) (kept : List ℕ) (old new : SourceView) : Type 0 where
   pub came : List ℕ
   pub brought : HasBrought turns kept came old new
-  pub wanted : HoldsReply (kept ++ came) ⊎ (old.reads < new.reads)
+  pub wanted : HoldsReply (kept ++ came) ⊎ HoldsPartOfReply (kept ++ came) ⊎ (old.reads < new.reads)
 
 -- why there is no reply
 abbrev pub HasNoReply : ℕ → List ℕ → SourceView → WorkerError → SourceView → Type 0

@@ -10,25 +10,29 @@ ghost use Rattle.mr_desks.specs.declared.error.WorkerError.TheVariants.{Mismatch
 use mr_desks::WorkerError;
 use mr_join::LegReply;
 use mr_node::NodeCommand;
-use mr_text::{Cause, ItemList, Key, Reply, Sink, WriteFault, write_delete, write_get, write_set};
+use mr_text::{
+    Cause, FixedBuffer, ItemList, Key, Reply, Sink, WriteFault, send_delete, send_get, send_set,
+};
 
-/// Writes the request of a command, which wants an answer, as `mr_text` writes requests. The command isn't copied.
+/// Writes the request of a command, which wants an answer, as `mr_text` writes requests: gathered in the buffer. The command
+/// isn't copied.
 pub(crate) fn write_command<W: Sink>(
     command: &NodeCommand,
+    buffer: &mut FixedBuffer,
     writer: &mut W,
 ) -> Result<(), WriteFault>
     ensures text { Writes (text_for command.now) (W.told writer.old) result (W.told writer.new) }
     ensures calls { TakesFewCalls (text_for command.now) 1 (W.told writer.old) (W.told writer.new) }
 {
     match command {
-        NodeCommand::Get(key) => write_get(key, writer),
+        NodeCommand::Get(key) => send_get(key, buffer, writer),
         NodeCommand::Set {
             key,
             flags,
             exptime,
             block,
-        } => write_set(key, *flags, *exptime, block, writer),
-        NodeCommand::Delete(key) => write_delete(key, writer),
+        } => send_set(key, *flags, *exptime, block, buffer, writer),
+        NodeCommand::Delete(key) => send_delete(key, buffer, writer),
     }
 }
 

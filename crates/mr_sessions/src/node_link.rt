@@ -1,5 +1,5 @@
 //! A carrier that reaches its node by a stream.
-ghost use Rattle.std.specs.Prelude.{◌≡◌, ◌+◌, Some, None, IfOk, MatchResult};
+ghost use Rattle.std.specs.Prelude.{◌≡◌, ◌+◌, true, is_some, Some, None, IfOk, MatchResult};
 ghost use Rattle.mr_sessions.specs.Link.{HasCarried, IsNotCarried, LinkCarries, new_link};
 ghost use Rattle.mr_desks.specs.Local.{IsReplyOfKind};
 
@@ -7,15 +7,18 @@ use crate::exchange::exchange;
 use mr_desks::{Carrier, WorkerError};
 use mr_join::LegReply;
 use mr_proxy::LegSheet;
-use mr_text::{GhostCount, ReplyReader, Sink, Source};
+use mr_text::{FixedBuffer, GhostCount, ReplyReader, Sink, Source};
 use std::alloc::Global;
 use std::marker::Model;
 
 /// A link to one node, which carries one leg at a time: it writes the leg's request, and reads the reply that stands next.
-/// After its first fault it is broken for good, and no more is written or read.
+/// After its first fault it is broken for good, and no more is written or read. At its first leg it makes the one buffer that
+/// serves for all its writes and reads, and it keeps that until a fault breaks it.
 pub struct NodeLink<S: Source, W: Sink> {
     reader: S,
     writer: W,
+    alloc: Global,
+    buffer: Option<Box<FixedBuffer>>,
     replies: ReplyReader,
     turns: u64,
     broken: bool,
@@ -27,6 +30,8 @@ impl<S: Source + Drop, W: Sink + Drop> Drop for NodeLink<S, W> {
         let Self {
             reader: _,
             writer: _,
+            alloc: _,
+            buffer: _,
             replies: _,
             turns: _,
             broken: _,
@@ -36,7 +41,7 @@ impl<S: Source + Drop, W: Sink + Drop> Drop for NodeLink<S, W> {
 }
 
 impl<S: Source, W: Sink> Model for NodeLink<S, W> {
-    ghost use Rattle.std.specs.Prelude.{◌≡◌, false};
+    ghost use Rattle.std.specs.Prelude.{◌≡◌, false, is_some};
     ghost use Rattle.mr_sessions.specs.Exchange.{wire};
     ghost use Rattle.mr_sessions.specs.Link.{LinkView};
     ghost use Rattle.mr_sessions.specs.steps.Reading.{IsOpen};
@@ -46,11 +51,23 @@ impl<S: Source, W: Sink> Model for NodeLink<S, W> {
     ghost view = { λ l. record {
       wire = wire (S.told l.reader) (W.told l.writer) l.replies.kept;
       turns = l.turns;
+      has_buffer = is_some l.buffer;
       broken = l.broken;
       faults = l.faults;
     } };
 
     ghost invariant = { λ l. l.broken ≡ false → IsOpen l.replies };
+}
+
+/// The buffer that is kept, taken out; a new one where there is none. None where memory for that is refused.
+fn take_or_make(alloc: Global, kept: &mut Option<Box<FixedBuffer>>) -> Option<Box<FixedBuffer>>
+    ensures taken { kept.new ≡ None }
+    ensures kept { is_some kept.old ≡ true → is_some result ≡ true }
+{
+    match kept.take() {
+        Some(buffer) => Some(buffer),
+        None => Box::new(alloc, FixedBuffer::new()).ok(),
+    }
 }
 
 impl<S: Source, W: Sink> NodeLink<S, W> {
@@ -62,6 +79,8 @@ impl<S: Source, W: Sink> NodeLink<S, W> {
         NodeLink {
             reader,
             writer,
+            alloc,
+            buffer: None,
             replies: ReplyReader::new(alloc),
             turns,
             broken: false,
@@ -84,6 +103,8 @@ impl<S: Source, W: Sink> NodeLink<S, W> {
         let NodeLink {
             reader,
             writer,
+            alloc: _,
+            buffer: _,
             replies: _,
             turns: _,
             broken: _,
@@ -107,7 +128,7 @@ impl<S: Source, W: Sink> Carrier for NodeLink<S, W> {
     /// WriteFault and ReadFault where that device failed. LinkBroken where the input ended before the reply or in it, and at
     /// each call after a fault, which touches neither device. Mismatch where what came is no reply, or no answer to the leg's
     /// command. TurnsSpent where one more read than `turns` would be needed. OutOfMemory where memory for the reply was
-    /// refused.
+    /// refused, or, at the first leg, for the buffer, and then nothing is written or read.
     fn carry(&mut self, sheet: &LegSheet) -> Result<LegReply, WorkerError>
         ensures gave { IfOk result (λ reply. IsReplyOfKind sheet.now reply) }
         ensures carries { MatchResult result
@@ -124,14 +145,23 @@ impl<S: Source, W: Sink> Carrier for NodeLink<S, W> {
             self.faults.add_one();
             return Err(WorkerError::LinkBroken);
         }
+        let Some(mut buffer) = take_or_make(self.alloc, &mut self.buffer) else {
+            self.broken = true;
+            self.faults.add_one();
+            return Err(WorkerError::OutOfMemory);
+        };
         match exchange(
             &mut self.reader,
             &mut self.writer,
             &mut self.replies,
+            &mut buffer,
             self.turns,
             &sheet.command,
         ) {
-            Ok(reply) => Ok(reply),
+            Ok(reply) => {
+                self.buffer = Some(buffer);
+                Ok(reply)
+            }
             Err(fault) => {
                 self.broken = true;
                 self.faults.add_one();

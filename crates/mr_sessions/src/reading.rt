@@ -1,26 +1,24 @@
 //! How the next reply of a node is read.
-ghost use Rattle.std.specs.Prelude.{◌≡◌, length};
-ghost use Rattle.mr_sessions.specs.Reading.{read_length};
+ghost use Rattle.std.specs.Prelude.{◌≡◌};
 ghost use Rattle.mr_sessions.specs.steps.Reading.{IsOpen, NextIs, ReplyPieceIs, ReplyIs, fault_of};
 
 use mr_desks::WorkerError;
-use mr_node::READ_LENGTH;
-use mr_text::{Reply, ReplyReader, Source, TextError};
+use mr_text::{FixedBuffer, Reply, ReplyReader, Source, TextError};
 
-/// The reply that stands next: in what was kept of earlier reads, or behind it in at most `turns` reads more. What comes
-/// behind it is kept.
+/// The reply that stands next: in what was kept of earlier reads, or behind it in at most `turns` reads more, into the
+/// buffer. What comes behind it is kept.
 ///
 /// Mismatch where no reply stands there, LinkBroken at the end of the input, ReadFault where a read failed, TurnsSpent where
 /// one more read would be needed, OutOfMemory where memory for the reply was refused.
 pub(crate) fn read_reply<S: Source>(
     reader: &mut S,
     replies: &mut ReplyReader,
+    buffer: &mut FixedBuffer,
     turns: u64,
 ) -> Result<Reply, WorkerError>
     requires { IsOpen replies.old }
     ensures { ReplyIs turns replies.old.kept (S.told reader.old) result replies.new (S.told reader.new) }
 {
-    let mut buffer = [0; READ_LENGTH];
     let mut turns_left = turns;
     'reply: loop {
         if let Some(reply) = next_reply(replies)? {
@@ -30,7 +28,7 @@ pub(crate) fn read_reply<S: Source>(
             return Err(WorkerError::TurnsSpent);
         }
         turns_left -= 1;
-        feed_replies(reader, replies, &mut buffer)?;
+        feed_replies(reader, replies, buffer)?;
     }
 }
 
@@ -60,19 +58,19 @@ fn fault_of(refusal: TextError) -> WorkerError
 fn feed_replies<S: Source>(
     reader: &mut S,
     replies: &mut ReplyReader,
-    buffer: &mut [u8],
+    buffer: &mut FixedBuffer,
 ) -> Result<(), WorkerError>
-    requires room { length buffer.old ≡ read_length }
-    requires open { IsOpen replies.old }
+    requires { IsOpen replies.old }
     ensures { ReplyPieceIs replies.old.kept (S.told reader.old) result replies.new (S.told reader.new) }
 {
-    let Ok(count) = reader.read(buffer) else {
+    if buffer.fill(reader).is_err() {
         return Err(WorkerError::ReadFault);
-    };
-    if count == 0 {
+    }
+    let piece = buffer.as_slice();
+    if piece.is_empty() {
         return Err(WorkerError::LinkBroken);
     }
-    match replies.feed(&buffer[..count]) {
+    match replies.feed(piece) {
         Ok(()) => Ok(()),
         Err(_) => Err(WorkerError::OutOfMemory),
     }

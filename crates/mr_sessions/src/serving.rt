@@ -19,10 +19,10 @@ use crate::served::Served;
 use crate::session_log::SessionLog;
 use mr_clock::Clock;
 use mr_desks::{Carrier, Carriers, Desk, DeskError, WorkerError};
+use mr_node::Ended;
 use mr_node::session::{SessionStep, answer_refusal, is_silent, read_piece, write_answer};
-use mr_node::{Ended, READ_LENGTH};
 use mr_proxy::Answer;
-use mr_text::{Reply, Request, RequestReader, Sink, Source, TextError, WriteFault};
+use mr_text::{FixedBuffer, Reply, Request, RequestReader, Sink, Source, TextError, WriteFault};
 use std::alloc::Global;
 use std::sync::Wait;
 
@@ -30,6 +30,7 @@ use std::sync::Wait;
 fn write_unless_silent<W: Sink>(
     request: &Request,
     answer: &Answer,
+    buffer: &mut FixedBuffer,
     writer: &mut W,
 ) -> Result<(), WorkerError>
     ensures { AnsweredSo request.now (reply_of answer.now) (W.told writer.old) (W.told writer.new) result }
@@ -37,7 +38,7 @@ fn write_unless_silent<W: Sink>(
     if is_silent(request) {
         return Ok(());
     }
-    match answer.write(writer) {
+    match answer.send(buffer, writer) {
         Ok(()) => Ok(()),
         Err(WriteFault) => Err(WorkerError::WriteFault),
     }
@@ -47,6 +48,7 @@ fn write_unless_silent<W: Sink>(
 fn write_refusal<W: Sink>(
     request: &Request,
     refusal: DeskError,
+    buffer: &mut FixedBuffer,
     writer: &mut W,
 ) -> Result<(), WorkerError>
     requires { refusal ≢ DeskError.NoSuchOp }
@@ -58,7 +60,7 @@ fn write_refusal<W: Sink>(
     } else {
         Some(Reply::ServerError(cause))
     };
-    match write_answer(answer, writer) {
+    match write_answer(answer, buffer, writer) {
         Ok(()) => Ok(()),
         Err(fault) => Err(worker_error_of(fault)),
     }
@@ -85,12 +87,12 @@ fn ask<C: Carrier, D: Desk<C>, K: Clock, W: Sink, L: Carriers<C>, R: Wait>(
         request.now result }
 {
     match desk.issue(rt, &mut log.share, clock, request) {
-        Err(refusal) => write_refusal(request, refusal, writer),
+        Err(refusal) => write_refusal(request, refusal, &mut log.buffer, writer),
         Ok(issued) => {
             let Some(answer) = carry_request(rt, desk, carriers, log, request, issued) else {
                 return Err(WorkerError::BookDiffers);
             };
-            let written = write_unless_silent(request, &answer, writer);
+            let written = write_unless_silent(request, &answer, &mut log.buffer, writer);
             log.keep(desk.is_recorded(), answer);
             written
         }
@@ -126,10 +128,14 @@ fn answer_request<C: Carrier, D: Desk<C>, K: Clock, W: Sink, L: Carriers<C>, R: 
 
 /// Answers a refused request, if it gets an answer. Unless reading goes on behind it, it ends the session.
 #[tactic(auto, using(crate::proofs::StepLemmas::refused_told))]
-fn refuse<W: Sink>(refusal: TextError, writer: &mut W) -> Result<SessionStep, WorkerError>
+fn refuse<W: Sink>(
+    refusal: TextError,
+    buffer: &mut FixedBuffer,
+    writer: &mut W,
+) -> Result<SessionStep, WorkerError>
     ensures { ClientRefusalIs refusal (W.told writer.old) result (W.told writer.new) }
 {
-    match answer_refusal(refusal, writer) {
+    match answer_refusal(refusal, buffer, writer) {
         Ok(step) => Ok(step),
         Err(fault) => Err(worker_error_of(fault)),
     }
@@ -155,7 +161,7 @@ fn answer_next<C: Carrier, D: Desk<C>, K: Clock, W: Sink, L: Carriers<C>, R: Wai
     match requests.next() {
         Ok(None) => Ok(SessionStep::Waits),
         Ok(Some(request)) => answer_request(rt, desk, clock, writer, carriers, log, &request),
-        Err(refusal) => refuse(refusal, writer),
+        Err(refusal) => refuse(refusal, &mut log.buffer, writer),
     }
 }
 
@@ -179,7 +185,6 @@ fn serve_until_end<C: Carrier, D: Desk<C>, K: Clock, S: Source, W: Sink, L: Carr
     ensures counts { ClientCounts turns (S.told reader.old) (S.told reader.new) result }
 {
     let mut requests = RequestReader::new(alloc);
-    let mut buffer = [0; READ_LENGTH];
     let mut ended = false;
     let mut turns_left = turns;
     'session: loop {
@@ -194,7 +199,7 @@ fn serve_until_end<C: Carrier, D: Desk<C>, K: Clock, S: Source, W: Sink, L: Carr
                     return Err(WorkerError::TurnsSpent);
                 }
                 turns_left -= 1;
-                match read_piece(reader, &mut requests, &mut buffer) {
+                match read_piece(reader, &mut requests, &mut log.buffer) {
                     Ok(at_end) => ended = at_end,
                     Err(fault) => return Err(worker_error_of(fault)),
                 }
@@ -205,13 +210,15 @@ fn serve_until_end<C: Carrier, D: Desk<C>, K: Clock, S: Source, W: Sink, L: Carr
 
 /// Serves one client at a proxy that many threads share: reads a request, issues it, carries its legs, takes what comes back,
 /// and writes the answer, then the next, until the client quits, the input ends, or a request is refused after which nothing
-/// more can be read; the answer to that refusal is written first. At most `turns` reads are made.
+/// more can be read; the answer to that refusal is written first. At most `turns` reads are made. One buffer, made before the
+/// first read, serves for all reads and answers.
 ///
 /// A request whose issue is refused is answered by its cause. It is given up where a leg can't be sent, where none will come
 /// back, where memory for one that came is refused, and once all legs that the session sent came back without an answer.
 ///
-/// ReadFault and WriteFault where the reader or the writer failed; OutOfMemory where memory for reading, for keeping an answer
-/// or for noting where its legs go was refused; TurnsSpent where one more read would be needed; BookDiffers where a request
+/// ReadFault and WriteFault where the reader or the writer failed; OutOfMemory where the buffer couldn't be made, and then
+/// nothing was read or written, or where memory for what was read, for keeping an answer or for noting where its legs go was
+/// refused; TurnsSpent where one more read would be needed; BookDiffers where a request
 /// that was issued isn't under way when it is given up, or gets an answer that isn't its own. Whatever the end, the share and
 /// the answers so far are handed out.
 pub fn serve_client<C: Carrier, D: Desk<C>, K: Clock, S: Source, W: Sink, L: Carriers<C>, R: Wait>(
@@ -249,11 +256,21 @@ pub fn serve_client<C: Carrier, D: Desk<C>, K: Clock, S: Source, W: Sink, L: Car
     ensures no_write_fault { result.ended ≢ Err WorkerError.WriteFault
         → NoWriteFailed (W.told writer.old) (W.told writer.new) }
 {
+    let share = desk.share();
+    let answers = Vec::new(alloc);
+    let Ok(buffer) = Box::new(alloc, FixedBuffer::new()) else {
+        return Served {
+            ended: Err(WorkerError::OutOfMemory),
+            share,
+            answers,
+        };
+    };
     let mut log = SessionLog {
-        share: desk.share(),
-        answers: Vec::new(alloc),
+        share,
+        answers,
         legs_out: 0,
         destinations: Vec::new(alloc),
+        buffer,
     };
     let ended = serve_until_end(
         rt, alloc, desk, clock, reader, writer, carriers, &mut log, turns,
@@ -263,6 +280,7 @@ pub fn serve_client<C: Carrier, D: Desk<C>, K: Clock, S: Source, W: Sink, L: Car
         answers,
         legs_out: _,
         destinations: _,
+        buffer: _,
     } = log;
     Served {
         ended,

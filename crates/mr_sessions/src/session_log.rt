@@ -6,11 +6,11 @@ ghost use Rattle.mr_sessions.specs.steps.Destinations.{most_legs, destination_of
 use crate::destinations::{Destination, most_legs, note_destinations};
 use mr_desks::Share;
 use mr_proxy::{Answer, Leg};
-use mr_text::Request;
+use mr_text::{FixedBuffer, Request};
 use std::alloc::AllocError;
 
-/// What a session that runs keeps: the answers that it took so far, the counts of what it issued and sent, and where the
-/// legs of its last request went.
+/// What a session that runs keeps: the answers that it took so far, the counts of what it issued and sent, where the legs of
+/// its last request went, and the buffer by which it reads and writes.
 #[derive(Drop)]
 pub(crate) struct SessionLog {
     /// How many requests it issued.
@@ -21,6 +21,8 @@ pub(crate) struct SessionLog {
     pub(crate) legs_out: u64,
     /// Where the legs of its last request went, in order.
     pub(crate) destinations: Vec<Destination>,
+    /// What requests are read into and answers are gathered in.
+    pub(crate) buffer: Box<FixedBuffer>,
 }
 
 impl SessionLog {
@@ -29,7 +31,8 @@ impl SessionLog {
         ensures share { self.new.share ≡ self.old.share }
         ensures answers { self.new.answers.items ≡ self.old.answers.items }
         ensures legs { OnOk result (most_legs request.now ≤ vec_capacity self.new.destinations) }
-        ensures answer { OnOk result (recorded ≡ true → length self.new.answers.items + 1 ≤ vec_capacity self.new.answers) }
+        ensures answer { OnOk result (recorded ≡ true
+            → length self.new.answers.items + 1 ≤ vec_capacity self.new.answers) }
     {
         self.destinations.clear();
         self.destinations.reserve(most_legs(request))?;

@@ -3,5 +3,8 @@ pub mod Addresses
 pub mod Carriers
 pub mod Listener
 pub mod Runs
+pub mod SeededNode
+pub mod Seeds
 pub mod Servers
 pub mod SocketCarrier
+pub mod steps

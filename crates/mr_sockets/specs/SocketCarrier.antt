@@ -8,8 +8,7 @@ use Rattle.mr_text.specs.Sink.{SinkView}
 use Rattle.mr_text.specs.Source.{SourceView}
 use Rattle.mr_desks.specs.declared.error.WorkerError.{WorkerError}
 use Rattle.mr_desks.specs.declared.error.WorkerError.TheVariants.{LinkBroken}
-use Rattle.mr_sessions.specs.Exchange.{wire}
-use Rattle.mr_sessions.specs.Link.{LinkView, HasCarried, Breaks}
+use Rattle.mr_sessions.specs.Link.{LinkView, HasCarried, Breaks, new_link}
 use Rattle.mr_sockets.specs.Address.{IsNodeAddress}
 
 -- a connection that there is
@@ -52,7 +51,7 @@ unwritten_sink contents = record { written = []; handed = []; calls = 0; failure
 pub record IsNewLink (turns : ℕ) (link : LinkView) : Type 0 where
   pub left : Option (List ℕ)
   pub contents : Option (List ℕ)
-  pub new : link ≡ record { wire = wire (unread_source left) (unwritten_sink contents) []; turns = turns; broken = false; faults = 0 }
+  pub new : link ≡ new_link (unread_source left) (unwritten_sink contents) turns
 
 -- a new connection to this address
 pub record IsNewConnection (address : SocketAddrV4) (turns : ℕ) (connection : ConnectionView) : Type 0 where

@@ -1,7 +1,8 @@
 //! The addresses that names of nodes are.
-ghost use Rattle.std.specs.Prelude.{◌≡◌, ◌≢◌, ℕ, ◌<◌, ◌^◌, ◌⊎◌, true, false, length, slice_index, MatchOption, decimal};
+ghost use Rattle.std.specs.Prelude.{◌≡◌, ◌≢◌, true, false, length, slice_index, MatchOption, decimal};
 ghost use Rattle.std.specs.declared.net.ipv4_addr.Ipv4Addr.{Ipv4Addr};
 ghost use Rattle.mr_sockets.specs.Address.{IsHost, GivesAddress, GivesNodeAddress};
+ghost use Rattle.mr_sockets.specs.steps.Digits.{BeginsOddly, IsNoPort};
 
 use std::net::{Ipv4Addr, SocketAddrV4};
 
@@ -22,7 +23,7 @@ fn host_of(text: &str) -> Option<Ipv4Addr>
 fn begins_plainly(digits: &str) -> bool
     ensures sign { result ≡ true → slice_index digits.now 0 ≢ 43 }
     ensures zero { result ≡ true → slice_index digits.now 0 ≡ 48 → length digits.now ≡ 1 }
-    ensures others { result ≡ false → (slice_index digits.now 0 ≡ 43) ⊎ ((slice_index digits.now 0 ≡ 48) × (1 < length digits.now)) }
+    ensures others { result ≡ false → BeginsOddly digits.now }
 {
     match digits.as_bytes() {
         [b'+', ..] => false,
@@ -33,7 +34,7 @@ fn begins_plainly(digits: &str) -> bool
 
 /// The port whose decimal digits a text is: it has no sign and no leading zero.
 fn port_of(digits: &str) -> Option<u16>
-    ensures { MatchOption result ((port : ℕ) → port < 2 ^ 16 → ¬ (digits.now ≡ decimal port)) (λ port. digits.now ≡ decimal port) }
+    ensures { MatchOption result (IsNoPort digits.now) (λ port. digits.now ≡ decimal port) }
 {
     if !begins_plainly(digits) {
         return None;

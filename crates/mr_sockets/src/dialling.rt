@@ -3,9 +3,11 @@ ghost use Rattle.std.specs.Prelude.{◌≡◌, List, [], ◌∷◌, ◌++◌};
 ghost use Rattle.std.specs.declared.net.socket_addr.SocketAddrV4.{SocketAddrV4};
 
 use crate::addresses::GhostAddresses;
+use crate::patience::bound_waits;
 use std::io::{Read, Write};
 use std::marker::Model;
-use std::net::{Net, OpenStream, SocketAddrV4, TcpStream};
+use std::net::{Net, OpenStream, SocketAddr, SocketAddrV4, TcpStream};
+use std::time::Duration;
 
 /// What connections to nodes are made by, whose contract tells which addresses were dialled. Code that is generic over it gets
 /// a connection in no other way.
@@ -21,15 +23,21 @@ pub(crate) trait Dials {
         ensures { dialled self.new ≡ dialled self.old ++ address ∷ [] };
 }
 
-/// The sockets of a machine. The connections send small packets without delay.
+/// The sockets of a machine. The connections send small packets without delay. Connecting, and each of their reads and writes,
+/// waits so long at most, where that is bounded.
 pub(crate) struct HostDials<N: Net + Copy> {
     net: N,
+    wait: Option<Duration>,
     dialled: GhostAddresses,
 }
 
 impl<N: Net + Copy> Drop for HostDials<N> {
     fn drop(self) {
-        let Self { net: _, dialled: _ } = self;
+        let Self {
+            net: _,
+            wait: _,
+            dialled: _,
+        } = self;
     }
 }
 
@@ -46,11 +54,12 @@ impl<N: Net + Copy> HostDials<N> {
     ghost use Rattle.std.specs.Prelude.{◌≡◌, []};
 
     /// The sockets of this machine, by which nothing was dialled yet.
-    pub(crate) fn new(net: N) -> HostDials<N>
+    pub(crate) fn new(net: N, wait: Option<Duration>) -> HostDials<N>
         ensures { result ≡ [] }
     {
         HostDials {
             net,
+            wait,
             dialled: GhostAddresses::new(),
         }
     }
@@ -63,9 +72,14 @@ impl<N: Net + Copy> Dials for HostDials<N> {
 
     fn dial(&mut self, address: SocketAddrV4) -> Option<N::Stream> {
         self.dialled.add(address);
-        match TcpStream::connect(&self.net, address) {
+        let connected = match self.wait {
+            Some(wait) => TcpStream::connect_timeout(&self.net, &SocketAddr::V4(address), wait),
+            None => TcpStream::connect(&self.net, address),
+        };
+        match connected {
             Ok(stream) => {
                 let _ = stream.set_nodelay(true);
+                bound_waits(&stream, self.wait);
                 Some(stream)
             }
             Err(_) => None,

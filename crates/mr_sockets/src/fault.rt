@@ -9,3 +9,8 @@ pub enum OpenFault {
     #[error("no socket can be opened")]
     Net,
 }
+
+/// The machine gave no seed.
+#[derive(Clone, Copy, Debug, PartialEq, Eq, Error)]
+#[error("no seed can be had")]
+pub struct SeedFault;

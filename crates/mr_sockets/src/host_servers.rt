@@ -1,43 +1,60 @@
 //! The services of this machine.
 ghost use Rattle.std.specs.Prelude.{◌≡◌};
 ghost use Rattle.mr_proxy.specs.ProxyView.{IsFresh};
-ghost use Rattle.mr_sockets.specs.Servers.{IsOneService, NodeAt, ProxyAt};
+ghost use Rattle.mr_sockets.specs.Servers.{DrawsSeed, IsOneService, NodeAt, ProxyAt};
 
-use crate::fault::OpenFault;
+use crate::bounds::ServiceBounds;
+use crate::fault::{OpenFault, SeedFault};
 use crate::listening::{HostListens, open};
 use crate::node_service::run_node;
 use crate::proxy_service::run_proxy;
 use crate::runs::GhostRuns;
-use mr_node::CacheNode;
+use crate::seeded_node::SeededNode;
+use crate::seeds::GhostSeeds;
 use mr_pools::Routing;
 use mr_proxy::ProxyCore;
 use mr_text::GhostCount;
 use std::alloc::Global;
+use std::hash::RandomState;
 use std::marker::Model;
 use std::net::{Net, TcpListener, TcpStream};
+use std::random::RandomSource;
 use std::sync::Wait;
 use std::thread::Threads;
 use std::time;
 
-/// The sockets, the threads and the time of this machine, with what was asked of them and what ran as contracts see it.
+/// The sockets, the threads, the time and the random source of this machine, with what was asked of them and what ran as
+/// contracts see it.
 pub struct HostServers<
     'a,
-    R: Net<Listener = TcpListener, Stream = TcpStream> + Threads + Wait + time::Clock + Sync,
+    R: Net<Listener = TcpListener, Stream = TcpStream>
+        + Threads
+        + Wait
+        + time::Clock
+        + RandomSource
+        + Sync,
 > {
     rt: &'a R,
     listens: HostListens<'a, R>,
+    seeds: GhostSeeds,
     runs: GhostRuns,
     failures: GhostCount,
 }
 
 impl<
     'a,
-    R: Net<Listener = TcpListener, Stream = TcpStream> + Threads + Wait + time::Clock + Sync,
+    R: Net<Listener = TcpListener, Stream = TcpStream>
+        + Threads
+        + Wait
+        + time::Clock
+        + RandomSource
+        + Sync,
 > Drop for HostServers<'a, R> {
     fn drop(self) {
         let Self {
             rt: _,
             listens: _,
+            seeds: _,
             runs: _,
             failures: _,
         } = self;
@@ -46,30 +63,57 @@ impl<
 
 impl<
     'a,
-    R: Net<Listener = TcpListener, Stream = TcpStream> + Threads + Wait + time::Clock + Sync,
+    R: Net<Listener = TcpListener, Stream = TcpStream>
+        + Threads
+        + Wait
+        + time::Clock
+        + RandomSource
+        + Sync,
 > Model for HostServers<'a, R> {
     ghost use Rattle.mr_sockets.specs.Servers.{ServersView};
 
     ghost Value = { ServersView };
 
-    ghost view = { λ s. record { listened = s.listens; runs = s.runs; failures = s.failures } };
+    ghost view = { λ s. record { listened = s.listens; seeds = s.seeds; runs = s.runs; failures = s.failures } };
 }
 
 impl<
     'a,
-    R: Net<Listener = TcpListener, Stream = TcpStream> + Threads + Wait + time::Clock + Sync,
+    R: Net<Listener = TcpListener, Stream = TcpStream>
+        + Threads
+        + Wait
+        + time::Clock
+        + RandomSource
+        + Sync,
 > HostServers<'a, R> {
     ghost use Rattle.std.specs.Prelude.{[]};
 
-    /// The sockets, threads and time of a machine, of which nothing was asked yet.
+    /// The sockets, threads, time and random source of a machine, of which nothing was asked yet.
     pub fn new(rt: &'a R) -> HostServers<'a, R>
-        ensures { result ≡ record { listened = []; runs = []; failures = 0 } }
+        ensures { result ≡ record { listened = []; seeds = []; runs = []; failures = 0 } }
     {
         HostServers {
             rt,
             listens: HostListens::new(rt),
+            seeds: GhostSeeds::new(),
             runs: GhostRuns::new(),
             failures: GhostCount::new(),
+        }
+    }
+
+    /// A seed that nobody outside knows, drawn from the machine's random source.
+    pub fn draw_seed(&mut self) -> Result<RandomState, SeedFault>
+        ensures { DrawsSeed self.old result self.new }
+    {
+        match RandomState::new(self.rt) {
+            Ok(seed) => {
+                self.seeds.add(seed);
+                Ok(seed)
+            }
+            Err(_) => {
+                self.failures.add_one();
+                Err(SeedFault)
+            }
         }
     }
 
@@ -79,25 +123,17 @@ impl<
         &mut self,
         alloc: Global,
         listen: &str,
-        node: CacheNode,
-        clients: u64,
-        turns: u64,
+        node: SeededNode,
+        bounds: ServiceBounds,
     ) -> Result<u64, OpenFault>
-        ensures { IsOneService (NodeAt listen.now node clients turns) self.old result self.new }
+        ensures { IsOneService (NodeAt listen.now node bounds) self.old result self.new }
     {
-        let Some(listener) = open(&mut self.listens, listen) else {
+        let wait = bounds.patience.for_client();
+        let Some(listener) = open(&mut self.listens, listen, wait) else {
             self.failures.add_one();
             return Err(OpenFault::Net);
         };
-        let served = run_node(
-            self.rt,
-            alloc,
-            listener,
-            node,
-            clients,
-            turns,
-            &mut self.runs,
-        );
+        let served = run_node(self.rt, alloc, listener, node, bounds, &mut self.runs);
         Ok(served)
     }
 
@@ -110,13 +146,13 @@ impl<
         listen: &str,
         core: ProxyCore,
         routing: &Routing,
-        clients: u64,
-        turns: u64,
+        bounds: ServiceBounds,
     ) -> Result<u64, OpenFault>
         requires { IsFresh core }
-        ensures { IsOneService (ProxyAt listen.now core routing.now clients turns) self.old result self.new }
+        ensures { IsOneService (ProxyAt listen.now core routing.now bounds) self.old result self.new }
     {
-        let Some(listener) = open(&mut self.listens, listen) else {
+        let wait = bounds.patience.for_client();
+        let Some(listener) = open(&mut self.listens, listen, wait) else {
             self.failures.add_one();
             return Err(OpenFault::Net);
         };
@@ -126,8 +162,7 @@ impl<
             listener,
             core,
             routing,
-            clients,
-            turns,
+            bounds,
             &mut self.runs,
         );
         Ok(served)

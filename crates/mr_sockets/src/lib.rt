@@ -4,6 +4,7 @@
 
 mod address;
 mod addresses;
+mod bounds;
 mod carriers;
 mod connections;
 mod dialling;
@@ -13,16 +14,22 @@ pub mod laws;
 mod listener;
 mod listening;
 mod node_service;
+mod patience;
 mod proxy_service;
 mod runs;
+mod seeded_node;
+mod seeds;
 mod socket_carrier;
 mod tally;
 
 pub use address::{address_of, node_address};
+pub use bounds::ServiceBounds;
 pub use carriers::node_carriers;
-pub use fault::OpenFault;
+pub use fault::{OpenFault, SeedFault};
 pub use host_servers::HostServers;
 pub use listener::{AcceptFault, Listener, OverListener};
 pub use node_service::serve_node;
+pub use patience::Patience;
 pub use proxy_service::serve_proxy;
+pub use seeded_node::SeededNode;
 pub use socket_carrier::SocketCarrier;

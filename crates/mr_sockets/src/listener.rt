@@ -2,8 +2,10 @@
 ghost use Rattle.std.specs.Prelude.{◌≡◌, MatchResult};
 ghost use Rattle.mr_sockets.specs.Listener.{ListenerView, accepted_one, failed_once};
 
+use crate::patience::bound_waits;
 use mr_text::GhostCount;
 use std::net::{TcpListener, TcpStream};
+use std::time::Duration;
 use thiserror::Error;
 
 /// A connection couldn't be accepted.
@@ -24,10 +26,11 @@ pub trait Listener {
 }
 
 /// A socket of std that listens, as a `Listener`. Each call is one call of the socket. The connections send small packets
-/// without delay.
+/// without delay, and each of their reads and writes waits so long at most, where that is bounded.
 #[derive(Drop)]
 pub struct OverListener {
     inner: TcpListener,
+    wait: Option<Duration>,
     accepted: GhostCount,
     failures: GhostCount,
 }
@@ -39,8 +42,16 @@ impl OverListener {
     pub fn new(inner: TcpListener) -> OverListener
         ensures { ⟦<OverListener as Listener>⟧.told result ≡ record { accepted = 0; failures = 0 } }
     {
+        OverListener::within(inner, None)
+    }
+
+    /// The same, each of whose connections' reads and writes waits so long at most, where that is bounded.
+    pub fn within(inner: TcpListener, wait: Option<Duration>) -> OverListener
+        ensures { ⟦<OverListener as Listener>⟧.told result ≡ record { accepted = 0; failures = 0 } }
+    {
         OverListener {
             inner,
+            wait,
             accepted: GhostCount::new(),
             failures: GhostCount::new(),
         }
@@ -55,6 +66,7 @@ impl Listener for OverListener {
             Ok((stream, _)) => {
                 self.accepted.add_one();
                 let _ = stream.set_nodelay(true);
+                bound_waits(&stream, self.wait);
                 Ok(stream)
             }
             Err(_) => {

@@ -8,14 +8,16 @@ use crate::addresses::GhostAddresses;
 use crate::listener::OverListener;
 use std::marker::Model;
 use std::net::{Net, SocketAddrV4, TcpListener, TcpStream};
+use std::time::Duration;
 
 /// What sockets that listen are asked of, whose contract tells at which addresses.
 pub(crate) trait Listens {
     /// The addresses that a socket was asked to listen at, in order.
     ghost listened: { Self → List SocketAddrV4 };
 
-    /// A socket that listens at this address, at port 0 at any free one. None where the machine gives none there.
-    fn listen(&mut self, address: SocketAddrV4) -> Option<OverListener>
+    /// A socket that listens at this address, at port 0 at any free one, whose connections wait so long at most for their
+    /// clients, where that is bounded. None where the machine gives none there.
+    fn listen(&mut self, address: SocketAddrV4, wait: Option<Duration>) -> Option<OverListener>
         ensures { listened self.new ≡ listened self.old ++ address ∷ [] };
 }
 
@@ -60,19 +62,24 @@ impl<'a, R: Net<Listener = TcpListener, Stream = TcpStream>> HostListens<'a, R> 
 impl<'a, R: Net<Listener = TcpListener, Stream = TcpStream>> Listens for HostListens<'a, R> {
     ghost listened = { λ l. l };
 
-    fn listen(&mut self, address: SocketAddrV4) -> Option<OverListener> {
+    fn listen(&mut self, address: SocketAddrV4, wait: Option<Duration>) -> Option<OverListener> {
         self.listened.add(address);
         match TcpListener::bind(self.net, address) {
-            Ok(listener) => Some(OverListener::new(listener)),
+            Ok(listener) => Some(OverListener::within(listener, wait)),
             Err(_) => None,
         }
     }
 }
 
-/// A socket that listens at the address that a text is. None where it is no address, or where the machine gives none there.
-pub(crate) fn open<L: Listens>(listens: &mut L, text: &str) -> Option<OverListener>
+/// A socket that listens at the address that a text is, whose connections wait so long at most for their clients, where that is
+/// bounded. None where it is no address, or where the machine gives none there.
+pub(crate) fn open<L: Listens>(
+    listens: &mut L,
+    text: &str,
+    wait: Option<Duration>,
+) -> Option<OverListener>
     ensures { Opens text.now (L.listened listens.old) result (L.listened listens.new) }
 {
     let address = address_of(text)?;
-    listens.listen(address)
+    listens.listen(address, wait)
 }

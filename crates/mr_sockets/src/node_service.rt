@@ -3,12 +3,14 @@ ghost use Rattle.std.specs.Prelude.{◌≡◌, ◌+◌, ◌≤◌, Some, Err, []
 ghost use Rattle.mr_sockets.specs.Listener.{AreAccepted};
 ghost use Rattle.mr_sockets.specs.Servers.{NodeServing, run};
 
+use crate::bounds::ServiceBounds;
 use crate::connections::{Service, serve_connections};
 use crate::listener::{Listener, OverListener};
 use crate::runs::GhostRuns;
+use crate::seeded_node::SeededNode;
 use mr_clock::{Clock, SystemClock};
 use mr_desks::SharedNode;
-use mr_node::{CacheNode, Ended, NodeError, serve};
+use mr_node::{Ended, NodeError, serve};
 use mr_text::{OverReader, OverWriter, Sink, Source};
 use std::alloc::Global;
 use std::net::TcpStream;
@@ -22,7 +24,7 @@ struct NodeService<'a, K: Clock + Clone, R: Wait> {
     rt: &'a R,
     alloc: Global,
     node: &'a SharedNode,
-    began: &'a Option<Snapshot<CacheNode>>,
+    began: &'a Option<Snapshot<SeededNode>>,
     turns: u64,
     clock: &'a K,
 }
@@ -110,12 +112,12 @@ pub fn serve_node<
     serve_connections(rt, listener, &service, clients, &mut runs)
 }
 
-/// A cache, shared, with what it was at first.
-fn share(node: CacheNode) -> (SharedNode, Snapshot<CacheNode>)
+/// A node, shared, with what it was at first.
+fn share(node: SeededNode) -> (SharedNode, Snapshot<SeededNode>)
     ensures { result.1.value ≡ node }
 {
     let began = Snapshot::of(&node);
-    (SharedNode::new(node), began)
+    (SharedNode::new(node.into_cache()), began)
 }
 
 /// Serves a node at a socket of its own, by the machine's time, and gives how many of its clients ended without a fault.
@@ -123,13 +125,12 @@ pub(crate) fn run_node<R: Threads + Wait + time::Clock + Sync>(
     rt: &R,
     alloc: Global,
     listener: OverListener,
-    node: CacheNode,
-    clients: u64,
-    turns: u64,
+    node: SeededNode,
+    bounds: ServiceBounds,
     runs: &mut GhostRuns,
 ) -> u64
-    ensures among { result ≤ clients }
-    ensures ran { runs.new ≡ runs.old ++ run (NodeServing (Some node) turns) clients ∷ [] }
+    ensures among { result ≤ bounds.clients }
+    ensures ran { runs.new ≡ runs.old ++ run (NodeServing (Some node) bounds.turns) bounds.clients ∷ [] }
 {
     let (node, began) = share(node);
     let began = Some(began);
@@ -139,9 +140,9 @@ pub(crate) fn run_node<R: Threads + Wait + time::Clock + Sync>(
         alloc,
         node: &node,
         began: &began,
-        turns,
+        turns: bounds.turns,
         clock: &clock,
     };
-    let (_, served) = serve_connections(rt, listener, &service, clients, runs);
+    let (_, served) = serve_connections(rt, listener, &service, bounds.clients, runs);
     served
 }

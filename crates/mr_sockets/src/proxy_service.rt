@@ -5,9 +5,11 @@ ghost use Rattle.mr_desks.specs.declared.error.WorkerError.TheVariants.{TurnsSpe
 ghost use Rattle.mr_sockets.specs.Listener.{AreAccepted};
 ghost use Rattle.mr_sockets.specs.Servers.{ProxyServing, run};
 
+use crate::bounds::ServiceBounds;
 use crate::carriers::node_carriers;
 use crate::connections::{Service, serve_connections};
 use crate::listener::{Listener, OverListener};
+use crate::patience::{Patience, leg_wait};
 use crate::runs::GhostRuns;
 use crate::socket_carrier::SocketCarrier;
 use mr_clock::{Clock, SystemClock};
@@ -32,6 +34,7 @@ struct ProxyService<'a, N: Net + Copy, D: Desk<SocketCarrier<N>>, K: Clock + Clo
     began: &'a Option<Snapshot<ProxyCore>>,
     routing: &'a Routing,
     turns: u64,
+    leg_millis: u64,
     clock: &'a K,
 }
 
@@ -46,6 +49,7 @@ impl<'a, N: Net + Copy, D: Desk<SocketCarrier<N>>, K: Clock + Clone, R: Wait> Dr
             began: _,
             routing: _,
             turns: _,
+            leg_millis: _,
             clock: _,
         } = self;
     }
@@ -87,7 +91,8 @@ impl<'a, N: Net + Copy, D: Desk<SocketCarrier<N>>, K: Clock + Clone, R: Wait> Se
         let Ok(mut clock) = self.clock.clone() else {
             return false;
         };
-        let Ok(pools) = node_carriers(self.net, self.alloc, self.routing, self.turns) else {
+        let wait = leg_wait(self.leg_millis);
+        let Ok(pools) = node_carriers(self.net, self.alloc, self.routing, self.turns, wait) else {
             return false;
         };
         let mut carriers = DirectCarriers::new(self.alloc, pools);
@@ -97,6 +102,44 @@ impl<'a, N: Net + Copy, D: Desk<SocketCarrier<N>>, K: Clock + Clone, R: Wait> Se
             .ended
             .is_ok()
     }
+}
+
+/// Serves the proxy of a desk, as `serve_proxy` does, within these bounds, and notes that.
+fn serve_desk<
+    'a,
+    L: Listener + Drop,
+    N: Net<Listener = TcpListener, Stream = TcpStream> + Copy + Send + Sync,
+    D: Desk<SocketCarrier<N>> + Sync,
+    K: Clock + Clone + Sync,
+    R: Threads + Wait + time::Clock + Sync,
+>(
+    rt: &'a R,
+    alloc: Global,
+    net: N,
+    listener: L,
+    desk: &'a D,
+    began: &'a Option<Snapshot<ProxyCore>>,
+    routing: &'a Routing,
+    bounds: ServiceBounds,
+    clock: &'a K,
+    runs: &mut GhostRuns,
+) -> (L, u64)
+    ensures accepted { AreAccepted bounds.clients (L.told listener) result.1 (L.told result.0) }
+    ensures ran { runs.new ≡ runs.old
+        ++ run (ProxyServing (option_map (λ b. b.value) began.now) routing.now bounds.turns) bounds.clients ∷ [] }
+{
+    let service = ProxyService {
+        rt,
+        alloc,
+        net,
+        desk,
+        began,
+        routing,
+        turns: bounds.turns,
+        leg_millis: bounds.patience.leg_millis,
+        clock,
+    };
+    serve_connections(rt, listener, &service, bounds.clients, runs)
 }
 
 /// Serves a proxy to so many clients, as `mr_sessions` serves one: accepts their connections one after another, and serves
@@ -127,19 +170,16 @@ pub fn serve_proxy<
 ) -> (L, u64)
     ensures { AreAccepted clients (L.told listener) result.1 (L.told result.0) }
 {
-    let began = None;
-    let service = ProxyService {
-        rt,
-        alloc,
-        net,
-        desk,
-        began: &began,
-        routing,
+    let bounds = ServiceBounds {
+        clients,
         turns,
-        clock,
+        patience: Patience::ENDLESS,
     };
+    let began = None;
     let mut runs = GhostRuns::new();
-    serve_connections(rt, listener, &service, clients, &mut runs)
+    serve_desk(
+        rt, alloc, net, listener, desk, &began, routing, bounds, clock, &mut runs,
+    )
 }
 
 /// A fresh proxy, shared, with what it was at first.
@@ -161,27 +201,18 @@ pub(crate) fn run_proxy<
     listener: OverListener,
     core: ProxyCore,
     routing: &Routing,
-    clients: u64,
-    turns: u64,
+    bounds: ServiceBounds,
     runs: &mut GhostRuns,
 ) -> u64
     requires { IsFresh core }
-    ensures among { result ≤ clients }
-    ensures ran { runs.new ≡ runs.old ++ run (ProxyServing (Some core) routing.now turns) clients ∷ [] }
+    ensures among { result ≤ bounds.clients }
+    ensures ran { runs.new ≡ runs.old ++ run (ProxyServing (Some core) routing.now bounds.turns) bounds.clients ∷ [] }
 {
     let (desk, began) = share::<&R>(core);
     let began = Some(began);
     let clock = SystemClock::new(rt);
-    let service = ProxyService {
-        rt,
-        alloc,
-        net: rt,
-        desk: &desk,
-        began: &began,
-        routing,
-        turns,
-        clock: &clock,
-    };
-    let (_, served) = serve_connections(rt, listener, &service, clients, runs);
+    let (_, served) = serve_desk(
+        rt, alloc, rt, listener, &desk, &began, routing, bounds, &clock, runs,
+    );
     served
 }

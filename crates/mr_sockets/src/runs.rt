@@ -2,7 +2,7 @@
 ghost use Rattle.std.specs.Prelude.{◌≡◌, [], ◌∷◌, ◌++◌, option_map};
 ghost use Rattle.mr_sockets.specs.Servers.{NodeServing, ProxyServing, run};
 
-use mr_node::CacheNode;
+use crate::seeded_node::SeededNode;
 use mr_pools::Routing;
 use mr_proxy::ProxyCore;
 use std::marker::Model;
@@ -13,8 +13,8 @@ use std::snapshot::Snapshot;
 pub(crate) enum Runs {
     /// Nothing yet.
     Nothing,
-    /// A node: its cache as it was at first, the reads of each connection, and its clients.
-    Node(Snapshot<Runs>, Option<Snapshot<Snapshot<CacheNode>>>, Snapshot<u64>, Snapshot<u64>),
+    /// A node as it was at first, the reads of each connection, and its clients.
+    Node(Snapshot<Runs>, Option<Snapshot<Snapshot<SeededNode>>>, Snapshot<u64>, Snapshot<u64>),
     /// A proxy: its core as it was at first, the routing of its carriers, the reads of each connection, and its clients.
     Proxy(
         Snapshot<Runs>,
@@ -62,7 +62,12 @@ impl GhostRuns {
     }
 
     /// One more, of a node.
-    pub(crate) fn add_node(&mut self, began: &Option<Snapshot<CacheNode>>, turns: u64, clients: u64)
+    pub(crate) fn add_node(
+        &mut self,
+        began: &Option<Snapshot<SeededNode>>,
+        turns: u64,
+        clients: u64,
+    )
         ensures { self.new ≡ self.old ++ run (NodeServing (option_map (λ s. s.value) began.now) turns) clients ∷ [] }
     {
         let before = Snapshot::of(&self.runs);

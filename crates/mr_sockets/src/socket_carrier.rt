@@ -17,6 +17,7 @@ use std::io::{Read, Write};
 use std::marker::Model;
 use std::net::{Net, OpenStream, SocketAddrV4};
 use std::snapshot::Snapshot;
+use std::time::Duration;
 
 /// A connection, with the address that it was made to as contracts see it.
 struct Connection<S: Read + Write> {
@@ -188,7 +189,6 @@ fn carry_from<D: Dials>(
 
 impl<N: Net + Copy> SocketCarrier<N> {
     /// A carrier to the node of this name, which makes at most `turns` reads for a leg. It isn't connected yet.
-    #[tactic(auto, unfolding(crate::specs::SocketCarrier::fresh_carrier))]
     pub fn new(
         net: N,
         alloc: Global,
@@ -197,8 +197,23 @@ impl<N: Net + Copy> SocketCarrier<N> {
     ) -> Result<SocketCarrier<N>, AllocError>
         ensures { IfOk result (λ carrier. carrier ≡ fresh_carrier turns name.now) }
     {
+        SocketCarrier::within(net, alloc, name, turns, None)
+    }
+
+    /// The same, whose connecting, each of whose reads and each of whose writes wait so long at most, where that is bounded. A
+    /// leg that would wait longer isn't carried, as where the connection broke.
+    #[tactic(auto, unfolding(crate::specs::SocketCarrier::fresh_carrier))]
+    pub fn within(
+        net: N,
+        alloc: Global,
+        name: &NodeName,
+        turns: u64,
+        wait: Option<Duration>,
+    ) -> Result<SocketCarrier<N>, AllocError>
+        ensures { IfOk result (λ carrier. carrier ≡ fresh_carrier turns name.now) }
+    {
         Ok(SocketCarrier {
-            dials: HostDials::new(net),
+            dials: HostDials::new(net, wait),
             alloc,
             name: name.copy()?,
             turns,

@@ -43,7 +43,8 @@ impl Reader {
         }
     }
 
-    fn end(&mut self) {
+    /// Marks the end of its input.
+    pub fn end(&mut self) {
         match self {
             Reader::OfRequests(reader) => reader.end(),
             Reader::OfReplies(reader) => reader.end(),
@@ -119,7 +120,17 @@ pub fn add_answers(
     reader: &mut Reader,
     answers: &mut Vec<u8>,
 ) -> Result<bool, Fail> {
-    for _ in 0..16 {
+    add_some_answers(alloc, reader, 16, answers)
+}
+
+/// The same, so many at most.
+pub fn add_some_answers(
+    alloc: Global,
+    reader: &mut Reader,
+    most: usize,
+    answers: &mut Vec<u8>,
+) -> Result<bool, Fail> {
+    for _ in 0..most {
         match reader.add_next(alloc, answers)? {
             Turn::Answered => {}
             Turn::Waits => return Ok(true),

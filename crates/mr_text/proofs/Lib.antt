@@ -4,6 +4,7 @@ pub mod Copied
 pub mod Shapes
 pub mod Values
 pub mod Lines
+pub mod Scanned
 pub mod Blocks
 pub mod RequestReading
 pub mod Fitting
@@ -18,6 +19,7 @@ pub mod ReplyNexts
 pub mod OneLine
 pub mod OneReading
 pub mod Reached
+pub mod ReplyProgress
 pub mod CanonicalWords
 pub mod CanonicalNumbers
 pub mod CanonicalRequests
@@ -26,3 +28,6 @@ pub mod Writes
 pub mod Gathered
 pub mod Leaving
 pub mod ShortRequests
+pub mod BegunSets
+pub mod UnfinishedReplies
+pub mod NextRequests

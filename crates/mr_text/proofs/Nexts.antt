@@ -1,15 +1,16 @@
 -- What `next` answers, of requests or replies, from what the reading of the bytes that are left finds.
-use Rattle.std.proofs.Common.{◌≡◌, ℕ, Bool, true, false, List, ◌++◌, length, take, drop, Option, Some, Result, Ok, Err, sym, ◌∙◌, ap, subst, cond}
+use Rattle.std.proofs.Common.{◌≡◌, ◌≢◌, ℕ, Bool, true, false, List, [], ◌++◌, length, take, drop, Option, Some, None, Result, Ok, Err, sym, ◌∙◌, ap, subst}
 use Rattle.std.proofs.lemmas.List.{take-append-drop}
-use Rattle.mr_text.specs.Stream.{ReaderView, StandsFor, Becomes, BeginsWith, IsUnfinished, NextIs, skips_line}
-use Rattle.mr_text.specs.steps.Waiting.{WaitIs}
+use Rattle.mr_text.specs.Stream.{ReaderView, Becomes, BeginsWith, IsUnfinished, NextIs}
 use Rattle.mr_text.specs.steps.Reading.{StretchReading}
 use Rattle.mr_text.specs.steps.Reading.StretchReading.{Waits, Gives, Refused}
 use Rattle.mr_text.specs.declared.error.TextError.{TextError}
 use Rattle.mr_text.specs.declared.error.TextError.TheVariants.{LineTooLong, BadKey, BadNumber, WrongWords, DataTooLong, BadDataEnd, UnknownCommand, Truncated, Closed, OutOfMemory}
 
-abbrev pub RefusedIs : ReaderView → ReaderView → ℕ → TextError → Type 0
-RefusedIs old new size refusal = new ≡ (cond (skips_line refusal) (record old { kept = drop size old.kept }) (record old { closed = true }))
+-- what a refusal leaves: what follows the line that it skips, or a closed reader
+abbrev pub Leaves : ReaderView → ReaderView → List ℕ → ℕ → TextError → Type 0
+Leaves old new rest size (UnknownCommand false) = Becomes new (drop size rest) old.ended false
+Leaves old new rest size refusal = Becomes new rest old.ended true
 
 -- a refusal that was read: of a skipped line, or of what the bytes begin with
 abbrev pub RefusedSo : (TextError → List ℕ → Type 0) → (List ℕ → List ℕ → Type 0) → List ℕ → TextError → ℕ → Type 0
@@ -19,9 +20,6 @@ RefusedSo Refuses Skips bytes Truncated size = ⊥
 RefusedSo Refuses Skips bytes Closed size = ⊥
 RefusedSo Refuses Skips bytes OutOfMemory size = ⊥
 RefusedSo Refuses Skips bytes refusal size = Refuses refusal bytes
-
-closes_on : (old new : ReaderView) (rest : List ℕ) → StandsFor old rest → new ≡ record old { closed = true } → Becomes new rest old.ended true
-closes_on old new rest stands is = record { stands = ap (λ v. v.kept) is ∙ stands; is_ended = ap (λ v. v.ended) is; is_closed = ap (λ v. v.closed) is }
 
 module _ {Item : Type 0} (Spells : List ℕ → Item → Type 0) (Refuses : TextError → List ℕ → Type 0) (Skips : List ℕ → List ℕ → Type 0) (is_last : Item → Bool)
     (reading : List ℕ → StretchReading Item)
@@ -46,50 +44,34 @@ module _ {Item : Type 0} (Spells : List ℕ → Item → Type 0) (Refuses : Text
   }
 
   pub gives : (old new : ReaderView) (rest : List ℕ) (item : Item) (size : ℕ) → old.closed ≡ false → reading rest ≡ Gives item size
-      → new ≡ record { kept = drop size rest; ended = old.ended; closed = is_last item } → Next old new rest (Ok (Some item))
-  gives old new rest item size closed e is =
-      (closed, drop size rest, begins rest item size e, record { stands = ap (λ v. v.kept) is; is_ended = ap (λ v. v.ended) is; is_closed = ap (λ v. v.closed) is })
+      → Becomes new (drop size rest) old.ended (is_last item) → Next old new rest (Ok (Some item))
+  gives old new rest item size closed e becomes = (closed, drop size rest, begins rest item size e, becomes)
 
-  pub lacks : (old new : ReaderView) (rest : List ℕ) (item : Item) (size : ℕ) → old.closed ≡ false → StandsFor old rest → reading rest ≡ Gives item size
-      → new ≡ old → Next old new rest (Err OutOfMemory)
-  lacks old new rest item size closed stands e is =
-      (closed, item, drop size rest, begins rest item size e, record { stands = ap (λ v. v.kept) is ∙ stands; is_ended = ap (λ v. v.ended) is; is_closed = ap (λ v. v.closed) is ∙ closed })
+  pub lacks : (old new : ReaderView) (rest : List ℕ) (item : Item) (size : ℕ) → old.closed ≡ false → reading rest ≡ Gives item size
+      → Becomes new rest old.ended false → Next old new rest (Err OutOfMemory)
+  lacks old new rest item size closed e becomes = (closed, item, drop size rest, begins rest item size e, becomes)
 
-  pub waiting : (old new : ReaderView) (rest : List ℕ) (r : Result (Option Item) TextError) → old.closed ≡ false → StandsFor old rest → reading rest ≡ Waits
-      → WaitIs old new r → Next old new rest r
-  waiting old new rest (Ok o) closed stands e h =
-      subst (λ item. Next old new rest (Ok item)) (sym h.0) (
-        closed,
-        waits rest e,
-        λ ended. sym stands ∙ h.2 ended,
-        record { stands = ap (λ v. v.kept) h.1 ∙ stands; is_ended = ap (λ v. v.ended) h.1; is_closed = ap (λ v. v.closed) h.1 ∙ closed },
-      )
-  waiting old new rest (Err refusal) closed stands e h =
-      subst (λ x. Next old new rest (Err x)) (sym h.0) (
-        closed,
-        h.1,
-        (λ empty. h.2 (stands ∙ empty), waits rest e),
-        record { stands = ap (λ v. v.kept) h.3 ∙ stands; is_ended = ap (λ v. v.ended) h.3; is_closed = ap (λ v. v.closed) h.3 },
-      )
+  pub waiting : (old new : ReaderView) (rest : List ℕ) → old.closed ≡ false → reading rest ≡ Waits → (old.ended ≡ true → rest ≡ [])
+      → Becomes new rest old.ended false → Next old new rest (Ok None)
+  waiting old new rest closed e ended becomes = (closed, waits rest e, ended, becomes)
 
-  pub refusing : (old new : ReaderView) (rest : List ℕ) (refusal : TextError) (size : ℕ) → old.closed ≡ false → StandsFor old rest
-      → reading rest ≡ Refused refusal size → RefusedIs old new size refusal → Next old new rest (Err refusal)
-  refusing old new rest refusal size closed stands e is = go refusal (refuses rest refusal size e) is
+  pub truncated : (old new : ReaderView) (rest : List ℕ) → old.closed ≡ false → reading rest ≡ Waits → old.ended ≡ true → rest ≢ []
+      → Becomes new rest old.ended true → Next old new rest (Err Truncated)
+  truncated old new rest closed e ended some becomes = (closed, ended, (some, waits rest e), becomes)
+
+  pub refusing : (old new : ReaderView) (rest : List ℕ) (refusal : TextError) (size : ℕ) → old.closed ≡ false
+      → reading rest ≡ Refused refusal size → Leaves old new rest size refusal → Next old new rest (Err refusal)
+  refusing old new rest refusal size closed e becomes = go refusal (refuses rest refusal size e) becomes
     where
-      go : (refusal : TextError) → RefusedSo Refuses Skips rest refusal size → RefusedIs old new size refusal → Next old new rest (Err refusal)
-      go (UnknownCommand false) h is = (
-        closed,
-        drop size rest,
-        h,
-        record { stands = ap (λ v. v.kept) is ∙ ap (λ s. drop size s) stands; is_ended = ap (λ v. v.ended) is; is_closed = ap (λ v. v.closed) is ∙ closed },
-      )
-      go (UnknownCommand true) h is = (closed, h, closes_on old new rest stands is)
-      go LineTooLong h is = (closed, h, closes_on old new rest stands is)
-      go BadKey h is = (closed, h, closes_on old new rest stands is)
-      go BadNumber h is = (closed, h, closes_on old new rest stands is)
-      go WrongWords h is = (closed, h, closes_on old new rest stands is)
-      go DataTooLong h is = (closed, h, closes_on old new rest stands is)
-      go BadDataEnd h is = (closed, h, closes_on old new rest stands is)
-      go Truncated h is = absurd h
-      go Closed h is = absurd h
-      go OutOfMemory h is = absurd h
+      go : (refusal : TextError) → RefusedSo Refuses Skips rest refusal size → Leaves old new rest size refusal → Next old new rest (Err refusal)
+      go (UnknownCommand false) h becomes = (closed, drop size rest, h, becomes)
+      go (UnknownCommand true) h becomes = (closed, h, becomes)
+      go LineTooLong h becomes = (closed, h, becomes)
+      go BadKey h becomes = (closed, h, becomes)
+      go BadNumber h becomes = (closed, h, becomes)
+      go WrongWords h becomes = (closed, h, becomes)
+      go DataTooLong h becomes = (closed, h, becomes)
+      go BadDataEnd h becomes = (closed, h, becomes)
+      go Truncated h becomes = absurd h
+      go Closed h becomes = absurd h
+      go OutOfMemory h becomes = absurd h

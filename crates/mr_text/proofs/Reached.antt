@@ -6,14 +6,13 @@ use Rattle.mr_text.specs.steps.Reading.StretchReading.{Waits, Gives, Refused}
 use Rattle.mr_text.specs.steps.ReplyReading.{step_reading, with_items, items_by, items_reading}
 use Rattle.mr_text.specs.steps.ReplyReading.Step.{ItemStep, EndStep}
 use Rattle.mr_text.specs.declared.item.Item.{Item}
-use Rattle.mr_text.specs.Limits.{MAX_ITEMS}
 use Rattle.mr_text.specs.declared.error.TextError.{TextError}
 use Rattle.mr_text.proofs.ReplyReading.{items-suc, items-zero, end_of, refused_of}
 
--- these items were read, and what is left is read from here with so much room
-pub record Reached (bytes : List ℕ) (front : List Item) (read room : ℕ) : Type 0 where
-  pub whole : items_reading MAX_ITEMS bytes ≡ with_items front read (items_reading room (drop read bytes))
-  pub sum : length front + room ≡ MAX_ITEMS
+-- of bytes read with room for so many items these were read, and what is left is read from here with so much room
+pub record Reached (all : ℕ) (bytes : List ℕ) (front : List Item) (read room : ℕ) : Type 0 where
+  pub whole : items_reading all bytes ≡ with_items front read (items_reading room (drop read bytes))
+  pub sum : length front + room ≡ all
   pub within : read ≤ length bytes
 
 with_none : (r : StretchReading (List Item)) → with_items [] 0 r ≡ r
@@ -28,18 +27,18 @@ with_more front item read size (Gives items more) =
     ∙ ap (λ l. Gives l (read + size + more)) (sym (append_assoc front (item ∷ []) items))
 with_more front item read size (Refused refusal more) = refl
 
-pub reached_none : (bytes : List ℕ) → Reached bytes [] 0 MAX_ITEMS
-reached_none bytes = record { whole = sym (with_none (items_reading MAX_ITEMS bytes)); sum = refl; within = omega arith }
+pub reached_none : (all : ℕ) (bytes : List ℕ) → Reached all bytes [] 0 all
+reached_none all bytes = record { whole = sym (with_none (items_reading all bytes)); sum = omega arith; within = omega arith }
 
-one_more : (room : ℕ) (bytes : List ℕ) (item : Item) (size : ℕ) → 0 < room → step_reading room bytes ≡ Gives (ItemStep item) size
+pub one_more : (room : ℕ) (bytes : List ℕ) (item : Item) (size : ℕ) → 0 < room → step_reading room bytes ≡ Gives (ItemStep item) size
     → items_reading room bytes ≡ with_items (item ∷ []) size (items_reading (room - 1) (drop size bytes))
 one_more zero bytes item size some e = absurd (omega arith)
 one_more (suc room) bytes item size some e =
     items-suc room bytes ∙ ap (items_by (items_reading room) bytes) e ∙ ap (λ n. with_items (item ∷ []) size (items_reading n (drop size bytes))) (let same : room ≡ suc room - 1 = omega arith in same)
 
-pub reached_item : (bytes : List ℕ) (front : List Item) (read room : ℕ) (item : Item) (size : ℕ) → Reached bytes front read room → 0 < room
-    → step_reading room (drop read bytes) ≡ Gives (ItemStep item) size → size ≤ length (drop read bytes) → Reached bytes (front ++ item ∷ []) (read + size) (room - 1)
-reached_item bytes front read room item size h some e fits =
+pub reached_item : (all : ℕ) (bytes : List ℕ) (front : List Item) (read room : ℕ) (item : Item) (size : ℕ) → Reached all bytes front read room → 0 < room
+    → step_reading room (drop read bytes) ≡ Gives (ItemStep item) size → size ≤ length (drop read bytes) → Reached all bytes (front ++ item ∷ []) (read + size) (room - 1)
+reached_item all bytes front read room item size h some e fits =
     let left = length-drop read bytes in
     let low = h.within in
     let sum = h.sum in
@@ -52,18 +51,18 @@ reached_item bytes front read room item size h some e fits =
       within = omega arith;
     }
 
-pub reached_waits : (bytes : List ℕ) (front : List Item) (read room : ℕ) → Reached bytes front read room → step_reading room (drop read bytes) ≡ Waits → items_reading MAX_ITEMS bytes ≡ Waits
-reached_waits bytes front read zero h e = h.whole ∙ ap (with_items front read) (items-zero (drop read bytes) ∙ ap (items_by (λ _. Waits) (drop read bytes)) e)
-reached_waits bytes front read (suc room) h e = h.whole ∙ ap (with_items front read) (items-suc room (drop read bytes) ∙ ap (items_by (items_reading room) (drop read bytes)) e)
+pub reached_waits : (all : ℕ) (bytes : List ℕ) (front : List Item) (read room : ℕ) → Reached all bytes front read room → step_reading room (drop read bytes) ≡ Waits → items_reading all bytes ≡ Waits
+reached_waits all bytes front read zero h e = h.whole ∙ ap (with_items front read) (items-zero (drop read bytes) ∙ ap (items_by (λ _. Waits) (drop read bytes)) e)
+reached_waits all bytes front read (suc room) h e = h.whole ∙ ap (with_items front read) (items-suc room (drop read bytes) ∙ ap (items_by (items_reading room) (drop read bytes)) e)
 
-pub reached_end : (bytes : List ℕ) (front : List Item) (read room size : ℕ) → Reached bytes front read room → step_reading room (drop read bytes) ≡ Gives EndStep size
-    → items_reading MAX_ITEMS bytes ≡ Gives front (read + size)
-reached_end bytes front read room size h e = h.whole ∙ ap (with_items front read) (end_of room (drop read bytes) size e) ∙ ap (λ l. Gives l (read + size)) (append-nil front)
+pub reached_end : (all : ℕ) (bytes : List ℕ) (front : List Item) (read room size : ℕ) → Reached all bytes front read room → step_reading room (drop read bytes) ≡ Gives EndStep size
+    → items_reading all bytes ≡ Gives front (read + size)
+reached_end all bytes front read room size h e = h.whole ∙ ap (with_items front read) (end_of room (drop read bytes) size e) ∙ ap (λ l. Gives l (read + size)) (append-nil front)
 
-pub reached_refused : (bytes : List ℕ) (front : List Item) (read room : ℕ) (refusal : TextError) (size : ℕ) → Reached bytes front read room
-    → step_reading room (drop read bytes) ≡ Refused refusal size → items_reading MAX_ITEMS bytes ≡ Refused refusal 0
-reached_refused bytes front read room refusal size h e = h.whole ∙ ap (with_items front read) (refused_of room (drop read bytes) refusal size e)
+pub reached_refused : (all : ℕ) (bytes : List ℕ) (front : List Item) (read room : ℕ) (refusal : TextError) (size : ℕ) → Reached all bytes front read room
+    → step_reading room (drop read bytes) ≡ Refused refusal size → items_reading all bytes ≡ Refused refusal 0
+reached_refused all bytes front read room refusal size h e = h.whole ∙ ap (with_items front read) (refused_of room (drop read bytes) refusal size e)
 
--- so many items were read
-abbrev pub ReachedSo : List ℕ → ℕ → ℕ → ℕ → Type 0
-ReachedSo bytes count read room = (front : List Item) × Reached bytes front read room × (length front ≡ count)
+-- items were read, whichever they are
+abbrev pub ReachedSo : ℕ → List ℕ → ℕ → ℕ → Type 0
+ReachedSo all bytes read room = (front : List Item) × Reached all bytes front read room

@@ -130,7 +130,7 @@ items_are (suc room) count sum bytes =
     (items_by_step (suc count) room bytes (omega arith) (items_are room (suc count) (omega arith)) (step_reading (suc room) bytes) (step_is count (suc room) sum bytes))
 
 -- the first line of a reply that has items, or their end alone
-by_items : (bytes line : List ℕ) (size : ℕ) (said : ReplyLine) → line_reading bytes ≡ Gives line size → first_line line (words_of line) ≡ Ok said
+pub by_items : (bytes line : List ℕ) (size : ℕ) (said : ReplyLine) → line_reading bytes ≡ Gives line size → first_line line (words_of line) ≡ Ok said
     → (reply_of_line bytes size (Ok said) ≡ as_reply (items_reading MAX_ITEMS bytes)) → reply_reading bytes ≡ as_reply (items_reading MAX_ITEMS bytes)
 unfolding reply_reading
 by_items bytes line size said read first items = rw (read, first) items
@@ -195,7 +195,7 @@ end_reply bytes rest after end begins =
     let first : first_line end.line (words_of end.line) ≡ Ok EndLine = ap (first_line end.line) end.splits ∙ end_first end.line in
     by_items (bytes ++ after) end.line (length rest) EndLine (ap (λ s. line_reading (s ++ after)) begins ∙ line) first refl
 
-item_reply : (line more key : List ℕ) (flags block_length : ℕ) → IsItemLine line key flags block_length → block_length ≤ MAX_BLOCK
+pub item_reply : (line more key : List ℕ) (flags block_length : ℕ) → IsItemLine line key flags block_length → block_length ≤ MAX_BLOCK
     → reply_reading (line ++ more) ≡ as_reply (items_reading MAX_ITEMS (line ++ more))
 item_reply line more key flags block_length h allowed =
     elim (good_item_found (key ∷ h.flags_word ∷ h.length_word ∷ []) key flags block_length
@@ -247,7 +247,7 @@ unfolding reply_reading
 long_line_refused bytes h = (0, rw (long_found bytes h) refl)
 
 -- the first line begins an item
-item_first : (item : Item) (items : List Item) (bytes rest : List ℕ) → BeginsWithItems bytes (item ∷ items) rest → reply_reading bytes ≡ as_reply (items_reading MAX_ITEMS bytes)
+pub item_first : (item : Item) (items : List Item) (bytes rest : List ℕ) → BeginsWithItems bytes (item ∷ items) rest → reply_reading bytes ≡ as_reply (items_reading MAX_ITEMS bytes)
 item_first item items bytes rest begins =
     let spells = begins.3 in
     let more = item.block ++ (13 ∷ 10 ∷ begins.1) in
@@ -322,7 +322,7 @@ items_reply_is bytes (Gives items size) h = (h.0, (h.1, h.2, h.3, let few = h.4 
 items_reply_is bytes (Refused refusal size) h =
     (h.0, h.1, h.2, let few = h.3 in omega arith, subst (λ n. RefusesBehind n refusal h.1) (let same : 0 + length h.0 ≡ length h.0 = omega arith in same) h.4)
 
-step_of : (bytes line : List ℕ) (size : ℕ) → line_reading bytes ≡ Gives line size → step_reading MAX_ITEMS bytes ≡ step_of_line bytes size (next_line MAX_ITEMS (words_of line))
+pub step_of : (bytes line : List ℕ) (size : ℕ) → line_reading bytes ≡ Gives line size → step_reading MAX_ITEMS bytes ≡ step_of_line bytes size (next_line MAX_ITEMS (words_of line))
 unfolding step_reading
 step_of bytes line size e = rw e refl
 

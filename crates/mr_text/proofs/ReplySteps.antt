@@ -167,7 +167,7 @@ module _ (count : ℕ) (bytes line : List ℕ) (size : ℕ) (read : IsRead bytes
     room = room;
   }
 
-  is_item_line : (behind : List (List ℕ)) → words_of line ≡ codes "VALUE" ∷ behind → (key : List ℕ) (flags block_length : ℕ) → GoodItem behind key flags block_length
+  pub is_item_line : (behind : List (List ℕ)) → words_of line ≡ codes "VALUE" ∷ behind → (key : List ℕ) (flags block_length : ℕ) → GoodItem behind key flags block_length
       → IsItemLine (take size bytes) key flags block_length
   is_item_line behind e key flags block_length good = record {
     flags_word = good.flags_word;

@@ -40,7 +40,7 @@ shape_line : (words : List (List ℕ)) (shape : Shape) → HasShape words shape 
 shape_line words shape h = let found = shape_found words shape h in rw found refl
 
 -- a set's line, with a block of an allowed length or not
-set_line_found : (start key : List ℕ) (flags : ℕ) (exptime : ℤ) (block_length : ℕ) (noreply : Bool) (h : IsSetLine start key flags exptime block_length noreply)
+pub set_line_found : (start key : List ℕ) (flags : ℕ) (exptime : ℤ) (block_length : ℕ) (noreply : Bool) (h : IsSetLine start key flags exptime block_length noreply)
     → ((command_line h.is_line.words ≡ Err DataTooLong) × (MAX_BLOCK < block_length)) ⊎
     ((command_line h.is_line.words ≡ Ok (SetLine key flags exptime block_length noreply)) × (block_length ≤ MAX_BLOCK))
 set_line_found start key flags exptime block_length noreply h =
@@ -241,7 +241,7 @@ module _ (bytes line : List ℕ) (size : ℕ) (read : IsRead bytes line size) wh
   line_shape : (shape : Shape) → HasShape (words_of line) shape → HasKeys shape → IsLineOfShape (take size bytes) shape
   line_shape shape is keys = record { words = words_of line; is_line = line_words; shaped = is; keys = keys }
 
-  set_line : (key flags_word exptime_word length_word : List ℕ) (noreply : Bool) (flags : ℕ) (exptime : ℤ) (block_length : ℕ)
+  pub set_line : (key flags_word exptime_word length_word : List ℕ) (noreply : Bool) (flags : ℕ) (exptime : ℤ) (block_length : ℕ)
       → HasShape (words_of line) (SetShape key flags_word exptime_word length_word noreply) → HasKeys (SetShape key flags_word exptime_word length_word noreply)
       → Numbers flags_word exptime_word length_word flags exptime block_length → IsSetLine (take size bytes) key flags exptime block_length noreply
   set_line key flags_word exptime_word length_word noreply flags exptime block_length is keys numbers = record {

@@ -5,6 +5,8 @@ use Rattle.mr_lines.specs.Blocks.{block_end}
 use Rattle.mr_lines.specs.Lines.{byte_place, without_carriage_return}
 use Rattle.mr_lines.specs.Words.{words_of}
 use Rattle.mr_lines.specs.declared.blocks.BlockEnd.TheVariants.{Awaited, Found, Wrong}
+use Rattle.mr_lines.proofs.ByteLemmas.{place_none}
+use Rattle.mr_text.specs.Line.{HasLineFeed}
 use Rattle.mr_text.proofs.Lines.{IsRead, LineIs, line_is, line_length}
 use Rattle.mr_text.proofs.Nexts.{RefusedSo, waits}
 use Rattle.mr_text.proofs.RequestNexts.{request_given, request_refuses}
@@ -62,7 +64,7 @@ line_short bytes line size read =
     omega arith
 
 -- a block that waits isn't longer than it may be, with the first byte of its end
-block_waits : (block_length : ℕ) (bytes : List ℕ) → block_reading block_length bytes ≡ Ok false → length bytes ≤ block_length + 1
+pub block_waits : (block_length : ℕ) (bytes : List ℕ) → block_reading block_length bytes ≡ Ok false → length bytes ≤ block_length + 1
 unfolding block_reading block_end
 block_waits n bytes e = go (nat_le (length bytes) n) refl
   where
@@ -103,20 +105,21 @@ command_waits bytes words size (Ok (SetLine key flags exptime n noreply)) says l
 abbrev no_line : StretchReading (List ℕ)
 no_line = Waits
 
-line_waits : (bytes : List ℕ) → line_reading bytes ≡ Waits → length bytes < 16388
+pub line_waits : (bytes : List ℕ) → line_reading bytes ≡ Waits → (¬ HasLineFeed bytes) × (length bytes < 8194)
 unfolding line_reading
 line_waits bytes e = go (byte_place 10 bytes) refl
   where
-    none : (t : Bool) → nat_le (MAX_LINE + 2) (length bytes) ≡ t → (if t then Refused LineTooLong 0 else Waits) ≡ no_line → length bytes < 16388
-    none true is e = cc
-    none false is e = let short = leb-false _ _ is in omega arith
+    none : byte_place 10 bytes ≡ None → (t : Bool) → nat_le (MAX_LINE + 2) (length bytes) ≡ t → (if t then Refused LineTooLong 0 else Waits) ≡ no_line
+        → (¬ HasLineFeed bytes) × (length bytes < 8194)
+    none nowhere true is e = cc
+    none nowhere false is e = (place_none 10 bytes nowhere, let short = leb-false _ _ is in omega arith)
 
-    some : (t : Bool) (line : List ℕ) (size : ℕ) → (if t then Refused LineTooLong 0 else Gives line size) ≡ Waits → length bytes < 16388
+    some : (t : Bool) (line : List ℕ) (size : ℕ) → (if t then Refused LineTooLong 0 else Gives line size) ≡ Waits → (¬ HasLineFeed bytes) × (length bytes < 8194)
     some true line size e = cc
     some false line size e = cc
 
-    go : (place : Option ℕ) → byte_place 10 bytes ≡ place → length bytes < 16388
-    go None is = none (nat_le (MAX_LINE + 2) (length bytes)) refl (rw is at e)
+    go : (place : Option ℕ) → byte_place 10 bytes ≡ place → (¬ HasLineFeed bytes) × (length bytes < 8194)
+    go None is = none is (nat_le (MAX_LINE + 2) (length bytes)) refl (rw is at e)
     go (Some place) is =
         some (nat_lt MAX_LINE (length (without_carriage_return (take place bytes)))) (without_carriage_return (take place bytes)) (place + 1) (rw is at e)
 
@@ -125,7 +128,7 @@ unfolding request_reading
 waits_short bytes e = go (line_reading bytes) refl (line_is bytes)
   where
     go : (r : StretchReading (List ℕ)) → line_reading bytes ≡ r → LineIs bytes r → length bytes < 16388
-    go Waits is read = line_waits bytes is
+    go Waits is read = let low = (line_waits bytes is).1 in omega arith
     go (Gives line size) is read =
         command_waits bytes (words_of line) size (command_line (words_of line)) (line_says (words_of line)) (line_short bytes line size read) read.within (rw is at e)
     go (Refused refusal size) is read = let never : request_of_reading bytes (Refused refusal size) ≡ Waits = (rw is at e) in cc

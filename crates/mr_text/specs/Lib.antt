@@ -14,6 +14,7 @@ pub mod Commands
 pub mod Requests
 pub mod Stream
 pub mod Canonical
+pub mod Filling
 pub mod Gathering
 pub mod Replies
 pub mod Valid

@@ -21,6 +21,10 @@ MAX_ERROR_TEXT = 8179
 abbrev pub MAX_ITEMS : ℕ
 MAX_ITEMS = 4094
 
--- how many bytes of a text are gathered before they go out
+-- the most bytes that a reader holds where nothing is whole: the longest line or block, and the first byte of its end
+abbrev pub MAX_HELD : ℕ
+MAX_HELD = 8193
+
+-- how many bytes of a text are gathered before they go out, and how many there is room for in each read
 abbrev pub FIXED_BUFFER : ℕ
 FIXED_BUFFER = 4096

@@ -1,10 +1,12 @@
 -- The text of replies: which bytes spell which reply, and which bytes are refused and how.
-use Rattle.std.specs.Prelude.{◌≡◌, ◌≢◌, ℕ, zero, suc, ◌^◌, ◌<◌, ◌≤◌, ◌⊎◌, Bool, true, false, List, [], ◌∷◌, ◌++◌, length, All, Contains, codes, unwrap_or}
+use Rattle.std.specs.Prelude.{◌≡◌, ◌≢◌, ℕ, zero, suc, ◌+◌, ◌^◌, ◌<◌, ◌≤◌, ◌⊎◌, Bool, true, false, List, [], ◌∷◌, ◌++◌, length, All, Contains, codes, unwrap_or, Option, Some, None, Result, Ok, Err}
 use Rattle.mr_lines.specs.Numbers.{IsNumber}
 use Rattle.mr_text.specs.Block.{IsBlock}
 use Rattle.mr_text.specs.CauseText.{cause_named}
 use Rattle.mr_text.specs.Key.{IsKey}
 use Rattle.mr_text.specs.Requests.{IsLineOfWords, BeginsWithWords, BeginsWithLongLine, EndsBadly, block_end}
+use Rattle.mr_text.specs.Line.{HasLineFeed}
+use Rattle.mr_text.specs.Stream.{ReaderView, BeginsWith, Becomes, IsUnfinished, NextIs}
 use Rattle.mr_text.specs.Text.{IsLine}
 use Rattle.mr_text.specs.declared.cause.Cause.{Cause}
 use Rattle.mr_text.specs.declared.cause.Cause.TheVariants.{Other}
@@ -161,3 +163,53 @@ is_no_last reply = false
 
 abbrev pub SkipsNone : List ℕ → List ℕ → Type 0
 SkipsNone bytes after = ⊥
+
+-- the bytes begin with a reply
+abbrev pub HoldsReply : List ℕ → Type 0
+HoldsReply bytes = (reply : Reply) × (after : List ℕ) × BeginsWith SpellsReply bytes reply after
+
+-- the bytes begin with an item of a reply
+abbrev pub HoldsItem : List ℕ → Type 0
+HoldsItem bytes = (item : Item) × (after : List ℕ) × BeginsWithItems bytes (item ∷ []) after
+
+-- an item is whole, of a reply that isn't: nothing is refused, and more bytes may finish it
+pub record HoldsPartOfReply (bytes : List ℕ) : Type 0 where
+  pub item : HoldsItem bytes
+  pub unfinished : IsUnfinished SpellsReply RefusesReply bytes
+
+-- memory may be wanted: for a reply that is whole or, while the input goes on, for an item of one that isn't
+abbrev pub MayWantMemory : Bool → List ℕ → Type 0
+MayWantMemory ended bytes = HoldsReply bytes ⊎ ((ended ≡ false) × HoldsPartOfReply bytes)
+
+-- What `next` answers of replies: as of all that is read, but that want of memory may come before a reply is whole,
+-- since its items are copied as they come.
+abbrev pub NextReplyIs : (old new : ReaderView) → List ℕ → Result (Option Reply) TextError → Type 0
+NextReplyIs old new rest (Err OutOfMemory) =
+    (old.closed ≡ false) × MayWantMemory old.ended rest × Becomes new rest old.ended false
+NextReplyIs old new rest result = NextIs SpellsReply RefusesReply SkipsNone is_no_last old new rest result
+
+-- the bytes are the line before some item's block
+abbrev pub IsAnItemLine : List ℕ → Type 0
+IsAnItemLine bytes = (key : List ℕ) × (flags : ℕ) × (block_length : ℕ) × IsItemLine bytes key flags block_length
+
+-- so many bytes are read of a reply that isn't whole: items, and maybe the line of one more
+pub record HasReadPart (bytes : List ℕ) (count : ℕ) : Type 0 where
+  pub items : List Item
+  pub line : List ℕ
+  pub after : List ℕ
+  pub begins : BeginsWithItems bytes items (line ++ after)
+  pub is_line : (line ≡ []) ⊎ IsAnItemLine line
+  pub counted : count + length after ≡ length bytes
+
+-- and no line or block behind them is whole
+pub record HasReadAll (bytes : List ℕ) (count : ℕ) : Type 0 where
+  pub part : HasReadPart bytes count
+  pub no_line : part.line ≡ [] → ¬ HasLineFeed part.after
+  pub no_block : ¬ HoldsItem (part.line ++ part.after)
+
+-- how much `next` has read of a reply that isn't whole
+abbrev pub ReplyBegunAfter : (old new : ReaderView) → Result (Option Reply) TextError → Type 0
+ReplyBegunAfter old new (Ok (Some reply)) = new.begun ≡ 0
+ReplyBegunAfter old new (Ok None) = HasReadAll old.kept new.begun
+ReplyBegunAfter old new (Err Closed) = new.begun ≡ old.begun
+ReplyBegunAfter old new (Err refusal) = (old.begun ≤ new.begun) × HasReadPart old.kept new.begun

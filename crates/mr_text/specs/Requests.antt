@@ -1,10 +1,11 @@
 -- The text of requests: which bytes spell which request, and which bytes are refused and how.
-use Rattle.std.specs.Prelude.{◌≡◌, ◌≢◌, ℕ, ◌+◌, ◌<◌, ◌≤◌, ◌⊎◌, Bool, true, false, List, [], ◌∷◌, ◌++◌, length, ℤ}
+use Rattle.std.specs.Prelude.{◌≡◌, ◌≢◌, ℕ, ◌+◌, ◌<◌, ◌≤◌, ◌⊎◌, Bool, true, false, List, [], ◌∷◌, ◌++◌, length, ℤ, Option, Some, None, Result, Ok, Err}
 use Rattle.mr_lines.specs.Words.{words_of}
 use Rattle.mr_text.specs.Block.{IsBlock}
 use Rattle.mr_text.specs.Commands.{Shape, HasShape, IsUnknown, AreWrong, HasKeys, Numbers}
 use Rattle.mr_text.specs.Commands.Shape.{GetShape, SetShape, DeleteShape, QuitShape}
 use Rattle.mr_text.specs.Line.{HasLineFeed}
+use Rattle.mr_text.specs.Stream.{ReaderView}
 use Rattle.mr_text.specs.Text.{IsLine}
 use Rattle.mr_text.specs.Limits.{MAX_LINE, MAX_BLOCK}
 use Rattle.mr_text.specs.declared.error.TextError.{TextError}
@@ -137,3 +138,18 @@ is_quit (Get keys) = false
 is_quit (Set key flags exptime block noreply) = false
 is_quit (Delete key noreply) = false
 is_quit Quit = true
+
+-- of bytes that hold no whole request, so many are read: their first line with its end; nothing where no line is whole
+abbrev pub HasReadLine : List ℕ → ℕ → Type 0
+HasReadLine bytes count =
+    ((line : List ℕ) × (text : List ℕ) × (after : List ℕ) ×
+    (bytes ≡ line ++ after) × IsLine line text × (count ≡ length line)) ⊎
+    ((¬ HasLineFeed bytes) × (count ≡ 0))
+
+-- how much `next` has read of a request that isn't whole
+abbrev pub BegunAfter : (old new : ReaderView) → Result (Option Request) TextError → Type 0
+BegunAfter old new (Ok (Some request)) = new.begun ≡ 0
+BegunAfter old new (Ok None) = HasReadLine old.kept new.begun
+BegunAfter old new (Err Truncated) = HasReadLine old.kept new.begun
+BegunAfter old new (Err (UnknownCommand false)) = new.begun ≡ 0
+BegunAfter old new (Err refusal) = new.begun ≡ old.begun

@@ -1,11 +1,14 @@
 -- What a reader answers, of requests or of replies, for the bytes that it has not read yet.
-use Rattle.std.specs.Prelude.{◌≡◌, ◌≢◌, ℕ, Bool, true, false, List, [], ◌++◌, length, ◌||◌, not, IsTrue, Option, Some, None, Result, Ok, Err}
+use Rattle.std.specs.Prelude.{◌≡◌, ◌≢◌, ℕ, ◌+◌, ◌≤◌, Bool, true, false, List, [], ◌++◌, length, ◌||◌, not, IsTrue, Option, Some, None, Result, Ok, Err}
+use Rattle.mr_text.specs.Limits.{MAX_HELD}
 use Rattle.mr_text.specs.declared.error.TextError.{TextError}
 use Rattle.mr_text.specs.declared.error.TextError.TheVariants.{UnknownCommand, Truncated, Closed, OutOfMemory}
 
--- a reader as contracts see it: the bytes that it stands for and hasn't read, whether the input ended, whether it is closed
+-- a reader as contracts see it: the bytes that it stands for and hasn't given; how many of them are whole lines and
+-- blocks that it has read of an item that isn't whole yet; whether the input ended; whether it is closed
 pub record ReaderView : Type 0 where
   pub kept : List ℕ
+  pub begun : ℕ
   pub ended : Bool
   pub closed : Bool
 
@@ -16,6 +19,14 @@ StandsFor reader rest = reader.kept ≡ rest
 -- how many bytes it has still to read, by which a loop over what it gives ends
 abbrev pub unread : ReaderView → ℕ
 unread reader = length reader.kept
+
+-- this many bytes came after the last whole line or block that the reader has read
+abbrev pub Holds : ReaderView → ℕ → Type 0
+Holds reader count = reader.begun + count ≡ length reader.kept
+
+-- they are no more than the longest line or block has, with the first byte of its end
+abbrev pub HoldsFew : ReaderView → Type 0
+HoldsFew reader = (count : ℕ) → Holds reader count → count ≤ MAX_HELD
 
 -- the bytes begin with this item's spelling, and these follow
 pub record BeginsWith {Item : Type 0} (Spells : List ℕ → Item → Type 0) (bytes : List ℕ) (item : Item) (after : List ℕ) : Type 0 where

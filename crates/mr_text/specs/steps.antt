@@ -3,10 +3,16 @@
 pub mod Count
 pub mod Roll
 pub mod Least
+pub mod Spelled
+pub mod StreamView
 pub mod Waiting
+pub mod BegunSet
+pub mod RequestNext
 pub mod Reading
 pub mod CommandView
 pub mod RequestView
 pub mod ReplyReading
 pub mod ReplyView
 pub mod ReplySteps
+pub mod BegunItem
+pub mod ReplyProgress

@@ -15,5 +15,6 @@ pub const MAX_ERROR_TEXT: usize = 8179;
 /// The most items of one reply.
 pub const MAX_ITEMS: usize = 4094;
 
-/// How many bytes of a text are gathered before they go out: a text of so many goes out in one call.
+/// How many bytes of a text are gathered before they go out, so that a text of so many goes out in one call; and how many
+/// bytes there is room for in each read.
 pub const FIXED_BUFFER: usize = 4096;

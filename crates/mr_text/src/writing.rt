@@ -24,7 +24,8 @@ use itoa::Buffer;
 /// call that failed is the last. A text of up to 4,096 bytes goes out in one call.
 pub fn write_request<W: Sink>(request: &Request, writer: &mut W) -> Result<(), WriteFault>
     ensures text { Writes (canonical_request request.now) (W.told writer.old) result (W.told writer.new) }
-    ensures calls { TakesFewCalls (canonical_request request.now) (parts_of_request request.now) (W.told writer.old) (W.told writer.new) }
+    ensures calls { TakesFewCalls (canonical_request request.now)
+        (parts_of_request request.now) (W.told writer.old) (W.told writer.new) }
 {
     let mut buffer = FixedBuffer::new();
     put_request(request, &mut buffer, writer)?;
@@ -35,56 +36,85 @@ pub fn write_request<W: Sink>(request: &Request, writer: &mut W) -> Result<(), W
 /// that failed is the last. A text of up to 4,096 bytes goes out in one call.
 pub fn write_reply<W: Sink>(reply: &Reply, writer: &mut W) -> Result<(), WriteFault>
     ensures text { Writes (canonical_reply reply.now) (W.told writer.old) result (W.told writer.new) }
-    ensures calls { TakesFewCalls (canonical_reply reply.now) (parts_of_reply reply.now) (W.told writer.old) (W.told writer.new) }
+    ensures calls { TakesFewCalls (canonical_reply reply.now)
+        (parts_of_reply reply.now) (W.told writer.old) (W.told writer.new) }
 {
-    let mut buffer = FixedBuffer::new();
-    put_reply(reply, &mut buffer, writer)?;
+    send_reply(reply, &mut FixedBuffer::new(), writer)
+}
+
+/// Writes a reply as `write_reply` does, through a buffer that is lent to it. What stands in that before is forgotten.
+pub fn send_reply<W: Sink>(
+    reply: &Reply,
+    buffer: &mut FixedBuffer,
+    writer: &mut W,
+) -> Result<(), WriteFault>
+    ensures text { Writes (canonical_reply reply.now) (W.told writer.old) result (W.told writer.new) }
+    ensures calls { TakesFewCalls (canonical_reply reply.now)
+        (parts_of_reply reply.now) (W.told writer.old) (W.told writer.new) }
+{
+    buffer.clear();
+    put_reply(reply, buffer, writer)?;
     buffer.send(writer)
 }
 
-/// Writes the reply SERVER_ERROR with a cause, as `write_reply` does.
-pub fn write_server_error<W: Sink>(cause: &Cause, writer: &mut W) -> Result<(), WriteFault>
+/// Writes the reply SERVER_ERROR with a cause, as `send_reply` does.
+pub fn send_server_error<W: Sink>(
+    cause: &Cause,
+    buffer: &mut FixedBuffer,
+    writer: &mut W,
+) -> Result<(), WriteFault>
     ensures text { Writes (canonical_reply (ServerError cause.now)) (W.told writer.old) result (W.told writer.new) }
     ensures calls { TakesFewCalls (canonical_reply (ServerError cause.now)) 1 (W.told writer.old) (W.told writer.new) }
 {
-    let mut buffer = FixedBuffer::new();
-    put_error(b"SERVER_ERROR ", cause, &mut buffer, writer)?;
+    buffer.clear();
+    put_error(b"SERVER_ERROR ", cause, buffer, writer)?;
     buffer.send(writer)
 }
 
-/// Writes a get of one key, as `write_request` does.
-pub fn write_get<W: Sink>(key: &Key, writer: &mut W) -> Result<(), WriteFault>
+/// Writes a get of one key as `write_request` does, through a buffer that is lent to it, as `send_reply` does.
+pub fn send_get<W: Sink>(
+    key: &Key,
+    buffer: &mut FixedBuffer,
+    writer: &mut W,
+) -> Result<(), WriteFault>
     ensures text { Writes (canonical_request (Get (key.now ∷ []))) (W.told writer.old) result (W.told writer.new) }
     ensures calls { TakesFewCalls (canonical_request (Get (key.now ∷ []))) 1 (W.told writer.old) (W.told writer.new) }
 {
-    let mut buffer = FixedBuffer::new();
+    buffer.clear();
     buffer.put_line(&[b"get ", key.as_bytes(), LINE_END], writer)?;
     buffer.send(writer)
 }
 
-/// Writes a set that is answered, as `write_request` does.
-pub fn write_set<W: Sink>(
+/// Writes a set that is answered, as `send_get` does.
+pub fn send_set<W: Sink>(
     key: &Key,
     flags: u32,
     exptime: i64,
     block: &Block,
+    buffer: &mut FixedBuffer,
     writer: &mut W,
 ) -> Result<(), WriteFault>
-    ensures text { Writes (canonical_request (Set key.now flags exptime block.now false)) (W.told writer.old) result (W.told writer.new) }
-    ensures calls { TakesFewCalls (canonical_request (Set key.now flags exptime block.now false)) 1 (W.told writer.old) (W.told writer.new) }
+    ensures text { Writes (canonical_request (Set key.now flags exptime block.now false))
+        (W.told writer.old) result (W.told writer.new) }
+    ensures calls { TakesFewCalls (canonical_request (Set key.now flags exptime block.now false)) 1
+        (W.told writer.old) (W.told writer.new) }
 {
-    let mut buffer = FixedBuffer::new();
-    put_set(key, flags, exptime, block, false, &mut buffer, writer)?;
+    buffer.clear();
+    put_set(key, flags, exptime, block, false, buffer, writer)?;
     buffer.send(writer)
 }
 
-/// Writes a delete that is answered, as `write_request` does.
-pub fn write_delete<W: Sink>(key: &Key, writer: &mut W) -> Result<(), WriteFault>
+/// Writes a delete that is answered, as `send_get` does.
+pub fn send_delete<W: Sink>(
+    key: &Key,
+    buffer: &mut FixedBuffer,
+    writer: &mut W,
+) -> Result<(), WriteFault>
     ensures text { Writes (canonical_request (Delete key.now false)) (W.told writer.old) result (W.told writer.new) }
     ensures calls { TakesFewCalls (canonical_request (Delete key.now false)) 1 (W.told writer.old) (W.told writer.new) }
 {
-    let mut buffer = FixedBuffer::new();
-    put_delete(key, false, &mut buffer, writer)?;
+    buffer.clear();
+    put_delete(key, false, buffer, writer)?;
     buffer.send(writer)
 }
 
@@ -111,7 +141,8 @@ fn put_value_line<W: Sink>(
     buffer: &mut FixedBuffer,
     writer: &mut W,
 ) -> Result<(), WriteFault>
-    ensures text { Gathers (value_line_text key.now flags block_length) buffer.old (W.told writer.old) result buffer.new (W.told writer.new) }
+    ensures text { Gathers (value_line_text key.now flags block_length)
+        buffer.old (W.told writer.old) result buffer.new (W.told writer.new) }
     ensures calls { (W.told writer.new).calls ≤ (W.told writer.old).calls + owes buffer.old }
 {
     let mut flags_text = Buffer::new();
@@ -146,7 +177,8 @@ fn put_items<W: Sink>(
 
 /// Puts what stands behind the items of a reply.
 pub fn put_end<W: Sink>(buffer: &mut FixedBuffer, writer: &mut W) -> Result<(), WriteFault>
-    ensures text { Gathers (codes "END" ++ line_end) buffer.old (W.told writer.old) result buffer.new (W.told writer.new) }
+    ensures text { Gathers (codes "END" ++ line_end)
+        buffer.old (W.told writer.old) result buffer.new (W.told writer.new) }
     ensures calls { (W.told writer.new).calls ≤ (W.told writer.old).calls + owes buffer.old }
 {
     buffer.put_line(&[b"END", LINE_END], writer)
@@ -160,7 +192,8 @@ fn put_error<W: Sink>(
     writer: &mut W,
 ) -> Result<(), WriteFault>
     requires { length word.now ≤ 16 }
-    ensures text { Gathers (error_text word.now cause.now) buffer.old (W.told writer.old) result buffer.new (W.told writer.new) }
+    ensures text { Gathers (error_text word.now cause.now)
+        buffer.old (W.told writer.old) result buffer.new (W.told writer.new) }
     ensures calls { Costs 2 buffer.old (W.told writer.old) result buffer.new (W.told writer.new) }
 {
     buffer.put_line(&[word], writer)?;
@@ -173,8 +206,10 @@ fn put_reply<W: Sink>(
     buffer: &mut FixedBuffer,
     writer: &mut W,
 ) -> Result<(), WriteFault>
-    ensures text { Gathers (canonical_reply reply.now) buffer.old (W.told writer.old) result buffer.new (W.told writer.new) }
-    ensures calls { (W.told writer.new).calls ≤ (W.told writer.old).calls + owes buffer.old + 2 * parts_of_reply reply.now }
+    ensures text { Gathers (canonical_reply reply.now)
+        buffer.old (W.told writer.old) result buffer.new (W.told writer.new) }
+    ensures calls { (W.told writer.new).calls ≤
+        (W.told writer.old).calls + owes buffer.old + 2 * parts_of_reply reply.now }
 {
     match reply {
         Reply::Items(items) => {
@@ -206,7 +241,8 @@ fn put_set_line<W: Sink>(
     buffer: &mut FixedBuffer,
     writer: &mut W,
 ) -> Result<(), WriteFault>
-    ensures text { Gathers (set_line_text key.now flags exptime block_length noreply) buffer.old (W.told writer.old) result buffer.new (W.told writer.new) }
+    ensures text { Gathers (set_line_text key.now flags exptime block_length noreply)
+        buffer.old (W.told writer.old) result buffer.new (W.told writer.new) }
     ensures calls { (W.told writer.new).calls ≤ (W.told writer.old).calls + owes buffer.old }
 {
     let mut flags_text = Buffer::new();
@@ -239,7 +275,8 @@ fn put_set<W: Sink>(
     buffer: &mut FixedBuffer,
     writer: &mut W,
 ) -> Result<(), WriteFault>
-    ensures text { Gathers (canonical_request (Set key.now flags exptime block.now noreply)) buffer.old (W.told writer.old) result buffer.new (W.told writer.new) }
+    ensures text { Gathers (canonical_request (Set key.now flags exptime block.now noreply))
+        buffer.old (W.told writer.old) result buffer.new (W.told writer.new) }
     ensures calls { Costs 2 buffer.old (W.told writer.old) result buffer.new (W.told writer.new) }
 {
     let block = block.as_bytes();
@@ -253,7 +290,8 @@ fn put_delete<W: Sink>(
     buffer: &mut FixedBuffer,
     writer: &mut W,
 ) -> Result<(), WriteFault>
-    ensures text { Gathers (canonical_request (Delete key.now noreply)) buffer.old (W.told writer.old) result buffer.new (W.told writer.new) }
+    ensures text { Gathers (canonical_request (Delete key.now noreply))
+        buffer.old (W.told writer.old) result buffer.new (W.told writer.new) }
     ensures calls { (W.told writer.new).calls ≤ (W.told writer.old).calls + owes buffer.old }
 {
     buffer.put_line(
@@ -274,7 +312,8 @@ fn put_keys<W: Sink>(
     buffer: &mut FixedBuffer,
     writer: &mut W,
 ) -> Result<(), WriteFault>
-    ensures text { Gathers (flat_map spaced keys.now) buffer.old (W.told writer.old) result buffer.new (W.told writer.new) }
+    ensures text { Gathers (flat_map spaced keys.now)
+        buffer.old (W.told writer.old) result buffer.new (W.told writer.new) }
     ensures calls { (W.told writer.new).calls ≤ (W.told writer.old).calls + length keys.now }
 {
     for key in keys {
@@ -289,8 +328,10 @@ fn put_request<W: Sink>(
     buffer: &mut FixedBuffer,
     writer: &mut W,
 ) -> Result<(), WriteFault>
-    ensures text { Gathers (canonical_request request.now) buffer.old (W.told writer.old) result buffer.new (W.told writer.new) }
-    ensures calls { (W.told writer.new).calls ≤ (W.told writer.old).calls + owes buffer.old + 2 * parts_of_request request.now }
+    ensures text { Gathers (canonical_request request.now)
+        buffer.old (W.told writer.old) result buffer.new (W.told writer.new) }
+    ensures calls { (W.told writer.new).calls ≤
+        (W.told writer.old).calls + owes buffer.old + 2 * parts_of_request request.now }
 {
     match request {
         Request::Get { keys } => {

@@ -114,7 +114,7 @@ node_reads : (values : NodeValues) (before after : Devices) (idle busy : Servers
 node_reads values before after idle busy (Ok ended) h = unread _ _ _ h.unread
 node_reads values before after idle busy (Err (Node refusal)) h = unread _ _ _ (ap (λ (d : Devices). d.input) h.1)
 node_reads values before after idle busy (Err Memory) h = unread _ _ _ h.unread
-node_reads values before after idle busy (Err Input) h = unread _ _ _ h.unread
+node_reads values before after idle busy (Err Input) h = unread _ _ _ (ap (λ (d : Devices). d.input) h.1)
 node_reads values before after idle busy (Err Output) h = unread _ _ _ h.unread
 node_reads values before after idle busy (Err (File line)) h = unread _ _ _ h.unread
 node_reads values before after idle busy (Err (Net line)) h = unread _ _ _ h.unread

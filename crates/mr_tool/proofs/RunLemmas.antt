@@ -1,5 +1,5 @@
 -- What each step of a run says of the whole.
-use Rattle.std.proofs.Common.{◌≡◌, ℕ, List, Option, Some, None, Result, Ok, Err, refl, ap, subst, sym, inl, inr, ◌⊎◌}
+use Rattle.std.proofs.Common.{◌≡◌, ◌∙◌, ℕ, List, Option, Some, None, Result, Ok, Err, refl, ap, subst, sym, inl, inr, ◌⊎◌}
 use Rattle.mr_text.specs.Sink.{SinkView, IsOneWrite}
 use Rattle.mr_text.specs.Source.{SourceView}
 use Rattle.mr_text.specs.declared.error.WriteFault.{WriteFault}
@@ -97,14 +97,14 @@ idle_steady before between idle busy steady same = (steady, ap (λ (s : ServersV
 node_steady : (values : NodeValues) (ended : Ended) (before between : Devices) (idle busy : ServersView) → NodeGives values before between idle busy (Ok ended)
     → between.faults ≡ before.faults → AllSteady before between idle busy
 node_steady values ended before between idle busy h silent =
-    let steady = service_steady _ ended before between idle busy h.runs in (
+    let steady = service_steady _ ended before between h.between busy h.runs in (
       record {
         sources = ap (λ (s : SourcesView). s.failures) h.unasked;
         input = ap (λ (s : SourceView). s.failures) h.unread;
         output = steady.1;
         faults = ap (λ (s : SinkView). s.failures) silent;
       },
-      steady.0,
+      steady.0 ∙ ap (λ (s : ServersView). s.failures) h.has.drew,
     )
 
 proxy_steady : (values : ProxyValues) (ended : Ended) (before between : Devices) (idle busy : ServersView) → ProxyGives values before between idle busy (Ok ended)

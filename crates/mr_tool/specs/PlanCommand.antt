@@ -4,10 +4,9 @@ use Rattle.mr_text.specs.Sink.{IsOneWrite}
 use Rattle.mr_text.specs.declared.error.WriteFault.{WriteFault}
 use Rattle.mr_text.specs.declared.request.Request.{Request}
 use Rattle.mr_configs.specs.Config.{ConfigView}
-use Rattle.mr_configs.specs.Plan.{plan_of}
 use Rattle.mr_tool.specs.Input.{LoadsConfig, ReadsRequest}
 use Rattle.mr_tool.specs.Devices.{Devices}
-use Rattle.mr_tool.specs.PlanText.{plan_text}
+use Rattle.mr_tool.specs.PlanText.{plan_shown}
 use Rattle.mr_tool.specs.declared.ended.Ended.{Ended}
 use Rattle.mr_tool.specs.declared.ended.Ended.TheVariants.{Done, NotAccepted, Faulted}
 use Rattle.mr_tool.specs.declared.fault.Fault.{Fault}
@@ -36,7 +35,7 @@ pub record WritesPlan (plan : PlanValues) (before after : Devices) (answer : Res
   pub config : ConfigView
   pub request : Request
   pub read : ReadsFor plan config before after (Ok request)
-  pub writes : IsOneWrite (plan_text config.routing (plan_of config plan.at request)) before.output answer after.output
+  pub writes : IsOneWrite (plan_shown config plan.at request) before.output answer after.output
 
 -- memory was refused once the first request was read
 pub record LacksPlan (plan : PlanValues) (before after : Devices) : Type 0 where

@@ -1,10 +1,15 @@
 -- What the commands `node` and `proxy` do.
-use Rattle.std.specs.Prelude.{◌≡◌, ◌==◌, ◌⊎◌, ℕ, List, ◌++◌, Result, Ok, Err, codes, decimal, string_bytes, if◌then◌else◌}
+use Rattle.std.specs.Prelude.{◌≡◌, ◌==◌, ◌≤◌, ◌⊎◌, ℕ, List, ◌++◌, Result, Ok, Err, codes, decimal, string_bytes, if◌then◌else◌}
+use Rattle.std.specs.declared.random_state.RandomState.{RandomState}
 use Rattle.mr_configs.specs.Config.{ConfigView}
-use Rattle.mr_node.specs.Recency.{CacheView, IsNewCache}
-use Rattle.mr_proxy.specs.ProxyView.{fresh_proxy}
-use Rattle.mr_sockets.specs.Servers.{Asked, NodeAt, ProxyAt, ServersView, IsOneService, listen_of, clients_of}
+use Rattle.mr_node.specs.declared.error.NodeError.{NodeError}
+use Rattle.mr_node.specs.declared.error.NodeError.TheVariants.{ZeroCapacity, OutOfMemory}
+use Rattle.mr_proxy.specs.ProxyView.{ProxyView, fresh_proxy}
+use Rattle.mr_sockets.specs.SeededNode.{SeededView, IsSeededNode}
+use Rattle.mr_sockets.specs.Servers.{Asked, NodeAt, ProxyAt, ServersView, DrawsSeed, IsOneService, listen_of, clients_of}
+use Rattle.mr_sockets.specs.declared.bounds.ServiceBounds.{ServiceBounds}
 use Rattle.mr_sockets.specs.declared.fault.OpenFault.{OpenFault}
+use Rattle.mr_sockets.specs.declared.fault.SeedFault.{SeedFault}
 use Rattle.mr_text.specs.Sink.{SinkView, IsOneWrite}
 use Rattle.mr_text.specs.declared.error.WriteFault.{WriteFault}
 use Rattle.mr_tool.specs.Input.{LoadsConfig}
@@ -14,7 +19,7 @@ use Rattle.mr_tool.specs.PlanCommand.{LacksConfig}
 use Rattle.mr_tool.specs.declared.ended.Ended.{Ended}
 use Rattle.mr_tool.specs.declared.ended.Ended.TheVariants.{Done, Faulted}
 use Rattle.mr_tool.specs.declared.fault.Fault.{Fault}
-use Rattle.mr_tool.specs.declared.fault.Fault.TheVariants.{Memory, Output, File, Net, Plan, Node}
+use Rattle.mr_tool.specs.declared.fault.Fault.TheVariants.{Memory, Input, Output, File, Net, Plan, Node}
 use Rattle.mr_words.specs.declared.service_words.NodeValues.{NodeValues}
 use Rattle.mr_words.specs.declared.service_words.ProxyValues.{ProxyValues}
 
@@ -41,17 +46,49 @@ pub record RunsService (asked : Asked) (before after : Devices) (idle busy : Ser
   pub serves : IsOneService asked idle served busy
   pub ends : EndsService (listen_of asked) (clients_of asked) served before.output after.output result
 
--- What the command `node` does. It serves a node with an empty cache, or finds the first of the faults in this order: the
--- capacity, the socket, the output. No file is asked for, and nothing is read.
+-- an empty node of that capacity, its keys hashed by a seed that was drawn for it, once
+pub record HasNode (capacity : ℕ) (node : SeededView) (idle between : ServersView) : Type 0 where
+  pub is_new : IsSeededNode capacity node.seed (Ok node)
+  pub drew : DrawsSeed idle (Ok node.seed) between
+
+-- why there is no node: it could hold nothing, and then no seed was drawn; or memory was refused once one was
+abbrev pub LacksNode : ℕ → NodeError → ServersView → ServersView → Type 0
+LacksNode capacity ZeroCapacity idle busy = (capacity ≡ 0) × (busy ≡ idle)
+LacksNode capacity OutOfMemory idle busy = (1 ≤ capacity) × ((seed : RandomState) × DrawsSeed idle (Ok seed) busy)
+LacksNode capacity _ idle busy = ⊥
+
+-- there is no node since no seed could be had
+abbrev pub LacksSeed : ℕ → ServersView → ServersView → Type 0
+LacksSeed capacity idle busy = (1 ≤ capacity) × ((fault : SeedFault) × DrawsSeed idle (Err fault) busy)
+
+-- the node of a service, or why there is none
+abbrev pub MakesNode : ℕ → ServersView → Result SeededView Fault → ServersView → Type 0
+MakesNode capacity idle (Ok node) busy = HasNode capacity node idle busy
+MakesNode capacity idle (Err (Node refusal)) busy = LacksNode capacity refusal idle busy
+MakesNode capacity idle (Err Input) busy = LacksSeed capacity idle busy
+MakesNode capacity idle (Err fault) busy = ⊥
+
+abbrev pub bounds_of_node : NodeValues → ServiceBounds
+bounds_of_node values = record {
+  clients = values.clients;
+  turns = values.turns;
+  patience = record { client_seconds = values.idle_timeout; leg_millis = 0 };
+}
+
+-- A node was served. No file is asked for, and nothing is read.
 pub record RunsNode (values : NodeValues) (before after : Devices) (idle busy : ServersView) (result : Result Ended Fault) : Type 0 where
-  pub cache : CacheView
-  pub is_new : IsNewCache values.capacity (Ok cache)
-  pub runs : RunsService (NodeAt values.listen.now cache values.clients values.turns) before after idle busy result
+  pub node : SeededView
+  pub between : ServersView
+  pub has : HasNode values.capacity node idle between
+  pub runs : RunsService (NodeAt values.listen.now node (bounds_of_node values)) before after between busy result
   pub unasked : after.sources ≡ before.sources
   pub unread : after.input ≡ before.input
 
+-- What the command `node` does. It serves an empty node, or finds the first of the faults in this order: the capacity, the
+-- seed, the socket, the output.
 abbrev pub NodeGives : NodeValues → Devices → Devices → ServersView → ServersView → Result Ended Fault → Type 0
-NodeGives values before after idle busy (Err (Node refusal)) = IsNewCache values.capacity (Err refusal) × (after ≡ before) × (busy ≡ idle)
+NodeGives values before after idle busy (Err (Node refusal)) = LacksNode values.capacity refusal idle busy × (after ≡ before)
+NodeGives values before after idle busy (Err Input) = LacksSeed values.capacity idle busy × (after ≡ before)
 NodeGives values before after idle busy result = RunsNode values before after idle busy result
 
 -- the configuration of a proxy was had, by one load, and nothing is read
@@ -59,11 +96,22 @@ pub record HasConfig (values : ProxyValues) (config : ConfigView) (before after 
   pub loaded : LoadsConfig values.config.now before.sources (Ok config) after.sources
   pub unread : after.input ≡ before.input
 
+-- the proxy of a configuration that has accepted nothing yet, with room for so many requests
+abbrev pub proxy_of : ConfigView → ℕ → ProxyView
+proxy_of config room = fresh_proxy 0 0 config.routing config.schedule room
+
+abbrev pub bounds_of_proxy : ProxyValues → ServiceBounds
+bounds_of_proxy values = record {
+  clients = values.clients;
+  turns = values.turns;
+  patience = record { client_seconds = values.idle_timeout; leg_millis = values.leg_timeout };
+}
+
 -- a fresh proxy by the configuration was served
 pub record RunsProxy (values : ProxyValues) (before after : Devices) (idle busy : ServersView) (result : Result Ended Fault) : Type 0 where
   pub config : ConfigView
   pub has : HasConfig values config before after
-  pub runs : RunsService (ProxyAt values.listen.now (fresh_proxy 0 0 config.routing config.schedule values.room) config.routing values.clients values.turns)
+  pub runs : RunsService (ProxyAt values.listen.now (proxy_of config values.room) config.routing (bounds_of_proxy values))
       before after idle busy result
 
 -- memory was refused once the configuration was had, and no service was asked for

@@ -1,9 +1,11 @@
 -- What a timeline prints.
-use Rattle.std.specs.Prelude.{ℕ, ◌+◌, List, [], ◌∷◌, ◌++◌, Bool, true, false, Option, Some, None, codes, decimal}
+use Rattle.std.specs.Prelude.{ℕ, ◌+◌, List, [], ◌∷◌, ◌++◌, Bool, true, false, Option, Some, None, codes, decimal, option_map}
+use Rattle.std.specs.Borrow.{Bor}
 use Rattle.mr_phases.specs.Schedule.{Hop}
 use Rattle.mr_phases.specs.declared.phase_name.PhaseName.{PhaseName}
 use Rattle.mr_phases.specs.declared.phase_name.PhaseName.TheVariants.{OldOnly, BothReadOld, BothReadNew, NewOnly}
 use Rattle.mr_phases.specs.PhaseText.{phase_text}
+use Rattle.mr_configs.specs.Config.{ConfigView}
 use Rattle.mr_configs.specs.Timeline.{timeline_of, AdviceView, advice_of}
 use Rattle.mr_configs.specs.declared.times.Span.{Span}
 use Rattle.mr_configs.specs.declared.times.PhaseTimes.{PhaseTimes}
@@ -50,11 +52,19 @@ spread_line advice =
 abbrev pub advice_text : List ℕ → AdviceView → List ℕ
 advice_text readings advice = reading_lines 0 readings advice.phases ++ spread_line advice
 
--- what is said of clocks' readings, where there are any
+-- what is said of clocks' readings
+abbrev pub advice_on : List Hop → List ℕ → List ℕ
+advice_on schedule readings = advice_text readings (advice_of schedule readings)
+
+-- the same, where there are any
 abbrev pub advice_given : List Hop → Option (List ℕ) → List ℕ
 advice_given schedule None = []
-advice_given schedule (Some readings) = advice_text readings (advice_of schedule readings)
+advice_given schedule (Some readings) = advice_on schedule readings
 
 -- the timeline of a schedule, and below it what is said of clocks' readings
 abbrev pub timeline_text : List Hop → Option (List ℕ) → List ℕ
 timeline_text schedule readings = times_text (timeline_of schedule) ++ advice_given schedule readings
+
+-- the timeline of a configuration, with the readings that were handed in
+abbrev pub timeline_shown : ConfigView → Option (Bor (List ℕ)) → List ℕ
+timeline_shown config readings = timeline_text config.schedule (option_map (λ numbers. numbers.now) readings)

@@ -14,6 +14,7 @@ use mr_text::{Sink, Source};
 use std::alloc::{AllocError, Global};
 use std::env::Args;
 use std::net::{Net, TcpListener, TcpStream};
+use std::random::RandomSource;
 use std::sync::Wait;
 use std::thread::Threads;
 use std::{io, time};
@@ -28,7 +29,12 @@ fn words_of(alloc: Global, arguments: &[String]) -> Result<Vec<&str>, AllocError
 /// Runs the program on its arguments, of which the first is its own name and the others are its words, and gives its
 /// status. Where they couldn't be had, memory was refused, or one of them isn't UTF-8.
 pub fn run_arguments<
-    R: Net<Listener = TcpListener, Stream = TcpStream> + Threads + Wait + time::Clock + Sync,
+    R: Net<Listener = TcpListener, Stream = TcpStream>
+        + Threads
+        + Wait
+        + time::Clock
+        + RandomSource
+        + Sync,
     S: Sources,
     I: Source,
     O: Sink,

@@ -4,6 +4,7 @@ ghost use Rattle.std.specs.Prelude.{◌≡◌};
 use crate::printing::PrintFault;
 use mr_configs::PlanError;
 use mr_node::NodeError;
+use mr_sockets::SeedFault;
 use mr_text::{ReadFault, Sink, TextError};
 use mr_words::{node_line, plan_line, text_line};
 use std::alloc::AllocError;
@@ -15,7 +16,7 @@ pub enum Fault {
     /// Memory was refused to the program itself.
     #[error("memory")]
     Memory,
-    /// The standard input failed.
+    /// The standard input failed, or no seed could be had.
     #[error("input")]
     Input,
     /// The standard output failed.
@@ -84,6 +85,17 @@ impl From<ReadFault> for Fault {
     ghost from_gives = { λ _ fault. fault ≡ Input };
 
     fn from(_fault: ReadFault) -> Fault {
+        Fault::Input
+    }
+}
+
+impl From<SeedFault> for Fault {
+    ghost use Rattle.std.specs.Prelude.{◌≡◌};
+    ghost use Rattle.mr_tool.specs.declared.fault.Fault.TheVariants.{Input};
+
+    ghost from_gives = { λ _ fault. fault ≡ Input };
+
+    fn from(_fault: SeedFault) -> Fault {
         Fault::Input
     }
 }

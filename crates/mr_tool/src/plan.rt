@@ -1,9 +1,8 @@
 //! The text of a plan.
 ghost use Rattle.std.specs.Prelude.{◌≡◌, ◌++◌, IfOk, OnOk, IsErrOf};
 ghost use Rattle.std.specs.List.{All};
-ghost use Rattle.mr_configs.specs.Plan.{plan_of};
 ghost use Rattle.mr_proxy.specs.Sheets.{IsPlaced};
-ghost use Rattle.mr_tool.specs.PlanText.{leg_lines, plan_text};
+ghost use Rattle.mr_tool.specs.PlanText.{leg_lines, plan_shown, plan_text};
 ghost use Rattle.mr_tool.specs.Printing.{WritesAtOnce};
 
 use crate::line::{push_leg_line, push_phase_line};
@@ -50,7 +49,7 @@ pub fn write_plan<W: Sink>(
     request: Request,
     writer: &mut W,
 ) -> Result<(), PrintFault>
-    ensures plan { WritesAtOnce (plan_text config.now.routing (plan_of config.now at request)) (W.told writer.old) result (W.told writer.new) }
+    ensures plan { WritesAtOnce (plan_shown config.now at request) (W.told writer.old) result (W.told writer.new) }
 
     // The writer is not even touched where memory is refused.
     ensures memory { IsErrOf result PrintFault.Memory → writer.new ≡ writer.old }

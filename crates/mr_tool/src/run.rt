@@ -17,6 +17,7 @@ use mr_text::{Sink, Source};
 use mr_words::{Wanted, WordsFault, read_words};
 use std::alloc::Global;
 use std::net::{Net, TcpListener, TcpStream};
+use std::random::RandomSource;
 use std::sync::Wait;
 use std::thread::Threads;
 use std::time;
@@ -87,7 +88,12 @@ fn finish<F: Sink>(gave: Result<Ended, Fault>, faults: &mut F) -> u8
 
 /// Runs the command that the words ask for, as `run_words` does.
 fn run_wanted<
-    R: Net<Listener = TcpListener, Stream = TcpStream> + Threads + Wait + time::Clock + Sync,
+    R: Net<Listener = TcpListener, Stream = TcpStream>
+        + Threads
+        + Wait
+        + time::Clock
+        + RandomSource
+        + Sync,
     S: Sources,
     I: Source,
     O: Sink,
@@ -132,9 +138,15 @@ fn run_wanted<
 /// is served by `servers`. Files come from `sources`; what the command is to print goes to `output`, and a fault to `faults`.
 /// Faults are looked for in this order: the words; then for a plan the file, the configuration, the request; for a timeline
 /// the file, the configuration; for a run or a check the file, or the input where none is named, and then the script or the
-/// transcript; for a node its capacity and the socket; for a proxy the file, the configuration, the socket; last the output.
+/// transcript; for a node its capacity, the seed and the socket; for a proxy the file, the configuration, the socket; last the
+/// output.
 pub fn run_words<
-    R: Net<Listener = TcpListener, Stream = TcpStream> + Threads + Wait + time::Clock + Sync,
+    R: Net<Listener = TcpListener, Stream = TcpStream>
+        + Threads
+        + Wait
+        + time::Clock
+        + RandomSource
+        + Sync,
     S: Sources,
     I: Source,
     O: Sink,

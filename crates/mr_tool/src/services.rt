@@ -1,11 +1,10 @@
 //! The commands that serve clients: what is asked of the machine, and what is printed once all clients have ended.
 ghost use Rattle.std.specs.Prelude.{◌≡◌, IfOk};
-ghost use Rattle.mr_sockets.specs.Servers.{ServersView};
 ghost use Rattle.mr_text.specs.Sink.{SinkView};
 ghost use Rattle.mr_text.specs.Source.{SourceView};
 ghost use Rattle.mr_tool.specs.Devices.{devices};
 ghost use Rattle.mr_tool.specs.Fault.{IsNetFault};
-ghost use Rattle.mr_tool.specs.Services.{served_line, EndsService, NodeGives, ProxyGives};
+ghost use Rattle.mr_tool.specs.Services.{served_line, EndsService, MakesNode, NodeGives, ProxyGives};
 ghost use Rattle.mr_tool.specs.Sources.{SourcesView};
 
 use crate::ended::Ended;
@@ -14,13 +13,14 @@ use crate::input::load_config;
 use crate::line::push_number;
 use crate::printing::write_at_once;
 use crate::sources::Sources;
-use mr_node::CacheNode;
+use mr_node::NodeError;
 use mr_proxy::ProxyCore;
-use mr_sockets::{HostServers, OpenFault};
+use mr_sockets::{HostServers, OpenFault, Patience, SeededNode, ServiceBounds};
 use mr_text::Sink;
 use mr_words::{NodeValues, ProxyValues};
 use std::alloc::{AllocError, Global};
 use std::net::{Net, TcpListener, TcpStream};
+use std::random::RandomSource;
 use std::sync::Wait;
 use std::thread::Threads;
 use std::time;
@@ -69,9 +69,33 @@ fn end_service<O: Sink>(
     }
 }
 
+/// An empty node of a capacity, its keys hashed by a seed that is drawn for it. Where it could hold nothing, none is drawn.
+fn make_node<
+    R: Net<Listener = TcpListener, Stream = TcpStream>
+        + Threads
+        + Wait
+        + time::Clock
+        + RandomSource
+        + Sync,
+>(alloc: Global, capacity: u64, servers: &mut HostServers<'_, R>) -> Result<SeededNode, Fault>
+    ensures { MakesNode capacity servers.old result servers.new }
+{
+    if capacity == 0 {
+        return Err(Fault::Node(NodeError::ZeroCapacity));
+    }
+    let seed = servers.draw_seed()?;
+    let node = SeededNode::new(alloc, capacity as usize, seed)?;
+    Ok(node)
+}
+
 /// Serves a node, and writes how many of its clients ended without a fault once all have.
 pub fn run_node<
-    R: Net<Listener = TcpListener, Stream = TcpStream> + Threads + Wait + time::Clock + Sync,
+    R: Net<Listener = TcpListener, Stream = TcpStream>
+        + Threads
+        + Wait
+        + time::Clock
+        + RandomSource
+        + Sync,
     O: Sink,
 >(
     alloc: Global,
@@ -83,14 +107,27 @@ pub fn run_node<
         (devices sources input (O.told output.old) faults)
         (devices sources input (O.told output.new) faults) servers.old servers.new result }
 {
-    let node = CacheNode::new(alloc, values.capacity as usize)?;
-    let served = servers.serve_node(alloc, values.listen, node, values.clients, values.turns);
+    let node = make_node(alloc, values.capacity, servers)?;
+    let bounds = ServiceBounds {
+        clients: values.clients,
+        turns: values.turns,
+        patience: Patience {
+            client_seconds: values.idle_timeout,
+            leg_millis: 0,
+        },
+    };
+    let served = servers.serve_node(alloc, values.listen, node, bounds);
     end_service(alloc, values.listen, values.clients, served, output)
 }
 
 /// Serves a proxy by the configuration in a file, and writes how many of its clients ended without a fault once all have.
 pub fn run_proxy<
-    R: Net<Listener = TcpListener, Stream = TcpStream> + Threads + Wait + time::Clock + Sync,
+    R: Net<Listener = TcpListener, Stream = TcpStream>
+        + Threads
+        + Wait
+        + time::Clock
+        + RandomSource
+        + Sync,
     S: Sources,
     O: Sink,
 >(
@@ -107,13 +144,14 @@ pub fn run_proxy<
     let config = load_config(alloc, values.config, sources)?;
     let routing = config.routing().copy()?;
     let core = ProxyCore::new(alloc, 0, 0, routing, config.schedule(), values.room);
-    let served = servers.serve_proxy(
-        alloc,
-        values.listen,
-        core,
-        config.routing(),
-        values.clients,
-        values.turns,
-    );
+    let bounds = ServiceBounds {
+        clients: values.clients,
+        turns: values.turns,
+        patience: Patience {
+            client_seconds: values.idle_timeout,
+            leg_millis: values.leg_timeout,
+        },
+    };
+    let served = servers.serve_proxy(alloc, values.listen, core, config.routing(), bounds);
     end_service(alloc, values.listen, values.clients, served, output)
 }

@@ -1,8 +1,7 @@
 //! The text of a timeline.
-ghost use Rattle.std.specs.Prelude.{◌≡◌, ◌++◌, IfOk, OnOk, IsErrOf, length, option_map};
-ghost use Rattle.mr_configs.specs.Timeline.{advice_of};
+ghost use Rattle.std.specs.Prelude.{◌≡◌, ◌++◌, IfOk, OnOk, IsErrOf, length};
 ghost use Rattle.mr_tool.specs.Printing.{WritesAtOnce};
-ghost use Rattle.mr_tool.specs.TimelineText.{times_text, reading_lines, advice_text, timeline_text};
+ghost use Rattle.mr_tool.specs.TimelineText.{times_text, reading_lines, advice_on, timeline_shown};
 
 use crate::line::{
     push_new_only_line, push_old_only_line, push_reading_line, push_span_line, push_spread_line,
@@ -46,7 +45,7 @@ fn push_advice(
     config: &Config,
     readings: &[u64],
 ) -> Result<(), AllocError>
-    ensures { OnOk result (text.new.items ≡ text.old.items ++ advice_text readings.now (advice_of config.now.schedule readings.now)) }
+    ensures { OnOk result (text.new.items ≡ text.old.items ++ advice_on config.now.schedule readings.now) }
 {
     let Ok(advice) = advise(alloc, config, readings) else {
         return Err(AllocError);
@@ -62,7 +61,7 @@ fn text_of_timeline(
     config: &Config,
     readings: Option<&[u64]>,
 ) -> Result<Vec<u8>, AllocError>
-    ensures { IfOk result (λ text. text.items ≡ timeline_text config.now.schedule (option_map (λ numbers. numbers.now) readings.entry)) }
+    ensures { IfOk result (λ text. text.items ≡ timeline_shown config.now readings.entry) }
 {
     let mut text = Vec::new(alloc);
     push_times(&mut text, &timeline(config))?;
@@ -81,7 +80,7 @@ pub fn write_timeline<W: Sink>(
     readings: Option<&[u64]>,
     writer: &mut W,
 ) -> Result<(), PrintFault>
-    ensures timeline { WritesAtOnce (timeline_text config.now.schedule (option_map (λ numbers. numbers.now) readings.entry)) (W.told writer.old) result (W.told writer.new) }
+    ensures timeline { WritesAtOnce (timeline_shown config.now readings.entry) (W.told writer.old) result (W.told writer.new) }
 
     // The writer is not even touched where memory is refused.
     ensures memory { IsErrOf result PrintFault.Memory → writer.new ≡ writer.old }

@@ -193,7 +193,7 @@ proxy_said said values (inl says) =
         rows,
         subst (λ (w : List Text). subcommand_of program_app w ≡ Some (codes "proxy", rows)) (sym says.words_are)
             (short_found config listen config_plain listen_plain),
-        record { config_is = refl; listen_is = refl; room_is = says.room_is; clients_is = says.clients_is; turns_is = says.turns_is },
+        record { config_is = refl; listen_is = refl; room_is = says.room_is; clients_is = says.clients_is; turns_is = says.turns_is; leg_is = says.leg_is; idle_is = says.idle_is },
       );
     }
 proxy_said said values (inr (inl says)) =
@@ -212,7 +212,7 @@ proxy_said said values (inr (inl says)) =
         rows,
         subst (λ (w : List Text). subcommand_of program_app w ≡ Some (codes "proxy", rows)) (sym says.words_are)
             (rows_found config listen says.room says.clients says.turns config_plain listen_plain room_taken clients_taken turns_taken),
-        record { config_is = refl; listen_is = refl; room_is = says.room_is; clients_is = says.clients_is; turns_is = says.turns_is },
+        record { config_is = refl; listen_is = refl; room_is = says.room_is; clients_is = says.clients_is; turns_is = says.turns_is; leg_is = says.leg_is; idle_is = says.idle_is },
       );
     }
 proxy_said said values (inr (inr says)) =
@@ -229,6 +229,6 @@ proxy_said said values (inr (inr says)) =
         rows,
         subst (λ (w : List Text). subcommand_of program_app w ≡ Some (codes "proxy", rows)) (sym says.words_are)
             (forever_found config listen says.room config_plain listen_plain room_taken),
-        record { config_is = refl; listen_is = refl; room_is = says.room_is; clients_is = says.clients_is; turns_is = says.turns_is },
+        record { config_is = refl; listen_is = refl; room_is = says.room_is; clients_is = says.clients_is; turns_is = says.turns_is; leg_is = says.leg_is; idle_is = says.idle_is },
       );
     }

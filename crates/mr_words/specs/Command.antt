@@ -69,7 +69,8 @@ node_app =
     let with_capacity = with_rule with_listen (number_rule (codes "capacity")) in
     let with_clients = with_rule with_capacity (number_rule (codes "clients")) in
     let with_turns = with_rule with_clients (number_rule (codes "turns")) in
-    with_rule with_turns forever_rule
+    let with_idle = with_rule with_turns (number_rule (codes "idle-timeout")) in
+    with_rule with_idle forever_rule
 
 -- the command `proxy`
 abbrev pub proxy_app : App
@@ -79,7 +80,9 @@ proxy_app =
     let with_room = with_rule with_listen (number_rule (codes "room")) in
     let with_clients = with_rule with_room (number_rule (codes "clients")) in
     let with_turns = with_rule with_clients (number_rule (codes "turns")) in
-    with_rule with_turns forever_rule
+    let with_leg = with_rule with_turns (number_rule (codes "leg-timeout")) in
+    let with_idle = with_rule with_leg (number_rule (codes "idle-timeout")) in
+    with_rule with_idle forever_rule
 
 -- a word of its own, by its name, which has to be there
 abbrev pub word_rule : List ℕ → Option ValueParser → Rule

@@ -90,6 +90,14 @@ usual_turns = 1000000
 abbrev pub usual_room : ℕ
 usual_room = 64
 
+-- how many milliseconds a leg may wait for its node at a time, where its words don't say it
+abbrev pub usual_leg_timeout : ℕ
+usual_leg_timeout = 5000
+
+-- how many seconds a client may be silent, where the words don't say it: as many as it likes
+abbrev pub usual_idle_timeout : ℕ
+usual_idle_timeout = 0
+
 -- the word of an option is this number, or the option is left out and the number is the usual one
 abbrev pub IsNumberOr : ℕ → Option Text → ℕ → Type 0
 IsNumberOr usual None number = number ≡ usual
@@ -116,6 +124,7 @@ pub record HasNodeValues (rows : List Row) (values : NodeValues) : Type 0 where
   pub capacity_is : IsNumberOr usual_capacity (one_of (codes "capacity") rows) values.capacity
   pub clients_is : IsBoundOr usual_clients (is_forever rows) (one_of (codes "clients") rows) values.clients
   pub turns_is : IsBoundOr usual_turns (is_forever rows) (one_of (codes "turns") rows) values.turns
+  pub idle_is : IsNumberOr usual_idle_timeout (one_of (codes "idle-timeout") rows) values.idle_timeout
 
 -- the rows that a parse found hold the values of a proxy
 pub record HasProxyValues (rows : List Row) (values : ProxyValues) : Type 0 where
@@ -124,6 +133,8 @@ pub record HasProxyValues (rows : List Row) (values : ProxyValues) : Type 0 wher
   pub room_is : IsNumberOr usual_room (one_of (codes "room") rows) values.room
   pub clients_is : IsBoundOr usual_clients (is_forever rows) (one_of (codes "clients") rows) values.clients
   pub turns_is : IsBoundOr usual_turns (is_forever rows) (one_of (codes "turns") rows) values.turns
+  pub leg_is : IsNumberOr usual_leg_timeout (one_of (codes "leg-timeout") rows) values.leg_timeout
+  pub idle_is : IsNumberOr usual_idle_timeout (one_of (codes "idle-timeout") rows) values.idle_timeout
 
 -- the rows that a parse found name a refusal that is told of
 pub record HasExplanation (rows : List Row) (told : Told) : Type 0 where
@@ -221,8 +232,9 @@ pub record SaysNodeAlone (words : List Text) (values : NodeValues) : Type 0 wher
   pub capacity_is : values.capacity ≡ usual_capacity
   pub clients_is : values.clients ≡ usual_clients
   pub turns_is : values.turns ≡ usual_turns
+  pub idle_is : values.idle_timeout ≡ usual_idle_timeout
 
--- the words are `node` and its four options, and where it listens doesn't look like an option
+-- the words are `node`, where it listens and its three numbers, and where it listens doesn't look like an option
 pub record SaysNode (words : List Text) (values : NodeValues) : Type 0 where
   pub capacity : Text
   pub clients : Text
@@ -233,6 +245,7 @@ pub record SaysNode (words : List Text) (values : NodeValues) : Type 0 where
   pub capacity_is : IsNumberWord capacity values.capacity
   pub clients_is : IsNumberWord clients values.clients
   pub turns_is : IsNumberWord turns values.turns
+  pub idle_is : values.idle_timeout ≡ usual_idle_timeout
 
 -- the words are `node`, where it listens, how many items it holds, and `--forever`, and where it listens doesn't look like an
 -- option
@@ -243,6 +256,7 @@ pub record SaysNodeForever (words : List Text) (values : NodeValues) : Type 0 wh
   pub capacity_is : IsNumberWord capacity values.capacity
   pub clients_is : values.clients ≡ without_end
   pub turns_is : values.turns ≡ without_end
+  pub idle_is : values.idle_timeout ≡ usual_idle_timeout
 
 -- the words are `proxy`, the file's name and where it listens, neither of which looks like an option, and the numbers are
 -- the usual ones
@@ -253,8 +267,10 @@ pub record SaysProxyAlone (words : List Text) (values : ProxyValues) : Type 0 wh
   pub room_is : values.room ≡ usual_room
   pub clients_is : values.clients ≡ usual_clients
   pub turns_is : values.turns ≡ usual_turns
+  pub leg_is : values.leg_timeout ≡ usual_leg_timeout
+  pub idle_is : values.idle_timeout ≡ usual_idle_timeout
 
--- the words are `proxy` and its five options, and neither the file's name nor where it listens looks like an option
+-- the words are `proxy`, the file's name, where it listens and its three numbers, and neither the file's name nor where it listens looks like an option
 pub record SaysProxy (words : List Text) (values : ProxyValues) : Type 0 where
   pub room : Text
   pub clients : Text
@@ -266,6 +282,8 @@ pub record SaysProxy (words : List Text) (values : ProxyValues) : Type 0 where
   pub room_is : IsNumberWord room values.room
   pub clients_is : IsNumberWord clients values.clients
   pub turns_is : IsNumberWord turns values.turns
+  pub leg_is : values.leg_timeout ≡ usual_leg_timeout
+  pub idle_is : values.idle_timeout ≡ usual_idle_timeout
 
 -- the words are `proxy`, the file's name, where it listens, how many requests may be under way, and `--forever`, and neither
 -- the file's name nor where it listens looks like an option
@@ -278,6 +296,8 @@ pub record SaysProxyForever (words : List Text) (values : ProxyValues) : Type 0 
   pub room_is : IsNumberWord room values.room
   pub clients_is : values.clients ≡ without_end
   pub turns_is : values.turns ≡ without_end
+  pub leg_is : values.leg_timeout ≡ usual_leg_timeout
+  pub idle_is : values.idle_timeout ≡ usual_idle_timeout
 
 -- the words are `explain`, and the layer and the number of a refusal that is told of
 pub record SaysExplain (words : List Text) (told : Told) : Type 0 where
@@ -304,9 +324,10 @@ AgreesWith (Timeline values) (Timeline read) = (read.config.now ≡ values.confi
 AgreesWith (Run file) (Run read) = path_in read ≡ path_in file
 AgreesWith (Check file) (Check read) = path_in read ≡ path_in file
 AgreesWith (Node values) (Node read) = (read.listen.now ≡ values.listen.now) × (read.capacity ≡ values.capacity)
-    × (read.clients ≡ values.clients) × (read.turns ≡ values.turns)
+    × (read.clients ≡ values.clients) × (read.turns ≡ values.turns) × (read.idle_timeout ≡ values.idle_timeout)
 AgreesWith (Proxy values) (Proxy read) = (read.config.now ≡ values.config.now) × (read.listen.now ≡ values.listen.now)
     × (read.room ≡ values.room) × (read.clients ≡ values.clients) × (read.turns ≡ values.turns)
+    × (read.leg_timeout ≡ values.leg_timeout) × (read.idle_timeout ≡ values.idle_timeout)
 AgreesWith (Explain explanation) (Explain read) = told_by read ≡ told_by explanation
 AgreesWith _ _ = ⊥
 

@@ -42,8 +42,16 @@ pub fn number_option<'a>(alloc: Global, name: &'a str, help: &'a str) -> Arg<'a>
     ensures rule { rule_of result ≡ number_rule name.entry.now }
     ensures local { result.global ≡ false }
 {
-    let number = option(alloc, name, "number", help);
-    number.value_parser(value_parser!(u64))
+    quantity_option(alloc, name, "number", help)
+}
+
+/// An option that gives a number of this unit, and may be left out.
+pub fn quantity_option<'a>(alloc: Global, name: &'a str, unit: &'a str, help: &'a str) -> Arg<'a>
+    ensures rule { rule_of result ≡ number_rule name.entry.now }
+    ensures local { result.global ≡ false }
+{
+    let quantity = option(alloc, name, unit, help);
+    quantity.value_parser(value_parser!(u64))
 }
 
 /// A command with one more option, where there was memory for both.

@@ -5,7 +5,7 @@ ghost use Rattle.mr_words.specs.Command.{node_app, proxy_app, forever_rule, numb
 ghost use Rattle.mr_words.specs.Words.{HasNodeValues, HasProxyValues, IsBoundOr, is_forever};
 
 use crate::help::{NODE_NOTES, PROXY_NOTES};
-use crate::options::{config_option, listen_option, number_option, number_or, with_option};
+use crate::options::{config_option, listen_option, number_option, number_or, quantity_option, with_option};
 use clap::{Arg, ArgAction, ArgMatches, Command};
 use std::alloc::{AllocError, Global};
 
@@ -21,6 +21,12 @@ const USUAL_TURNS: u64 = 1_000_000;
 /// How many requests may be under way in a proxy, where its words don't say it.
 const USUAL_ROOM: u64 = 64;
 
+/// How many milliseconds a leg may wait for its node at a time, where the words of a proxy don't say it.
+const USUAL_LEG_TIMEOUT: u64 = 5_000;
+
+/// How many seconds a client may be silent, where the words don't say it: as many as it likes.
+const USUAL_IDLE_TIMEOUT: u64 = 0;
+
 /// How many clients are served, and how many reads are made of each, where that goes on for good.
 const WITHOUT_END: u64 = u64::MAX;
 
@@ -35,6 +41,8 @@ pub struct NodeValues<'a> {
     pub clients: u64,
     /// How many reads are made at most of each client's connection.
     pub turns: u64,
+    /// How many seconds a client may be silent, or read nothing of what it is answered; 0 for as many as it likes.
+    pub idle_timeout: u64,
 }
 
 /// The values of the command `proxy`.
@@ -50,6 +58,11 @@ pub struct ProxyValues<'a> {
     pub clients: u64,
     /// How many reads are made at most of each client's connection, and of a node for each leg.
     pub turns: u64,
+    /// How many milliseconds a leg's connecting, each of its reads and each of its writes may wait for its node; 0 for as
+    /// many as it takes.
+    pub leg_timeout: u64,
+    /// How many seconds a client may be silent, or read nothing of what it is answered; 0 for as many as it likes.
+    pub idle_timeout: u64,
 }
 
 /// The option that says how many clients are served.
@@ -76,7 +89,33 @@ fn turns_option<'a>(alloc: Global) -> Arg<'a>
     )
 }
 
-/// The flag that stands in place of both.
+/// The option that says how long a leg waits for its node.
+fn leg_timeout_option<'a>(alloc: Global) -> Arg<'a>
+    ensures rule { rule_of result ≡ number_rule (codes "leg-timeout") }
+    ensures local { result.global ≡ false }
+{
+    quantity_option(
+        alloc,
+        "leg-timeout",
+        "milliseconds",
+        "How long a leg waits for its node at a time, 0 for no bound; 5000 where it is left out",
+    )
+}
+
+/// The option that says how long a client may be silent.
+fn idle_timeout_option<'a>(alloc: Global) -> Arg<'a>
+    ensures rule { rule_of result ≡ number_rule (codes "idle-timeout") }
+    ensures local { result.global ≡ false }
+{
+    quantity_option(
+        alloc,
+        "idle-timeout",
+        "seconds",
+        "How long a client may be silent, 0 for no bound; 0 where it is left out",
+    )
+}
+
+/// The flag that stands in place of both numbers of clients and turns.
 fn forever_flag<'a>(alloc: Global) -> Arg<'a>
     ensures rule { rule_of result ≡ forever_rule }
     ensures local { result.global ≡ false }
@@ -103,6 +142,7 @@ pub fn node_command<'a>(alloc: Global) -> Result<Command<'a>, AllocError>
     let node = with_option(node, capacity);
     let node = with_option(node, clients_option(alloc));
     let node = with_option(node, turns_option(alloc));
+    let node = with_option(node, idle_timeout_option(alloc));
     with_option(node, forever_flag(alloc))
 }
 
@@ -123,6 +163,8 @@ pub fn proxy_command<'a>(alloc: Global) -> Result<Command<'a>, AllocError>
     let proxy = with_option(proxy, room);
     let proxy = with_option(proxy, clients_option(alloc));
     let proxy = with_option(proxy, turns_option(alloc));
+    let proxy = with_option(proxy, leg_timeout_option(alloc));
+    let proxy = with_option(proxy, idle_timeout_option(alloc));
     with_option(proxy, forever_flag(alloc))
 }
 
@@ -163,6 +205,7 @@ pub fn node_values<'a>(matches: &ArgMatches<'a>) -> Option<NodeValues<'a>>
         capacity: number_or(matches, "capacity", USUAL_CAPACITY)?,
         clients: bound_or(matches, "clients", USUAL_CLIENTS)?,
         turns: bound_or(matches, "turns", USUAL_TURNS)?,
+        idle_timeout: number_or(matches, "idle-timeout", USUAL_IDLE_TIMEOUT)?,
     })
 }
 
@@ -178,5 +221,7 @@ pub fn proxy_values<'a>(matches: &ArgMatches<'a>) -> Option<ProxyValues<'a>>
         room: number_or(matches, "room", USUAL_ROOM)?,
         clients: bound_or(matches, "clients", USUAL_CLIENTS)?,
         turns: bound_or(matches, "turns", USUAL_TURNS)?,
+        leg_timeout: number_or(matches, "leg-timeout", USUAL_LEG_TIMEOUT)?,
+        idle_timeout: number_or(matches, "idle-timeout", USUAL_IDLE_TIMEOUT)?,
     })
 }

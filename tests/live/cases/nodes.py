@@ -1,4 +1,5 @@
 """Nodes: what they keep, for how long, and how they answer."""
+import pathlib
 import time
 
 import refusals
@@ -6,6 +7,10 @@ from client import DELETED, MISS, NOT_FOUND, STORED, delete_of, get_of, hits, se
 from fleet import Fleet
 from moments import moment, now
 from running import case
+from wanted import check_true
+
+# Keys whose hashes by SipHash-1-3 without a seed agree in the bits that the map of a node's keys goes by.
+TOGETHER = (pathlib.Path(__file__).resolve().parent.parent / "keys_that_fall_together.txt").read_text(encoding="ascii").split()
 
 
 @case(waits=True)
@@ -90,6 +95,28 @@ def a_capacity_takes_no_memory_before_there_are_items():
     with Fleet() as fleet:
         client = fleet.node("--capacity", str(2**64 - 1)).client()
         client.ask(set_of("k", "v") + get_of("k"), STORED + hits(("k", "v")))
+
+
+def seconds_spent_on(node, keys):
+    """The processor time that a node takes for a set of each of these keys and 30 gets of each, in seconds."""
+    client = node.client()
+    before = node.processor_seconds()
+    client.ask(b"".join(set_of(key, "v") for key in keys), STORED * len(keys))
+    for _ in range(30):
+        for begin in range(0, len(keys), 100):
+            some = keys[begin : begin + 100]
+            client.ask(get_of(*some), hits(*((key, "v") for key in some)))
+    return node.processor_seconds() - before
+
+
+@case
+def keys_that_fall_together_without_a_seed_are_found_as_soon_as_others():
+    """A node hashes keys by a seed that whoever chose these keys didn't know."""
+    with Fleet() as fleet:
+        others = [f"k{n:04}" for n in range(len(TOGETHER))]
+        usual = seconds_spent_on(fleet.node("--capacity", "10000"), others)
+        spent = seconds_spent_on(fleet.node("--capacity", "10000"), TOGETHER)
+        check_true(f"that {spent:.2f} s are at most four times {usual:.2f} s", spent <= 4 * usual + 0.1)
 
 
 @case

@@ -335,6 +335,18 @@ def a_reply_to_something_else_is_a_lost_leg():
 
 
 @case
+def a_node_that_ends_within_a_reply_loses_the_leg():
+    """What came of a block isn't handed on, and the next leg goes over a new link."""
+    with Fleet() as fleet:
+        replies = (b"VALUE k 0 5\r\nab", b"VALUE k 0 5\r\nabcde\r\n", b"VALUE k", b"EN")
+        node = fleet.keep(FakeNode(lambda link: link.request() and link.send((*replies, hits(("k", "v")))[link.number])))
+        client = fleet.proxy(fleet.config([node.address])).client()
+        for _ in replies:
+            client.ask(get_of("k"), LOST)
+        client.ask(get_of("k"), hits(("k", "v")))
+
+
+@case
 def a_node_that_closes_after_each_reply_loses_each_second_leg():
     """A proxy finds out by a leg that its link is gone: that leg is lost, and the next one goes over a new link."""
     with Fleet() as fleet:

@@ -6,7 +6,7 @@ index, so that one which fails can be drawn again.
 import random
 from typing import Dict, List, NamedTuple
 
-from . import configs, fleets, last_events, requests, scripts
+from . import changed_texts, configs, fleets, last_events, requests, scripts
 from .spelling import compact, spelled
 
 FILE = "fleet.json"
@@ -25,6 +25,20 @@ def draw(seed, index):
     source = random.Random(f"{seed} {index}")
     name, make = source.choices(KINDS, WEIGHTS)[0]
     return Drawn(name, *make(source))
+
+
+def altered_transcript(seed, index):
+    """A check of a transcript that is changed in one place."""
+    source = random.Random(f"{seed} altered transcript {index}")
+    name, data = changed_texts.altered(source, changed_texts.transcripts(seed), index)
+    return Drawn(name, *given(source, "check", data))
+
+
+def altered_config(seed, index):
+    """A timeline or a plan by a configuration that is changed in one place."""
+    source = random.Random(f"{seed} altered configuration {index}")
+    name, data = changed_texts.altered(source, changed_texts.configurations(seed), index)
+    return Drawn(name, *configured(source, data, asked=requests.valid_request))
 
 
 def planned(source, config, span, request):
@@ -59,11 +73,11 @@ def readings(source, span):
     return [zeros + str(min(reading, configs.GREATEST)) for reading in drawn]
 
 
-def configured(source, config, span=(1000, 100)):
+def configured(source, config, span=(1000, 100), asked=requests.altered_request):
     """A command that reads a configuration, and what it is given."""
     if source.random() < 0.5:
         return timed(source, config, span)
-    return planned(source, config, span, requests.altered_request(source))
+    return planned(source, config, span, asked(source))
 
 
 def valid_config(source):
@@ -149,3 +163,4 @@ TABLE = {
 }
 KINDS = [(name, make) for name, (_, make) in TABLE.items()]
 WEIGHTS = [weight for weight, _ in TABLE.values()]
+SORTS = {"drawn": draw, "transcript": altered_transcript, "configuration": altered_config}

@@ -48,4 +48,4 @@ module _ {C P : Type 0} (Does : Outcomes C P) (old new : Station C P) where
     StepIs (Ok Waits) =
         (new ≡ old) × IsUnfinished SpellsRequest RefusesRequest rest × (ended ≡ true → rest ≡ []) × Becomes requests rest ended false
     StepIs (Ok (Ends how)) = EndIs how
-    StepIs (Err fault) = ((fault ≡ OutOfMemory) × (new ≡ old)) ⊎ ((fault ≡ WriteFault) × LeavesUnanswered Does rest old new)
+    StepIs (Err fault) = ((fault ≡ OutOfMemory) × (new ≡ old) × (1 ≤ length rest)) ⊎ ((fault ≡ WriteFault) × LeavesUnanswered Does rest old new)

@@ -1,6 +1,6 @@
 -- How the next reply of a node is read, step by step.
-use Rattle.std.specs.Prelude.{◌≡◌, ℕ, false, List, ◌++◌, Option, Some, None, Result, Ok, Err}
-use Rattle.mr_text.specs.Replies.{SpellsReply, RefusesReply}
+use Rattle.std.specs.Prelude.{◌≡◌, ℕ, ◌⊎◌, false, List, ◌++◌, Option, Some, None, Result, Ok, Err}
+use Rattle.mr_text.specs.Replies.{SpellsReply, RefusesReply, HoldsReply, HoldsPartOfReply}
 use Rattle.mr_text.specs.Source.{SourceView}
 use Rattle.mr_text.specs.Stream.{ReaderView, BeginsWith, Becomes}
 use Rattle.mr_text.specs.declared.error.TextError.{TextError}
@@ -8,7 +8,7 @@ use Rattle.mr_text.specs.declared.error.TextError.TheVariants.{OutOfMemory as No
 use Rattle.mr_text.specs.declared.reply.Reply.{Reply}
 use Rattle.mr_desks.specs.declared.error.WorkerError.{WorkerError}
 use Rattle.mr_desks.specs.declared.error.WorkerError.TheVariants.{LinkBroken, Mismatch, ReadFault, OutOfMemory}
-use Rattle.mr_sessions.specs.Reading.{NeedsMore, HoldsReply, BringsPiece, MeetsEnd, FailsToRead, HasBrought, HasNoReply}
+use Rattle.mr_sessions.specs.Reading.{NeedsMore, BringsPiece, MeetsEnd, FailsToRead, HasBrought, HasNoReply}
 
 -- replies can still be read
 abbrev pub IsOpen : ReaderView → Type 0
@@ -30,7 +30,7 @@ abbrev pub NextIs : List ℕ → Result (Option Reply) WorkerError → ReaderVie
 NextIs kept (Ok (Some reply)) replies = BeginsWith SpellsReply kept reply replies.kept × IsOpen replies
 NextIs kept (Ok None) replies = NeedsMore kept × Becomes replies kept false false
 NextIs kept (Err Mismatch) replies = (refusal : TextError) × RefusesReply refusal kept
-NextIs kept (Err OutOfMemory) replies = HoldsReply kept
+NextIs kept (Err OutOfMemory) replies = HoldsReply kept ⊎ HoldsPartOfReply kept
 NextIs kept (Err other) replies = ⊥
 
 -- what one read comes to

@@ -1,5 +1,6 @@
 //! Worked values of clocks and of a fleet's readings.
 mod list_clock;
+mod memory;
 mod readings;
 mod system_clock;
 

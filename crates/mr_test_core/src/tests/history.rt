@@ -1,5 +1,6 @@
 //! Histories of small fleets.
 mod dice;
+mod memory;
 mod runs;
 mod second_judge;
 mod told;

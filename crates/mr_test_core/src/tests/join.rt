@@ -1,4 +1,6 @@
 //! Replies joined in either order, and the worse of two.
+mod memory;
+
 use super::leg_replies::{Came, reply_of, word_of};
 use super::{holds, is, says};
 use crate::tests::must;

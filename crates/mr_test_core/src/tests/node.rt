@@ -1,6 +1,7 @@
 //! Worked rows of a cache, and of the service of requests over it.
 mod cache;
 mod devices;
+mod hashing;
 mod memory;
 mod service;
 mod values;

@@ -1,4 +1,6 @@
 //! Worked values of names, hashes, pools and routings.
+mod memory;
+
 use super::{are, count_is, holds, is, pool, routing, says};
 use crate::tests::must;
 use mr_pools::{Fnv1a32, KeyHash, NamedHash, NodeName, Pool, PoolError, Routing, SumHash, laws};

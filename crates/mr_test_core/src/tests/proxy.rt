@@ -2,6 +2,7 @@
 //! bytes, and its migration starts at 1000 with an interval of 100 seconds.
 mod answers;
 mod legs;
+mod memory;
 mod scripts;
 mod values;
 

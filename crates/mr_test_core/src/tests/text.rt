@@ -1,5 +1,6 @@
 //! The text protocol: its values, its readers and writers, and what devices do.
 mod devices;
+mod memory;
 mod reader;
 mod slow_reader;
 mod values;

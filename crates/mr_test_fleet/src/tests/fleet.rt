@@ -2,6 +2,7 @@
 //! and 7102, and `b` by 7001 and 7103.
 mod at_once;
 mod many;
+mod memory;
 mod phases;
 
 use super::{is, is_at, must, recorded_proxy};

@@ -11,6 +11,7 @@ use std::io;
 use std::io::Read;
 use std::net::{Net, TcpListener, TcpStream};
 use std::process::Abort;
+use std::random::RandomSource;
 use std::sync::Wait;
 use std::thread::Threads;
 use std::time::Clock;
@@ -18,6 +19,7 @@ use std::time::Clock;
 mod arguments;
 mod devices;
 mod files_at;
+mod memory;
 mod reads;
 mod runs;
 mod services;
@@ -71,7 +73,12 @@ struct Ran {
 }
 
 fn run_over<
-    R: Net<Listener = TcpListener, Stream = TcpStream> + Threads + Wait + Clock + Sync,
+    R: Net<Listener = TcpListener, Stream = TcpStream>
+        + Threads
+        + Wait
+        + Clock
+        + RandomSource
+        + Sync,
     S: Sources,
     I: Source,
 >(rt: &R, alloc: Global, words: &[&str], sources: &mut S, input: &mut I) -> Ran {

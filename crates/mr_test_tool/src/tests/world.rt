@@ -3,6 +3,7 @@
 //! words.
 mod by_table;
 mod fleets;
+mod memory;
 mod moves;
 mod playing;
 mod refusals;

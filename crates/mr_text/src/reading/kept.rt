@@ -1,10 +1,16 @@
 //! What came of a stream and wasn't read yet.
-ghost use Rattle.std.specs.Prelude.{◌≡◌, ◌≤◌, ◌++◌, [], length, drop, OnOk, OnErr};
+ghost use Rattle.std.specs.Prelude.{◌≡◌, ◌≢◌, ◌≤◌, ◌++◌, [], length, drop, OnOk, OnErr, MatchBool};
 
+use crate::limits::MAX_BLOCK;
 use std::alloc::{AllocError, Global};
 use std::marker::Model;
 
+/// The most room that is kept where nothing whole is there: a block's, with its end.
+const MOST_ROOM: usize = MAX_BLOCK + 2;
+
 /// The bytes of a stream that came and weren't read yet.
+///
+/// Those that were read give their room back all at once, so that no text's being read moves what follows it.
 #[derive(Drop)]
 pub(crate) struct KeptBytes {
     bytes: Vec<u8>,
@@ -40,6 +46,20 @@ impl KeptBytes {
         &self.bytes[self.read..]
     }
 
+    /// How many bytes weren't read yet.
+    pub(crate) fn len(&self) -> usize
+        ensures { result ≡ length self.now }
+    {
+        self.bytes.len() - self.read
+    }
+
+    /// Whether all were read.
+    pub(crate) fn is_empty(&self) -> bool
+        ensures { MatchBool result (self.now ≡ []) (self.now ≢ []) }
+    {
+        self.as_slice().is_empty()
+    }
+
     /// The allocator of the bytes.
     pub(crate) fn allocator(&self) -> Global {
         *self.bytes.allocator()
@@ -63,13 +83,23 @@ impl KeptBytes {
         Ok(())
     }
 
+    /// Gives back the room of the bytes that were read, and what is above the most that is kept.
+    pub(crate) fn give_room_back(&mut self)
+        ensures { self.new ≡ self.old }
+    {
+        self.forget_read();
+        self.bytes.shrink_to(MOST_ROOM);
+    }
+
     /// Gives the room of the bytes that were read to those to come.
     fn forget_read(&mut self)
         ensures { self.new ≡ self.old }
     {
-        if self.read > 0 {
+        if self.read == self.bytes.len() {
+            self.bytes.clear();
+        } else if self.read > 0 {
             drop(self.bytes.drain(..self.read));
-            self.read = 0;
         }
+        self.read = 0;
     }
 }

@@ -1,243 +1,213 @@
-//! The reply at the front of some bytes: found over the bytes, and then copied out.
-ghost use Rattle.std.specs.Prelude.{◌≡◌, ◌≤◌, Some, is_none, drop, length, IfOk};
-ghost use Rattle.mr_text.specs.Block.{IsBlock};
-ghost use Rattle.mr_text.specs.Key.{IsKey};
-ghost use Rattle.mr_text.specs.steps.Reading.{block_reading};
-ghost use Rattle.mr_text.specs.steps.Reading.StretchReading.{Gives};
-ghost use Rattle.mr_text.specs.Replies.{cause_of};
-ghost use Rattle.mr_text.specs.steps.ReplyReading.{item_step, items_reading};
-ghost use Rattle.mr_text.specs.steps.ReplySteps.{IsReplyStep, IsItemStep, IsCount, HasItems, IsFoundItems, IsFoundReply, IsWholeReply, SaysReply, lone_reply};
+//! What stands in bytes that weren't read yet of a reply: found over the bytes themselves, without taking memory.
+ghost use Rattle.std.specs.Prelude.{◌≡◌, ◌≤◌, ◌<◌, ◌++◌, ◌^◌, ◌+◌, ℕ, List, Some, drop, take, length, IfOk, IfSome};
+ghost use Rattle.mr_lines.specs.Lines.{byte_place};
+ghost use Rattle.mr_text.specs.Replies.{cause_of, IsItemLine};
+ghost use Rattle.mr_text.specs.steps.ReplyReading.{items_reading};
+ghost use Rattle.mr_text.specs.steps.ReplySteps.{IsFirstSaid, IsNextLine, IsStepAhead, IsAhead, lone_reply};
 ghost use Rattle.mr_text.specs.steps.ReplyView.{HasOneLine, IsOneLine};
-ghost use Rattle.mr_text.specs.Limits.{MAX_BLOCK, MAX_ITEMS};
+ghost use Rattle.mr_text.specs.Limits.{MAX_BLOCK};
 ghost use Rattle.mr_text.specs.declared.reply.Reply.{Reply};
 
-use crate::block::Block;
 use crate::cause::Cause;
 use crate::cause_text::named_cause;
 use crate::error::TextError;
-use crate::item::Item;
 use crate::item_list::ItemList;
-use crate::key::Key;
-use crate::limits::MAX_ITEMS;
 use crate::line::Line;
 use crate::reading::blocks::has_block;
-use crate::reading::lines::line_at;
+use crate::reading::lines::line_to;
 use crate::reading::reply_lines::{SaidLine, first_line_of, next_line_of};
 use crate::reply::Reply;
+use mr_lines::place_of_byte;
 use std::alloc::{AllocError, Global};
 
-/// What comes next of the items of a reply, over the reply's own bytes, and how many bytes it takes.
+/// What the next line behind items comes to, over the line's own bytes, with its own length.
 #[derive(Clone, Copy)]
-pub(crate) enum FoundStep<'a> {
+pub(crate) enum NextLine<'a> {
+    /// It isn't whole.
+    Waits,
+    /// It is an item's, whose block is to follow.
     Item {
         key: &'a [u8],
         flags: u32,
-        block: &'a [u8],
-        length: usize,
+        block_length: usize,
+        size: usize,
     },
-    End {
-        length: usize,
-    },
+    /// The items end with it.
+    End(usize),
 }
 
-/// A whole reply at the front of some bytes, over these bytes.
+/// What comes next of the items of a reply.
 #[derive(Clone, Copy)]
-pub(crate) enum FoundReply<'a> {
-    /// So many items and the end.
-    Items { count: usize, length: usize },
-    /// A line by itself.
-    Lone { line: SaidLine<'a>, length: usize },
+pub(crate) enum StepAhead {
+    /// More bytes are needed.
+    Waits,
+    /// An item of so many bytes.
+    Item(usize),
+    End,
 }
 
-/// The next item, or the end of the items, with room for so many more; None where more bytes are needed.
-#[tactic(auto, unfolding(crate::specs::steps::ReplyReading::step_reading))]
-fn step_at(room: usize, bytes: &[u8]) -> Result<Option<FoundStep<'_>>, TextError>
-    ensures { IsReplyStep room bytes.now result }
+/// What the first line of a reply says, which ends at this place, and how many bytes it has; None where its end isn't
+/// there.
+#[tactic(auto, unfolding(crate::specs::steps::ReplyReading::reply_reading))]
+pub(crate) fn first_said(
+    bytes: &[u8],
+    end: Option<usize>,
+) -> Result<Option<(SaidLine<'_>, usize)>, TextError>
+    requires end { end ≡ byte_place 10 bytes.now }
+    requires within { IfSome end (λ place. place < length bytes.now) }
+    ensures { IsFirstSaid bytes.now result }
 {
-    let found = line_at(bytes)?;
-    let Some((line, line_length)) = found else {
+    let Some((line, size)) = line_to(bytes, end)? else {
         return Ok(None);
     };
-    let said = next_line_of(room, line)?;
-    match said {
+    let said = first_line_of(line)?;
+    Ok(Some((said, size)))
+}
+
+/// The line behind items that ends at this place, with room for so many more.
+#[tactic(auto, unfolding(crate::specs::steps::ReplyReading::step_reading))]
+pub(crate) fn next_line(
+    room: usize,
+    bytes: &[u8],
+    end: Option<usize>,
+) -> Result<NextLine<'_>, TextError>
+    requires end { end ≡ byte_place 10 bytes.now }
+    requires within { IfSome end (λ place. place < length bytes.now) }
+    ensures { IsNextLine room bytes.now result }
+{
+    let Some((line, size)) = line_to(bytes, end)? else {
+        return Ok(NextLine::Waits);
+    };
+    match next_line_of(room, line)? {
         SaidLine::Item {
             key,
             flags,
             block_length,
-        } => item_at(bytes, line_length, key, flags, block_length),
-        SaidLine::End => Ok(Some(FoundStep::End {
-            length: line_length,
-        })),
+        } => Ok(NextLine::Item {
+            key,
+            flags,
+            block_length,
+            size,
+        }),
+        SaidLine::End => Ok(NextLine::End(size)),
         _ => Err(TextError::WrongWords),
     }
 }
 
-/// The item whose line was read, once its block is there.
-fn item_at<'a>(
-    bytes: &'a [u8],
-    line_length: usize,
-    key: &'a [u8],
-    flags: u32,
-    block_length: usize,
-) -> Result<Option<FoundStep<'a>>, TextError>
-    requires line { line_length ≤ length bytes.now }
+/// The next item, or the end of the items, with room for so many more.
+fn step_ahead(room: usize, bytes: &[u8], end: Option<usize>) -> Result<StepAhead, TextError>
+    requires end { end ≡ byte_place 10 bytes.now }
+    requires within { IfSome end (λ place. place < length bytes.now) }
+    ensures { IsStepAhead room bytes.now result }
+{
+    match next_line(room, bytes, end) {
+        Ok(
+            NextLine::Item {
+                block_length,
+                size,
+                ..
+            },
+        ) => block_ahead(bytes, size, block_length),
+        Ok(NextLine::End(_)) => Ok(StepAhead::End),
+        Ok(NextLine::Waits) => Ok(StepAhead::Waits),
+        Err(refusal) => Err(refusal),
+    }
+}
+
+/// The same where the bytes begin with an item's line, which has so many bytes.
+fn block_ahead(bytes: &[u8], size: usize, block_length: usize) -> Result<StepAhead, TextError>
+    requires line { size ≤ length bytes.now }
     requires block { block_length ≤ MAX_BLOCK }
-    ensures { IsItemStep (item_step bytes.now line_length key.now flags block_length (block_reading block_length (drop line_length bytes.now)))
-        key.now flags (length bytes.now) result }
+    ensures { (room : ℕ) → (key : List ℕ) → (flags : ℕ) → 0 < room
+        → IsItemLine (take size bytes.now) key flags block_length → IsStepAhead room bytes.now result }
 {
-    let behind = &bytes[line_length..];
-    match has_block(block_length, behind) {
-        Ok(true) => Ok(Some(FoundStep::Item {
-            key,
-            flags,
-            block: &behind[..block_length],
-            length: line_length + block_length + 2,
-        })),
-        Ok(false) => Ok(None),
+    match has_block(block_length, &bytes[size..]) {
+        Ok(true) => Ok(StepAhead::Item(size + block_length + 2)),
+        Ok(false) => Ok(StepAhead::Waits),
         Err(refusal) => Err(refusal),
     }
 }
 
-/// The same behind the bytes that were read.
-fn step_from(room: usize, bytes: &[u8], read: usize) -> Result<Option<FoundStep<'_>>, TextError>
-    requires { read ≤ length bytes.now }
-    ensures { IsReplyStep room (drop read bytes.now) result }
-{
-    step_at(room, &bytes[read..])
-}
-
-/// How many items the bytes begin with, and how many bytes they take with their end; None where more bytes are needed.
-fn items_at(bytes: &[u8]) -> Result<Option<(usize, usize)>, TextError>
-    ensures { IsCount bytes.now result }
-{
-    let mut count = 0;
-    let mut read = 0;
-    let mut room = MAX_ITEMS;
-    'items: loop {
-        let step = match step_from(room, bytes, read) {
-            Ok(Some(step)) => step,
-            Ok(None) => return Ok(None),
-            Err(refusal) => return Err(refusal),
-        };
-        match step {
-            FoundStep::End { length } => return Ok(Some((count, read + length))),
-            FoundStep::Item { length, .. } => {
-                count += 1;
-                read += length;
-                room -= 1;
-            }
-        }
-    }
-}
-
-/// The items that were counted, with bytes of their own.
-fn items_of(alloc: Global, bytes: &[u8], count: usize, size: usize) -> Result<ItemList, AllocError>
-    requires { HasItems bytes.now count size }
-    ensures { IfOk result (λ items. items_reading MAX_ITEMS bytes.now ≡ Gives items size) }
-{
-    let mut items = Vec::with_capacity(alloc, count)?;
-    let mut read = 0;
-    let mut room = MAX_ITEMS;
-    'items: loop {
-        let step = match step_from(room, bytes, read) {
-            Ok(Some(step)) => step,
-            Ok(None) => unreachable!(),
-            Err(_) => unreachable!(),
-        };
-        match step {
-            FoundStep::End { .. } => return Ok(ItemList::new(items)),
-            FoundStep::Item {
-                key,
-                flags,
-                block,
-                length,
-            } => {
-                let item = item_of(alloc, key, flags, block)?;
-                items.push(item)?;
-                read += length;
-                room -= 1;
-            }
-        }
-    }
-}
-
-/// An item of these bytes.
-fn item_of(alloc: Global, key: &[u8], flags: u32, block: &[u8]) -> Result<Item, AllocError>
-    requires key { IsKey key.now }
-    requires block { IsBlock block.now }
-    ensures { IfOk result (λ item. item ≡ record { key = key.now; flags = flags; block = block.now }) }
-{
-    Ok(Item {
-        key: Key::of(alloc, key)?,
-        flags,
-        block: Block::of(alloc, block)?,
-    })
-}
-
-/// The reply at the front of the bytes; None where more bytes are needed.
-#[tactic(auto, unfolding(crate::specs::steps::ReplyReading::reply_reading))]
-pub(crate) fn reply_at(bytes: &[u8]) -> Result<Option<FoundReply<'_>>, TextError>
-    ensures { IsFoundReply bytes.now result }
-{
-    let found = line_at(bytes)?;
-    let Some((line, length)) = found else {
-        return Ok(None);
-    };
-    let said = first_line_of(line)?;
-    if begins_items(said) {
-        return found_items(bytes);
-    }
-    Ok(Some(FoundReply::Lone { line: said, length }))
-}
-
-/// Whether the line is an item's, or the end of items.
-fn begins_items(line: SaidLine<'_>) -> bool
-    ensures { result ≡ is_none (lone_reply line.entry) }
-{
-    match line {
-        SaidLine::Item { .. } | SaidLine::End => true,
-        SaidLine::Stored => false,
-        SaidLine::Deleted => false,
-        SaidLine::NotFound => false,
-        SaidLine::Error => false,
-        SaidLine::ClientError(_) => false,
-        SaidLine::ServerError(_) => false,
-    }
-}
-
-/// The reply that has the items at the front of the bytes.
-fn found_items(bytes: &[u8]) -> Result<Option<FoundReply<'_>>, TextError>
-    ensures { IsFoundItems bytes.now result }
-{
-    match items_at(bytes) {
-        Ok(Some((count, length))) => Ok(Some(FoundReply::Items { count, length })),
-        Ok(None) => Ok(None),
-        Err(refusal) => Err(refusal),
-    }
-}
-
-/// The reply that was found at the front of these bytes, with bytes of its own.
-pub(crate) fn reply_of(
-    alloc: Global,
+/// The same behind the bytes that were looked over.
+fn step_from(
+    room: usize,
     bytes: &[u8],
-    found: FoundReply<'_>,
-) -> Result<Reply, AllocError>
-    requires { IsWholeReply bytes.now found }
-    ensures { IfOk result (SaysReply bytes.now found.entry) }
+    read: usize,
+    end: Option<usize>,
+) -> Result<StepAhead, TextError>
+    requires within { read ≤ length bytes.now }
+    requires end { end ≡ byte_place 10 (drop read bytes.now) }
+    requires end_within { IfSome end (λ place. place < length (drop read bytes.now)) }
+    ensures { IsStepAhead room (drop read bytes.now) result }
 {
-    match found {
-        FoundReply::Items { count, length } => Ok(Reply::Items(items_of(
-            alloc, bytes, count, length,
-        )?)),
-        FoundReply::Lone { line, .. } => lone_reply(alloc, line),
+    step_ahead(room, &bytes[read..], end)
+}
+
+/// Where the next line ends behind the bytes that were looked over.
+fn end_from(bytes: &[u8], read: usize) -> Option<usize>
+    requires { read ≤ length bytes.now }
+    ensures place { result ≡ byte_place 10 (drop read bytes.now) }
+    ensures within { IfSome result (λ place. place < length (drop read bytes.now)) }
+{
+    place_of_byte(b'\n', &bytes[read..])
+}
+
+/// Whether the end of the items is there, with room for so many. The first line ends at this place.
+pub(crate) fn items_ahead(room: usize, bytes: &[u8], end: Option<usize>) -> Result<bool, TextError>
+    requires end { end ≡ byte_place 10 bytes.now }
+    requires within { IfSome end (λ place. place < length bytes.now) }
+    ensures { IsAhead (items_reading room bytes.now) result }
+{
+    let mut left = room;
+    let mut read = 0;
+    let mut end = end;
+    'items: loop {
+        match step_from(left, bytes, read, end) {
+            Ok(StepAhead::Item(size)) => {
+                read += size;
+                left -= 1;
+                end = end_from(bytes, read);
+            }
+            Ok(StepAhead::End) => return Ok(true),
+            Ok(StepAhead::Waits) => return Ok(false),
+            Err(refusal) => return Err(refusal),
+        }
     }
+}
+
+/// The same where the line of the first item was read, whose block comes first of these bytes.
+pub(crate) fn items_behind_block(
+    room: usize,
+    block_length: usize,
+    bytes: &[u8],
+) -> Result<bool, TextError>
+    requires room { 0 < room }
+    requires block { block_length ≤ MAX_BLOCK }
+    ensures { (line : List ℕ) → (key : List ℕ) → (flags : ℕ) → IsItemLine line key flags block_length
+        → IsAhead (items_reading room (line ++ bytes.now)) result }
+{
+    match has_block(block_length, bytes) {
+        Ok(true) => items_from(room - 1, bytes, block_length + 2),
+        Ok(false) => Ok(false),
+        Err(refusal) => Err(refusal),
+    }
+}
+
+/// Whether the end of the items is there behind so many bytes.
+fn items_from(room: usize, bytes: &[u8], read: usize) -> Result<bool, TextError>
+    requires { read ≤ length bytes.now }
+    ensures { IsAhead (items_reading room (drop read bytes.now)) result }
+{
+    let rest = &bytes[read..];
+    items_ahead(room, rest, place_of_byte(b'\n', rest))
 }
 
 /// The reply that a line says by itself.
-fn lone_reply(alloc: Global, line: SaidLine<'_>) -> Result<Reply, AllocError>
+pub(crate) fn lone_reply(alloc: Global, line: SaidLine<'_>) -> Result<Reply, AllocError>
     requires text { HasOneLine line }
     requires lone { (reply : Reply) × (lone_reply line ≡ Some reply) }
-    ensures { IfOk result (λ reply. lone_reply line.entry ≡ Some reply) }
+    ensures reply { IfOk result (λ reply. lone_reply line.entry ≡ Some reply) }
+    ensures lone { (reply : Reply) × (lone_reply line.entry ≡ Some reply) }
 {
     Ok(match line {
         SaidLine::Stored => Reply::Stored,
@@ -246,8 +216,8 @@ fn lone_reply(alloc: Global, line: SaidLine<'_>) -> Result<Reply, AllocError>
         SaidLine::Error => Reply::Error,
         SaidLine::ClientError(text) => Reply::ClientError(cause_of(alloc, text)?),
         SaidLine::ServerError(text) => Reply::ServerError(cause_of(alloc, text)?),
+        SaidLine::End => Reply::Items(ItemList::new(Vec::new(alloc))),
         SaidLine::Item { .. } => unreachable!(),
-        SaidLine::End => unreachable!(),
     })
 }
 

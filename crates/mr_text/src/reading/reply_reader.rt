@@ -1,93 +1,91 @@
 //! Replies, out of a stream that comes in any pieces.
-ghost use Rattle.std.specs.Prelude.{◌≡◌, ◌≤◌, ℕ, List, [], true, false, drop, length};
-ghost use Rattle.mr_text.specs.Replies.{SpellsReply, RefusesReply, SkipsNone, is_no_last};
-ghost use Rattle.mr_text.specs.Stream.{StandsFor, Becomes, NextIs, FeedIs};
-ghost use Rattle.mr_text.specs.steps.ReplySteps.{size_of};
+ghost use Rattle.std.specs.Prelude.{◌≡◌, ◌≤◌, ℕ, List, [], true, false, None, Ok};
+ghost use Rattle.mr_text.specs.Replies.{NextReplyIs, ReplyBegunAfter};
+ghost use Rattle.mr_text.specs.Stream.{StandsFor, Becomes, FeedIs, Holds, HoldsFew};
+ghost use Rattle.mr_text.specs.steps.ReplyProgress.{IsNextReply};
 
 use crate::error::TextError;
-use crate::reading::replies::{FoundReply, reply_at, reply_of};
-use crate::reading::stream::Stream;
+use crate::reading::unfinished_reply::UnfinishedReply;
 use crate::reply::Reply;
 use std::alloc::Global;
 use std::marker::Model;
 
 /// Reads the replies of a stream that comes in any pieces.
 ///
-/// It keeps every byte that was fed until it is read, and at each `next` reads what is left from its start. Every
-/// refusal but want of memory closes it. After OutOfMemory the same call may be made again.
+/// It keeps the bytes after the last whole line or block that it has read, how far it has looked for a line end in
+/// them, and, of a reply that isn't whole, its items and what the line of the next one said: each byte is kept once,
+/// each item is copied once, and nothing that was read is kept. Every refusal but want of memory closes it. After
+/// OutOfMemory the same call may be made again.
 #[derive(Drop)]
 pub struct ReplyReader {
-    stream: Stream,
+    reply: UnfinishedReply,
 }
 
 impl Model for ReplyReader {
     ghost use Rattle.mr_text.specs.Stream.{ReaderView};
+    ghost use Rattle.mr_text.specs.steps.ReplyProgress.{IsProgress};
+    ghost use Rattle.mr_text.specs.steps.StreamView.{reader_of};
 
     ghost Value = { ReaderView };
 
-    ghost view = { λ r. r.stream };
+    ghost view = { λ r. reader_of r.reply.stream };
+
+    ghost invariant = { λ r. IsProgress r.reply };
 }
 
 impl ReplyReader {
     /// A reader of a stream of which nothing came yet.
     pub fn new(alloc: Global) -> ReplyReader
-        ensures { Becomes result [] false false }
+        ensures stands { Becomes result [] false false }
+        ensures begun { result.begun ≡ 0 }
     {
         ReplyReader {
-            stream: Stream::new(alloc),
+            reply: UnfinishedReply::new(alloc),
         }
     }
 
     /// Takes the next piece of the stream. A reader that is closed, or whose input ended, answers Closed. An error
     /// takes nothing of the piece.
     pub fn feed(&mut self, piece: &[u8]) -> Result<(), TextError>
-        ensures { (rest : List ℕ) → StandsFor self.old rest → FeedIs self.old self.new rest piece.now result }
+        ensures piece { (rest : List ℕ) → StandsFor self.old rest → FeedIs self.old self.new rest piece.now result }
+        ensures begun { self.new.begun ≡ self.old.begun }
     {
-        self.stream.feed(piece)
+        self.reply.stream.feed(piece)
     }
 
     /// Marks the end of the input.
     pub fn end(&mut self)
-        ensures { (rest : List ℕ) → StandsFor self.old rest → Becomes self.new rest true self.old.closed }
+        ensures ended { (rest : List ℕ) → StandsFor self.old rest → Becomes self.new rest true self.old.closed }
+        ensures begun { self.new.begun ≡ self.old.begun }
     {
-        self.stream.end();
+        self.reply.stream.end();
+    }
+
+    /// How many bytes came after the last whole line or block that was read. It takes no memory.
+    pub fn held(&self) -> usize
+        ensures { Holds self.now result }
+    {
+        self.reply.stream.held()
     }
 
     /// The next reply; None where more input is needed, or all was read. The refusals come in the order of the
-    /// text: in each line a long line, an unknown first word, wrong words, a bad key, a bad number, a long block, a bad end of a block;
-    /// Truncated where the input ended inside a reply; want of memory where a reply is whole.
+    /// text: in each line a long line, an unknown first word, wrong words, a bad key, a bad number, a long block, a
+    /// bad end of a block; Truncated where the input ended inside a reply; want of memory where a reply is whole or,
+    /// while the input goes on, an item of one.
     pub fn next(&mut self) -> Result<Option<Reply>, TextError>
-        ensures { (rest : List ℕ) → StandsFor self.old rest
-            → NextIs SpellsReply RefusesReply SkipsNone is_no_last self.old self.new rest result }
+        ensures answer { (rest : List ℕ) → StandsFor self.old rest → NextReplyIs self.old self.new rest result }
+        ensures begun { ReplyBegunAfter self.old self.new result }
+        ensures short { result ≡ Ok None → HoldsFew self.new }
     {
-        if self.stream.is_closed() {
+        self.next_reply()
+    }
+
+    fn next_reply(&mut self) -> Result<Option<Reply>, TextError>
+        ensures { IsNextReply self.old self.new result }
+    {
+        if self.reply.stream.is_closed() {
             return Err(TextError::Closed);
         }
-        let bytes = self.stream.as_slice();
-        match reply_at(bytes) {
-            Ok(Some(found)) => {
-                let length = found_length(found);
-                let Ok(reply) = reply_of(self.stream.allocator(), bytes, found) else {
-                    return Err(TextError::OutOfMemory);
-                };
-                self.stream.skip(length);
-                Ok(Some(reply))
-            }
-            Ok(None) => self.stream.wait(),
-            Err(refusal) => {
-                self.stream.close();
-                Err(refusal)
-            }
-        }
-    }
-}
-
-/// How many bytes spell the reply.
-fn found_length(found: FoundReply<'_>) -> usize
-    ensures { result ≡ size_of found.entry }
-{
-    match found {
-        FoundReply::Items { length, .. } => length,
-        FoundReply::Lone { length, .. } => length,
+        self.reply.next()
     }
 }

@@ -1,10 +1,15 @@
 //! Requests, out of a stream that comes in any pieces.
-ghost use Rattle.std.specs.Prelude.{◌≡◌, ◌≤◌, ℕ, List, [], true, false, drop, length, if◌then◌else◌};
-ghost use Rattle.mr_text.specs.Requests.{SpellsRequest, RefusesRequest, SkipsLine, is_quit};
-ghost use Rattle.mr_text.specs.Stream.{StandsFor, Becomes, NextIs, FeedIs, skips_line};
+ghost use Rattle.std.specs.Prelude.{◌≡◌, ◌+◌, ◌≤◌, ◌<◌, ℕ, List, [], true, false, drop, take, length, if◌then◌else◌, Some, None, Ok};
+ghost use Rattle.mr_text.specs.Requests.{SpellsRequest, RefusesRequest, SkipsLine, BegunAfter, is_quit};
+ghost use Rattle.mr_text.specs.Stream.{StandsFor, Becomes, NextIs, FeedIs, Holds, HoldsFew, skips_line};
+ghost use Rattle.mr_text.specs.steps.BegunSet.{IsBegun};
+ghost use Rattle.mr_text.specs.steps.RequestNext.{IsNextRequest};
+ghost use Rattle.mr_text.specs.steps.Waiting.{WaitIs};
 
 use crate::error::TextError;
-use crate::reading::requests::{RefusedText, request_at, request_of};
+use crate::reading::begun_set::BegunSet;
+use crate::reading::blocks::has_block;
+use crate::reading::requests::{Found, RefusedText, request_at, request_of};
 use crate::reading::stream::Stream;
 use crate::request::Request;
 use std::alloc::Global;
@@ -12,94 +17,201 @@ use std::marker::Model;
 
 /// Reads the requests of a stream that comes in any pieces.
 ///
-/// It keeps every byte that was fed until it is read, and at each `next` reads what is left from its start. A refusal
-/// closes it, but for an unknown command that no block follows, whose line is skipped; so does a quit, once it was
-/// given. After OutOfMemory the same call may be made again.
+/// It keeps the bytes after the last whole line or block that it has read, how far it has looked for a line end in
+/// them, and, of a set whose block isn't whole, what its line said: each byte is looked at once, and nothing that was
+/// read is kept. A refusal closes it, but for an unknown command that no block follows, whose line is skipped; so does
+/// a quit, once it was given. After OutOfMemory the same call may be made again.
 #[derive(Drop)]
 pub struct RequestReader {
     stream: Stream,
+    /// What the line of a set said whose block isn't whole.
+    begun: Option<BegunSet>,
 }
 
 impl Model for RequestReader {
     ghost use Rattle.mr_text.specs.Stream.{ReaderView};
+    ghost use Rattle.mr_text.specs.steps.BegunSet.{IsBegun};
+    ghost use Rattle.mr_text.specs.steps.StreamView.{reader_of};
 
     ghost Value = { ReaderView };
 
-    ghost view = { λ r. r.stream };
+    ghost view = { λ r. reader_of r.stream };
+
+    ghost invariant = { λ r. IsBegun r.begun r.stream.front };
 }
 
 impl RequestReader {
     /// A reader of a stream of which nothing came yet.
     pub fn new(alloc: Global) -> RequestReader
-        ensures { Becomes result [] false false }
+        ensures stands { Becomes result [] false false }
+        ensures begun { result.begun ≡ 0 }
     {
         RequestReader {
             stream: Stream::new(alloc),
+            begun: None,
         }
     }
 
     /// Takes the next piece of the stream. A reader that is closed, or whose input ended, answers Closed. An error
     /// takes nothing of the piece.
     pub fn feed(&mut self, piece: &[u8]) -> Result<(), TextError>
-        ensures { (rest : List ℕ) → StandsFor self.old rest → FeedIs self.old self.new rest piece.now result }
+        ensures piece { (rest : List ℕ) → StandsFor self.old rest → FeedIs self.old self.new rest piece.now result }
+        ensures begun { self.new.begun ≡ self.old.begun }
     {
         self.stream.feed(piece)
     }
 
     /// Marks the end of the input.
     pub fn end(&mut self)
-        ensures { (rest : List ℕ) → StandsFor self.old rest → Becomes self.new rest true self.old.closed }
+        ensures ended { (rest : List ℕ) → StandsFor self.old rest → Becomes self.new rest true self.old.closed }
+        ensures begun { self.new.begun ≡ self.old.begun }
     {
         self.stream.end();
     }
 
+    /// How many bytes came after the last whole line or block that was read. It takes no memory.
+    pub fn held(&self) -> usize
+        ensures { Holds self.now result }
+    {
+        self.stream.held()
+    }
+
     /// The next request; None where more input is needed, or all was read. The refusals come in the order of the
-    /// text: a long line, an unknown command, wrong words, a bad key, a bad number, a long block, a bad end of a block; Truncated
-    /// where the input ended inside a request; want of memory where a request is whole.
+    /// text: a long line, an unknown command, wrong words, a bad key, a bad number, a long block, a bad end of a
+    /// block; Truncated where the input ended inside a request; want of memory where a request is whole, and the
+    /// reader is then as it was.
     pub fn next(&mut self) -> Result<Option<Request>, TextError>
-        ensures { (rest : List ℕ) → StandsFor self.old rest
+        ensures answer { (rest : List ℕ) → StandsFor self.old rest
             → NextIs SpellsRequest RefusesRequest SkipsLine is_quit self.old self.new rest result }
+        ensures begun { BegunAfter self.old self.new result }
+        ensures short { result ≡ Ok None → HoldsFew self.new }
+    {
+        self.next_request()
+    }
+
+    fn next_request(&mut self) -> Result<Option<Request>, TextError>
+        ensures { IsNextRequest self.old self.new result }
     {
         if self.stream.is_closed() {
             return Err(TextError::Closed);
         }
-        match request_at(self.stream.as_slice()) {
-            Ok(Some(found)) => {
+        if self.begun.is_some() {
+            self.next_block()
+        } else {
+            self.next_line()
+        }
+    }
+
+    /// The set whose line was read, once its block is whole.
+    fn next_block(&mut self) -> Result<Option<Request>, TextError>
+        requires going_on { self.old.closed ≡ false }
+        requires begun { 0 < self.old.begun }
+        ensures { IsNextRequest self.old self.new result }
+    {
+        let Some(set) = &self.begun else {
+            unreachable!();
+        };
+        let bytes = self.stream.as_slice();
+        let block_length = set.block_length();
+        match has_block(block_length, bytes) {
+            Ok(true) => {
+                let Ok(request) = set.with_block(self.stream.allocator(), &bytes[..block_length])
+                else {
+                    return Err(TextError::OutOfMemory);
+                };
+                Ok(Some(self.give(request, block_length + 2)))
+            }
+            Ok(false) => self.wait(),
+            Err(refusal) => {
+                self.stream.close();
+                Err(refusal)
+            }
+        }
+    }
+
+    /// The request that begins with the next line.
+    fn next_line(&mut self) -> Result<Option<Request>, TextError>
+        requires going_on { self.old.closed ≡ false }
+        requires nothing { self.old.begun ≡ 0 }
+        ensures { IsNextRequest self.old self.new result }
+    {
+        let line_end = self.stream.line_end();
+        match request_at(self.stream.as_slice(), line_end) {
+            Ok(Found::Whole(found)) => {
                 let length = found.length;
                 let Ok(request) = request_of(self.stream.allocator(), &found) else {
                     return Err(TextError::OutOfMemory);
                 };
                 Ok(Some(self.give(request, length)))
             }
-            Ok(None) => self.stream.wait(),
+            Ok(
+                Found::Begun {
+                    key,
+                    flags,
+                    exptime,
+                    block_length,
+                    noreply,
+                    line_length,
+                },
+            ) => {
+                let set = BegunSet::of(key, flags, exptime, block_length, noreply);
+                self.begin(set, line_length);
+                self.wait()
+            }
+            Ok(Found::Nothing) => self.wait(),
             Err(refused) => Err(self.refuse(refused)),
         }
     }
 
-    /// Gives a request away, and goes on behind the bytes that spell it.
+    /// Keeps what the line of a set said, which has so many bytes, until its block is whole.
+    fn begin(&mut self, set: BegunSet, line_length: usize)
+        requires nothing { self.old.begun ≡ 0 }
+        requires within { line_length ≤ length self.old.kept }
+        requires line { IsBegun (Some set) (take line_length self.old.kept) }
+        ensures { self.new ≡ record self.old { begun = line_length } }
+    {
+        self.stream.read(line_length);
+        self.begun = Some(set);
+    }
+
+    /// Gives a request away, and goes on behind so many bytes of those that weren't read.
     fn give(&mut self, request: Request, size: usize) -> Request
-        requires within { size ≤ length self.old.kept }
+        requires within { self.old.begun + size ≤ length self.old.kept }
         requires going_on { self.old.closed ≡ false }
         ensures request { result ≡ request }
-        ensures reader { self.new ≡ record { kept = drop size self.old.kept; ended = self.old.ended; closed = is_quit request } }
+        ensures reader { self.new ≡ record {
+          kept = drop (self.old.begun + size) self.old.kept;
+          begun = 0;
+          ended = self.old.ended;
+          closed = is_quit request;
+        } }
     {
-        self.stream.skip(size);
+        self.stream.give(size);
+        self.begun = None;
         if let Request::Quit = &request {
             self.stream.close();
         }
         request
     }
 
+    /// Waits for more, or refuses what the input ended in.
+    fn wait(&mut self) -> Result<Option<Request>, TextError>
+        ensures { WaitIs self.old self.new result }
+    {
+        self.stream.wait(self.begun.is_some())
+    }
+
     /// Skips the line of an unknown command, or closes the reader.
     fn refuse(&mut self, refused: RefusedText) -> TextError
-        requires { refused.length ≤ length self.old.kept }
+        requires nothing { self.old.begun ≡ 0 }
+        requires within { refused.length ≤ length self.old.kept }
         ensures refusal { result ≡ refused.refusal }
         ensures reader { self.new ≡ (if skips_line refused.refusal
-            then record self.old { kept = drop refused.length self.old.kept }
+            then record self.old { kept = drop refused.length self.old.kept; begun = 0 }
             else record self.old { closed = true }) }
     {
         if let TextError::UnknownCommand { closes: false } = refused.refusal {
-            self.stream.skip(refused.length);
+            self.stream.give(refused.length);
         } else {
             self.stream.close();
         }

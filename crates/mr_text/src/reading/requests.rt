@@ -1,5 +1,6 @@
 //! The request at the front of some bytes: found over the bytes, and then copied out.
-ghost use Rattle.std.specs.Prelude.{◌≡◌, ◌≤◌, length, IfOk};
+ghost use Rattle.std.specs.Prelude.{◌≡◌, ◌≤◌, ◌<◌, length, IfOk, IfSome};
+ghost use Rattle.mr_lines.specs.Lines.{byte_place};
 ghost use Rattle.mr_lines.specs.Words.{words_of};
 ghost use Rattle.mr_text.specs.Limits.{MAX_LINE};
 ghost use Rattle.mr_text.specs.steps.Reading.{line_reading};
@@ -13,7 +14,7 @@ use crate::key::Key;
 use crate::key_list::KeyList;
 use crate::reading::blocks::has_block;
 use crate::reading::commands::{Command, command_of};
-use crate::reading::lines::line_at;
+use crate::reading::lines::line_to;
 use crate::request::Request;
 use mr_lines::next_word;
 use std::alloc::{AllocError, Global};
@@ -28,6 +29,23 @@ pub(crate) struct FoundRequest<'a> {
     pub(crate) length: usize,
 }
 
+/// What is found of a request at the front of some bytes, over these bytes.
+#[derive(Clone, Copy)]
+pub(crate) enum Found<'a> {
+    /// No line is whole.
+    Nothing,
+    /// The line of a set, of so many bytes with its end, whose block isn't whole.
+    Begun {
+        key: &'a [u8],
+        flags: u32,
+        exptime: i64,
+        block_length: usize,
+        noreply: bool,
+        line_length: usize,
+    },
+    Whole(FoundRequest<'a>),
+}
+
 /// A refusal, and the length of the line that reading goes on behind, where it does.
 #[derive(Clone, Copy)]
 pub(crate) struct RefusedText {
@@ -35,14 +53,16 @@ pub(crate) struct RefusedText {
     pub(crate) length: usize,
 }
 
-/// The request at the front of the bytes; None where more bytes are needed.
+/// What is at the front of the bytes, whose first line ends here or nowhere.
 #[tactic(auto, unfolding(crate::specs::steps::Reading::request_reading))]
-pub(crate) fn request_at(bytes: &[u8]) -> Result<Option<FoundRequest<'_>>, RefusedText>
+pub(crate) fn request_at(bytes: &[u8], line_end: Option<usize>) -> Result<Found<'_>, RefusedText>
+    requires end { line_end ≡ byte_place 10 bytes.now }
+    requires within { IfSome line_end (λ place. place < length bytes.now) }
     ensures { FindsRequest bytes.now result }
 {
-    match line_at(bytes) {
+    match line_to(bytes, line_end) {
         Ok(Some((line, length))) => request_of_line(bytes, line, length),
-        Ok(None) => Ok(None),
+        Ok(None) => Ok(Found::Nothing),
         Err(refusal) => Err(RefusedText { refusal, length: 0 }),
     }
 }
@@ -53,7 +73,7 @@ fn request_of_line<'a>(
     bytes: &'a [u8],
     line: &'a [u8],
     line_length: usize,
-) -> Result<Option<FoundRequest<'a>>, RefusedText>
+) -> Result<Found<'a>, RefusedText>
     requires line { line_reading bytes.now ≡ Gives line.now line_length }
     requires within { line_length ≤ length bytes.now }
     requires not_long { length line.now ≤ MAX_LINE }
@@ -68,8 +88,15 @@ fn request_of_line<'a>(
             });
         }
     };
-    let Command::Set { block_length, .. } = command else {
-        return Ok(Some(FoundRequest {
+    let Command::Set {
+        key,
+        flags,
+        exptime,
+        block_length,
+        noreply,
+    } = command
+    else {
+        return Ok(Found::Whole(FoundRequest {
             command,
             block: &[],
             length: line_length,
@@ -77,12 +104,19 @@ fn request_of_line<'a>(
     };
     let behind = &bytes[line_length..];
     match has_block(block_length, behind) {
-        Ok(true) => Ok(Some(FoundRequest {
+        Ok(true) => Ok(Found::Whole(FoundRequest {
             command,
             block: &behind[..block_length],
             length: line_length + block_length + 2,
         })),
-        Ok(false) => Ok(None),
+        Ok(false) => Ok(Found::Begun {
+            key,
+            flags,
+            exptime,
+            block_length,
+            noreply,
+            line_length,
+        }),
         Err(refusal) => Err(RefusedText { refusal, length: 0 }),
     }
 }

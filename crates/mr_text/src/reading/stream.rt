@@ -1,36 +1,47 @@
 //! What a reader keeps of its stream, whatever is spelled in it.
-ghost use Rattle.std.specs.Prelude.{◌≡◌, ◌≤◌, ℕ, List, [], true, false, drop, length};
-ghost use Rattle.mr_text.specs.Stream.{StandsFor, Becomes, FeedIs};
-ghost use Rattle.mr_text.specs.steps.Waiting.{WaitIs};
+ghost use Rattle.std.specs.Prelude.{◌≡◌, ◌≢◌, ◌≤◌, ◌<◌, ◌++◌, [], true, None, IfSome, MatchBool, length, take, drop};
+ghost use Rattle.mr_lines.specs.Lines.{byte_place};
+ghost use Rattle.mr_text.specs.steps.StreamView.{TakesPiece, StreamWaits, nothing_came, with_read, with_given};
 
 use crate::error::TextError;
 use crate::reading::kept::KeptBytes;
+use crate::reading::spelled::SpelledBytes;
+use mr_lines::place_of_byte;
 use std::alloc::Global;
 use std::marker::Model;
 
-/// The bytes that came and weren't read, whether the input ended, and whether reading is over.
+/// The bytes that came and weren't read, how far they were looked over, whether the input ended, and whether reading
+/// is over.
 #[derive(Drop)]
 pub(crate) struct Stream {
-    kept: KeptBytes,
+    /// What was read of an unfinished text, which contracts alone see.
+    front: SpelledBytes,
+    unread: KeptBytes,
+    /// So many bytes of the unread ones were looked over, and no line ends among them.
+    scanned: usize,
     ended: bool,
     closed: bool,
 }
 
 impl Model for Stream {
-    ghost use Rattle.mr_text.specs.Stream.{ReaderView};
+    ghost use Rattle.mr_text.specs.steps.StreamView.{StreamView, IsScanned};
 
-    ghost Value = { ReaderView };
+    ghost Value = { StreamView };
 
-    ghost view = { λ s. record { kept = s.kept; ended = s.ended; closed = s.closed } };
+    ghost view = { λ s. record { front = s.front; unread = s.unread; ended = s.ended; closed = s.closed } };
+
+    ghost invariant = { λ s. IsScanned s.unread s.scanned };
 }
 
 impl Stream {
     /// A stream of which nothing came yet.
     pub(crate) fn new(alloc: Global) -> Stream
-        ensures { Becomes result [] false false }
+        ensures { result ≡ nothing_came }
     {
         Stream {
-            kept: KeptBytes::new(alloc),
+            front: SpelledBytes::new(),
+            unread: KeptBytes::new(alloc),
+            scanned: 0,
             ended: false,
             closed: false,
         }
@@ -39,12 +50,12 @@ impl Stream {
     /// Takes the next piece. Where reading is over, or the input ended, it answers Closed. An error takes nothing of
     /// the piece.
     pub(crate) fn feed(&mut self, piece: &[u8]) -> Result<(), TextError>
-        ensures { (rest : List ℕ) → StandsFor self.old rest → FeedIs self.old self.new rest piece.now result }
+        ensures { TakesPiece self.old self.new piece.now result }
     {
         if self.closed || self.ended {
             return Err(TextError::Closed);
         }
-        self.kept.push(piece)?;
+        self.unread.push(piece)?;
         Ok(())
     }
 
@@ -62,6 +73,13 @@ impl Stream {
         self.closed
     }
 
+    /// Whether the input ended.
+    pub(crate) fn is_ended(&self) -> bool
+        ensures { result ≡ self.now.ended }
+    {
+        self.ended
+    }
+
     /// Reading is over.
     pub(crate) fn close(&mut self)
         ensures { self.new ≡ record self.old { closed = true } }
@@ -69,35 +87,96 @@ impl Stream {
         self.closed = true;
     }
 
+    /// How many bytes weren't read yet.
+    pub(crate) fn held(&self) -> usize
+        ensures { result ≡ length self.now.unread }
+    {
+        self.unread.len()
+    }
+
     /// The bytes that weren't read yet.
     pub(crate) fn as_slice(&self) -> &[u8]
-        ensures { result.now ≡ self.now.kept }
+        ensures { result.now ≡ self.now.unread }
     {
-        self.kept.as_slice()
+        self.unread.as_slice()
     }
 
     /// The allocator of the bytes.
     pub(crate) fn allocator(&self) -> Global {
-        self.kept.allocator()
+        self.unread.allocator()
     }
 
-    /// Goes on behind so many bytes.
-    pub(crate) fn skip(&mut self, count: usize)
-        requires { count ≤ length self.old.kept }
-        ensures { self.new ≡ record self.old { kept = drop count self.old.kept } }
+    /// Where the first line ends among the bytes that weren't read. Each byte is looked at once, however often this is
+    /// called.
+    pub(crate) fn line_end(&mut self) -> Option<usize>
+        ensures place { result ≡ byte_place 10 self.old.unread }
+        ensures within { IfSome result (λ place. place < length self.old.unread) }
+        ensures same { self.new ≡ self.old }
     {
-        self.kept.skip(count);
+        let found = line_end_from(self.unread.as_slice(), self.scanned);
+        self.scanned = found.unwrap_or(self.unread.len());
+        found
     }
 
-    /// Nothing is whole: what is left waits for more. Where the input ended inside it, that is Truncated, and reading
-    /// is over.
-    pub(crate) fn wait<Item>(&mut self) -> Result<Option<Item>, TextError>
-        ensures { WaitIs self.old self.new result }
+    /// So many bytes more of an unfinished text were read: a line, or a block.
+    pub(crate) fn read(&mut self, count: usize)
+        requires { count ≤ length self.old.unread }
+        ensures { self.new ≡ with_read count self.old }
     {
-        if self.ended && !self.kept.as_slice().is_empty() {
+        self.front.extend(&self.unread, count);
+        self.skip(count);
+    }
+
+    /// A text was given that ends behind so many bytes.
+    pub(crate) fn give(&mut self, count: usize)
+        requires { count ≤ length self.old.unread }
+        ensures { self.new ≡ with_given count self.old }
+    {
+        self.front = SpelledBytes::new();
+        self.skip(count);
+    }
+
+    /// Goes on behind so many bytes, of which what follows wasn't looked over.
+    fn skip(&mut self, count: usize)
+        requires { count ≤ length self.old.unread }
+        ensures { self.new ≡ record self.old { unread = drop count self.old.unread } }
+    {
+        self.unread.skip(count);
+        self.scanned = 0;
+    }
+
+    /// Nothing is whole: what is left waits for more. Where the input ended inside a text, of which something was read
+    /// already (`begun`) or not, that is Truncated, and reading is over.
+    pub(crate) fn wait<Item>(&mut self, begun: bool) -> Result<Option<Item>, TextError>
+        requires { MatchBool begun (self.old.front ≢ []) (self.old.front ≡ []) }
+        ensures { StreamWaits self.old self.new result }
+    {
+        if self.ended && self.is_inside_text(begun) {
             self.close();
             return Err(TextError::Truncated);
         }
+        self.unread.give_room_back();
         Ok(None)
+    }
+
+    /// Whether something of a text came.
+    fn is_inside_text(&self, begun: bool) -> bool
+        requires { MatchBool begun (self.now.front ≢ []) (self.now.front ≡ []) }
+        ensures { MatchBool result (self.now.front ++ self.now.unread ≢ []) (self.now.front ++ self.now.unread ≡ []) }
+    {
+        begun || !self.unread.is_empty()
+    }
+}
+
+/// Where the first line ends, where none ends before this place.
+fn line_end_from(bytes: &[u8], from: usize) -> Option<usize>
+    requires within { from ≤ length bytes.now }
+    requires none { byte_place 10 (take from bytes.now) ≡ None }
+    ensures place { result ≡ byte_place 10 bytes.now }
+    ensures within { IfSome result (λ place. place < length bytes.now) }
+{
+    match place_of_byte(b'\n', &bytes[from..]) {
+        Some(place) => Some(from + place),
+        None => None,
     }
 }

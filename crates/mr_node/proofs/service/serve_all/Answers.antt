@@ -4,7 +4,7 @@ use Rattle.mr_node.specs.declared.session.SessionFault.{SessionFault}
 use Rattle.mr_node.specs.declared.session.SessionFault.TheVariants.{TurnsSpent}
 use Rattle.mr_node.specs.declared.session.SessionStep.{SessionStep}
 use Rattle.mr_node.specs.declared.session.SessionStep.TheVariants.{Served, Waits, Ends}
-use Rattle.mr_node.specs.Session.{PieceIs, station}
+use Rattle.mr_node.specs.Session.{PieceIs, station, read_length}
 use Rattle.mr_node.proofs.CountLemmas.{reads_nothing, read_by, read_on, read_failed, same_fault}
 use Rattle.mr_node.proofs.SessionLemmas.{begins_so, stepped, goes_on, waits_for, shrinks, ends, all_read, spent, step_fails, step_reads_well, step_not_spent, fed, read_fails}
 use Rattle.mr_node.proofs.service.serve_all.Goals as goal
@@ -85,8 +85,8 @@ returns-in-Err-read_piece-clause-session g c =
     c.serve_next.result (Ok Waits)
     (c.in-Ok-Waits.is ∙ ap (λ (s : SessionStep). Ok s) c.in-Ok-Waits.field-0-is)
     (c.serve_next.ensures c.session.invariant.so.rest c.session.invariant.so.becomes.stands) in
-    read_fails _ _ _ _ _ (station c.serve_next.new.clock c.serve_next.new.node (g.W.Sink.told c.serve_next.new.writer)) _ c.serve_next.new.requests _ c.session.invariant.so (length c.session.buffer) (g.S.Source.told c.read_piece.new.reader) c.read_piece.new.requests c.in-Err-read_piece.fault step c.read_piece.ensures.once
-    (subst (λ (r : Result Bool SessionFault). PieceIs (length c.session.buffer) c.session.invariant.so.rest c.read_piece.new.requests (g.S.Source.told c.session.reader) r (g.S.Source.told c.read_piece.new.reader))
+    read_fails _ _ _ _ _ (station c.serve_next.new.clock c.serve_next.new.node (g.W.Sink.told c.serve_next.new.writer)) _ c.serve_next.new.requests _ c.session.invariant.so read_length (g.S.Source.told c.read_piece.new.reader) c.read_piece.new.requests c.in-Err-read_piece.fault step c.read_piece.ensures.once
+    (subst (λ (r : Result Bool SessionFault). PieceIs read_length c.session.invariant.so.rest c.read_piece.new.requests (g.S.Source.told c.session.reader) r (g.S.Source.told c.read_piece.new.reader))
     c.in-Err-read_piece.is (c.read_piece.ensures.piece c.session.invariant.so.rest (waits_for _ _ _ _ _ (station c.serve_next.new.clock c.serve_next.new.node (g.W.Sink.told c.serve_next.new.writer)) _ c.serve_next.new.requests _ c.session.invariant.so step).stands))
 
 pub returns-in-Err-read_piece-clause-counts : goal.returns-in-Err-read_piece-clause-counts
@@ -95,8 +95,8 @@ returns-in-Err-read_piece-clause-counts g c =
     c.serve_next.result (Ok Waits)
     (c.in-Ok-Waits.is ∙ ap (λ (s : SessionStep). Ok s) c.in-Ok-Waits.field-0-is)
     (c.serve_next.ensures c.session.invariant.so.rest c.session.invariant.so.becomes.stands) in
-    read_failed _ _ _ _ _ c.session.invariant.read (length c.session.buffer) _ c.session.invariant.so.rest c.read_piece.new.requests (omega arith) (omega arith) c.if-ended.false c.read_piece.ensures.once c.read_piece.ensures.offered c.in-Err-read_piece.fault
-    (subst (λ (r : Result Bool SessionFault). PieceIs (length c.session.buffer) c.session.invariant.so.rest c.read_piece.new.requests (g.S.Source.told c.session.reader) r (g.S.Source.told c.read_piece.new.reader))
+    read_failed _ _ _ _ _ c.session.invariant.read read_length _ c.session.invariant.so.rest c.read_piece.new.requests (omega arith) (omega arith) c.if-ended.false c.read_piece.ensures.once c.read_piece.ensures.offered c.in-Err-read_piece.fault
+    (subst (λ (r : Result Bool SessionFault). PieceIs read_length c.session.invariant.so.rest c.read_piece.new.requests (g.S.Source.told c.session.reader) r (g.S.Source.told c.read_piece.new.reader))
     c.in-Err-read_piece.is (c.read_piece.ensures.piece c.session.invariant.so.rest (waits_for _ _ _ _ _ (station c.serve_next.new.clock c.serve_next.new.node (g.W.Sink.told c.serve_next.new.writer)) _ c.serve_next.new.requests _ c.session.invariant.so step).stands))
 
 pub session-smaller : goal.session-smaller
@@ -105,8 +105,8 @@ session-smaller g c =
     c.serve_next.result (Ok Waits)
     (c.in-Ok-Waits.is ∙ ap (λ (s : SessionStep). Ok s) c.in-Ok-Waits.field-0-is)
     (c.serve_next.ensures c.session.invariant.so.rest c.session.invariant.so.becomes.stands) in
-    let piece = (subst (λ (r : Result Bool SessionFault). PieceIs (length c.session.buffer) c.session.invariant.so.rest c.read_piece.new.requests (g.S.Source.told c.session.reader) r (g.S.Source.told c.read_piece.new.reader))
-    c.in-Ok.is (c.read_piece.ensures.piece c.session.invariant.so.rest (waits_for _ _ _ _ _ (station c.serve_next.new.clock c.serve_next.new.node (g.W.Sink.told c.serve_next.new.writer)) _ c.serve_next.new.requests _ c.session.invariant.so step).stands)) in
+    let piece = (subst (λ (r : Result Bool SessionFault). PieceIs read_length c.session.invariant.so.rest c.read_piece.new.requests (g.S.Source.told c.session.reader) r (g.S.Source.told c.read_piece.new.reader))
+    c.in-Ok-read_piece.is (c.read_piece.ensures.piece c.session.invariant.so.rest (waits_for _ _ _ _ _ (station c.serve_next.new.clock c.serve_next.new.node (g.W.Sink.told c.serve_next.new.writer)) _ c.serve_next.new.requests _ c.session.invariant.so step).stands)) in
     let most = piece.3 in
     let was = ap (λ (l : List ℕ). length l) c.session.invariant.so.becomes.stands in
     let is = ap (λ (l : List ℕ). length l) piece.6.stands in
@@ -118,9 +118,9 @@ session-preserved g c =
     c.serve_next.result (Ok Waits)
     (c.in-Ok-Waits.is ∙ ap (λ (s : SessionStep). Ok s) c.in-Ok-Waits.field-0-is)
     (c.serve_next.ensures c.session.invariant.so.rest c.session.invariant.so.becomes.stands) in
-    let piece = (subst (λ (r : Result Bool SessionFault). PieceIs (length c.session.buffer) c.session.invariant.so.rest c.read_piece.new.requests (g.S.Source.told c.session.reader) r (g.S.Source.told c.read_piece.new.reader))
-    c.in-Ok.is (c.read_piece.ensures.piece c.session.invariant.so.rest (waits_for _ _ _ _ _ (station c.serve_next.new.clock c.serve_next.new.node (g.W.Sink.told c.serve_next.new.writer)) _ c.serve_next.new.requests _ c.session.invariant.so step).stands)) in
+    let piece = (subst (λ (r : Result Bool SessionFault). PieceIs read_length c.session.invariant.so.rest c.read_piece.new.requests (g.S.Source.told c.session.reader) r (g.S.Source.told c.read_piece.new.reader))
+    c.in-Ok-read_piece.is (c.read_piece.ensures.piece c.session.invariant.so.rest (waits_for _ _ _ _ _ (station c.serve_next.new.clock c.serve_next.new.node (g.W.Sink.told c.serve_next.new.writer)) _ c.serve_next.new.requests _ c.session.invariant.so step).stands)) in
     record {
-      so = fed _ _ _ _ _ (station c.serve_next.new.clock c.serve_next.new.node (g.W.Sink.told c.serve_next.new.writer)) _ c.serve_next.new.requests _ c.session.invariant.so (length c.session.buffer) (g.S.Source.told c.read_piece.new.reader) c.read_piece.new.requests c.in-Ok.last step c.read_piece.ensures.once piece;
-      read = read_on _ _ _ _ _ c.session.invariant.read (length c.session.buffer) _ c.session.invariant.so.rest c.read_piece.new.requests (omega arith) (omega arith) c.if-ended.false c.read_piece.ensures.once c.read_piece.ensures.offered _ (omega arith) c.in-Ok.last piece;
+      so = fed _ _ _ _ _ (station c.serve_next.new.clock c.serve_next.new.node (g.W.Sink.told c.serve_next.new.writer)) _ c.serve_next.new.requests _ c.session.invariant.so read_length (g.S.Source.told c.read_piece.new.reader) c.read_piece.new.requests c.in-Ok-read_piece.last step c.read_piece.ensures.once piece;
+      read = read_on _ _ _ _ _ c.session.invariant.read read_length _ c.session.invariant.so.rest c.read_piece.new.requests (omega arith) (omega arith) c.if-ended.false c.read_piece.ensures.once c.read_piece.ensures.offered _ (omega arith) c.in-Ok-read_piece.last piece;
     }

@@ -3,7 +3,7 @@ use Rattle.std.proofs.lemmas.Result.{err_from_is_err_and}
 use Rattle.mr_node.specs.declared.ended.Ended.TheVariants as how
 use Rattle.mr_node.specs.declared.session.SessionStep.{SessionStep}
 use Rattle.mr_node.specs.declared.session.SessionStep.TheVariants.{Served, Waits, Ends}
-use Rattle.mr_node.specs.Session.{station}
+use Rattle.mr_node.specs.Session.{station, read_length}
 use Rattle.mr_node.proofs.CountLemmas.{reads_nothing, read_on, read_failed}
 use Rattle.mr_node.proofs.SessionLemmas.{begins_so, stepped, goes_on, waits_for, shrinks, ends, all_read, spent, fed, read_fails}
 use Rattle.mr_sessions.specs.Account.{account}
@@ -18,7 +18,7 @@ use Rattle.mr_sessions.proofs.serving.serve_until_end.Goals as goal
 
 pub session-init : goal.session-init
 session-init g c = record {
-  so = begins_so _ _ _ c.new-requests.result c.new-requests.ensures;
+  so = begins_so _ _ _ c.new-requests.result c.new-requests.ensures.stands;
   read = reads_nothing _ _;
 }
 
@@ -69,7 +69,7 @@ returns-in-Err-clause-session g c =
     (client_told (desk_rules g.K.Clock.reads g.K.Clock.failures g.C.Carrier.gave g.D.Desk.recorded) (g.S.Source.told c.args.reader.now) (g.S.Source.told c.read_piece.new.reader)
     (station c.args.clock.now (account c.args.log.now.share c.args.log.now.answers.items (g.L.Carriers.told c.args.carriers.now)) (g.W.Sink.told c.args.writer.now))
     (station c.answer_next.new.clock (account c.answer_next.new.log.share c.answer_next.new.log.answers.items (g.L.Carriers.told c.answer_next.new.carriers)) (g.W.Sink.told c.answer_next.new.writer)) c.in-Err.fault
-    (read_fails _ _ _ _ _ (station c.answer_next.new.clock (account c.answer_next.new.log.share c.answer_next.new.log.answers.items (g.L.Carriers.told c.answer_next.new.carriers)) (g.W.Sink.told c.answer_next.new.writer)) _ c.answer_next.new.requests _ c.session.invariant.so (length c.session.buffer) (g.S.Source.told c.read_piece.new.reader) c.read_piece.new.requests c.in-Err.fault step c.read_piece.ensures.once
+    (read_fails _ _ _ _ _ (station c.answer_next.new.clock (account c.answer_next.new.log.share c.answer_next.new.log.answers.items (g.L.Carriers.told c.answer_next.new.carriers)) (g.W.Sink.told c.answer_next.new.writer)) _ c.answer_next.new.requests _ c.session.invariant.so read_length (g.S.Source.told c.read_piece.new.reader) c.read_piece.new.requests c.in-Err.fault step c.read_piece.ensures.once
     (c.in-Err.ensures.piece c.session.invariant.so.rest (waits_for _ _ _ _ _ (station c.answer_next.new.clock (account c.answer_next.new.log.share c.answer_next.new.log.answers.items (g.L.Carriers.told c.answer_next.new.carriers)) (g.W.Sink.told c.answer_next.new.writer)) _ c.answer_next.new.requests _ c.session.invariant.so step).stands)))
 
 pub returns-in-Err-clause-counts : goal.returns-in-Err-clause-counts
@@ -77,7 +77,7 @@ returns-in-Err-clause-counts g c =
     let step = stepped _ _ _ _ _ (station c.answer_next.new.clock (account c.answer_next.new.log.share c.answer_next.new.log.answers.items (g.L.Carriers.told c.answer_next.new.carriers)) (g.W.Sink.told c.answer_next.new.writer)) _ c.answer_next.new.requests _ c.session.invariant.so (Ok c.in_ok-answer_next.field-0) (Ok Waits) (ap (λ (s : SessionStep). Ok s) c.in-Waits.is) (c.in_ok-answer_next.ensures c.session.invariant.so.rest c.session.invariant.so.becomes.stands) in
     subst (λ (e : WorkerError). ClientCounts c.args.turns (g.S.Source.told c.args.reader.now) (g.S.Source.told c.read_piece.new.reader) (Err e)) (sym c.worker_error_of.ensures)
     (client_counts _ _ _ c.in-Err.fault
-    (read_failed _ _ _ _ _ c.session.invariant.read (length c.session.buffer) _ c.session.invariant.so.rest c.read_piece.new.requests (omega arith) (omega arith) c.if-ended.false c.read_piece.ensures.once c.read_piece.ensures.offered c.in-Err.fault
+    (read_failed _ _ _ _ _ c.session.invariant.read read_length _ c.session.invariant.so.rest c.read_piece.new.requests (omega arith) (omega arith) c.if-ended.false c.read_piece.ensures.once c.read_piece.ensures.offered c.in-Err.fault
     (c.in-Err.ensures.piece c.session.invariant.so.rest (waits_for _ _ _ _ _ (station c.answer_next.new.clock (account c.answer_next.new.log.share c.answer_next.new.log.answers.items (g.L.Carriers.told c.answer_next.new.carriers)) (g.W.Sink.told c.answer_next.new.writer)) _ c.answer_next.new.requests _ c.session.invariant.so step).stands)))
 
 pub returns-in_err-answer_next-clause-counts : goal.returns-in_err-answer_next-clause-counts
@@ -111,6 +111,6 @@ session-preserved g c =
     let step = stepped _ _ _ _ _ (station c.answer_next.new.clock (account c.answer_next.new.log.share c.answer_next.new.log.answers.items (g.L.Carriers.told c.answer_next.new.carriers)) (g.W.Sink.told c.answer_next.new.writer)) _ c.answer_next.new.requests _ c.session.invariant.so (Ok c.in_ok-answer_next.field-0) (Ok Waits) (ap (λ (s : SessionStep). Ok s) c.in-Waits.is) (c.in_ok-answer_next.ensures c.session.invariant.so.rest c.session.invariant.so.becomes.stands) in
     let piece = c.in-Ok.ensures.piece c.session.invariant.so.rest (waits_for _ _ _ _ _ (station c.answer_next.new.clock (account c.answer_next.new.log.share c.answer_next.new.log.answers.items (g.L.Carriers.told c.answer_next.new.carriers)) (g.W.Sink.told c.answer_next.new.writer)) _ c.answer_next.new.requests _ c.session.invariant.so step).stands in
     record {
-      so = fed _ _ _ _ _ (station c.answer_next.new.clock (account c.answer_next.new.log.share c.answer_next.new.log.answers.items (g.L.Carriers.told c.answer_next.new.carriers)) (g.W.Sink.told c.answer_next.new.writer)) _ c.answer_next.new.requests _ c.session.invariant.so (length c.session.buffer) (g.S.Source.told c.read_piece.new.reader) c.read_piece.new.requests c.in-Ok.at_end step c.read_piece.ensures.once piece;
-      read = read_on _ _ _ _ _ c.session.invariant.read (length c.session.buffer) _ c.session.invariant.so.rest c.read_piece.new.requests (omega arith) (omega arith) c.if-ended.false c.read_piece.ensures.once c.read_piece.ensures.offered _ (omega arith) c.in-Ok.at_end piece;
+      so = fed _ _ _ _ _ (station c.answer_next.new.clock (account c.answer_next.new.log.share c.answer_next.new.log.answers.items (g.L.Carriers.told c.answer_next.new.carriers)) (g.W.Sink.told c.answer_next.new.writer)) _ c.answer_next.new.requests _ c.session.invariant.so read_length (g.S.Source.told c.read_piece.new.reader) c.read_piece.new.requests c.in-Ok.at_end step c.read_piece.ensures.once piece;
+      read = read_on _ _ _ _ _ c.session.invariant.read read_length _ c.session.invariant.so.rest c.read_piece.new.requests (omega arith) (omega arith) c.if-ended.false c.read_piece.ensures.once c.read_piece.ensures.offered _ (omega arith) c.in-Ok.at_end piece;
     }

@@ -1,15 +1,16 @@
-//! Refused memory. In the gate no allocation is refused; `refused-memory` refuses each in turn.
+//! Refused memory: a node stays as it was, and a service answers or ends.
 use super::devices::{AMPLE, Left, Pieces, serve_input};
 use super::{Came, Told, are, is, word_of};
+use crate::tests::must;
 use mr_clock::FixedClock;
 use mr_join::LegReply;
 use mr_node::{CacheNode, Ended, NodeCommand, NodeError, Perform};
-use mr_test_support::TakesHalf;
+use mr_test_support::{TakesHalf, at_last, grant_memory, refuse_memory};
 use mr_text::Key;
 use std::alloc::{AllocError, Global};
 use std::cell::Cell;
+use std::env::Env;
 use std::process::Abort;
-use std::test::Fail;
 
 /// What a command comes to and how many items it leaves, or nothing where memory was refused for it.
 type Outcome = Option<(&'static str, usize)>;
@@ -30,25 +31,30 @@ static ROW: [(Told, u8, Came, usize); 11] = [
 ];
 
 /// What a command comes to and how many items it leaves, or nothing where memory was refused for it.
-fn attempt(alloc: Global, node: &mut CacheNode, command: Told, name: u8) -> Outcome {
-    let command = command.of(alloc, name).ok()?;
-    let came = word_of(&node.perform(100, command).ok()?);
-    Some((came, node.len()))
+fn attempt(
+    rt: &(impl Abort + Env),
+    alloc: Global,
+    node: &mut CacheNode,
+    command: Told,
+    name: u8,
+) -> Outcome {
+    let command = must(rt, command.of(alloc, name));
+    refuse_memory(rt);
+    let performed = node.perform(100, command);
+    grant_memory(rt);
+    Some((word_of(&performed.ok()?), node.len()))
 }
 
-/// Puts in its place what each command of the row comes to but for the one at a place, which is left out.
-fn attempt_all(alloc: Global, node: &mut CacheNode, left_out: usize, came: &mut [Outcome; 11]) {
+/// What each command of the row comes to but for the one at a place, which is left out, of a new cache.
+fn all_but(rt: &(impl Abort + Env), alloc: Global, left_out: usize) -> [Outcome; 11] {
+    let mut node = must(rt, CacheNode::new(alloc, 2));
+    let mut came = [None; 11];
     for (place, (command, name, ..)) in ROW.iter().enumerate() {
         if left_out != place {
-            came[place] = attempt(alloc, node, *command, *name);
+            came[place] = attempt(rt, alloc, &mut node, *command, *name);
         }
     }
-}
-
-/// The same of a new cache.
-fn all_but(alloc: Global, left_out: usize, came: &mut [Outcome; 11]) -> Result<(), NodeError> {
-    attempt_all(alloc, &mut CacheNode::new(alloc, 2)?, left_out, came);
-    Ok(())
+    came
 }
 
 /// Where the first command stands that doesn't come to what the row says; behind them all where each does.
@@ -68,14 +74,54 @@ fn are_same(rt: &impl Abort, found: &[Outcome; 11], wanted: &[Outcome; 11]) {
     }
 }
 
-/// A command for which memory was refused leaves no trace in what the later ones come to.
+/// A command for which memory was refused leaves no trace in what the later ones come to: they come to what they come to
+/// where it is left out.
 #[test]
-fn refused_memory_changes_nothing(rt: HostRuntime) -> Result<(), Fail> {
-    let (mut first, mut again) = ([None; 11], [None; 11]);
-    all_but(rt.alloc(), ROW.len(), &mut first)?;
-    all_but(rt.alloc(), first_other(&first), &mut again)?;
-    are_same(&rt, &again, &first);
-    Ok(())
+fn refused_memory_changes_nothing(rt: HostRuntime) {
+    let came = all_but(&rt, rt.alloc(), ROW.len());
+    let other = first_other(&came);
+    if other < ROW.len() {
+        are_same(&rt, &all_but(&rt, rt.alloc(), other), &came);
+    }
+}
+
+/// A command, the name that it is made with, what it comes to, and how many items are kept then.
+type Row = (Told, u8, Came, usize);
+
+/// Asserts what a command comes to, which is performed again where memory for it was refused.
+fn comes_to(rt: &(impl Abort + Env), alloc: Global, node: &mut CacheNode, place: usize, row: &Row) {
+    let (told, name, wanted, kept) = *row;
+    let mut came = attempt(rt, alloc, node, told, name);
+    if came.is_none() {
+        came = attempt(rt, alloc, node, told, name);
+    }
+    is(rt, place, came, Some((wanted.word(), kept)));
+}
+
+#[test]
+fn refused_memory_performs_later(rt: HostRuntime) {
+    let made = at_last!(
+        &rt,
+        CacheNode::new(rt.alloc(), 2),
+        Err(NodeError::OutOfMemory)
+    );
+    let mut node = must(&rt, made);
+    for (place, row) in ROW.iter().enumerate() {
+        comes_to(&rt, rt.alloc(), &mut node, place, row);
+    }
+}
+
+/// Asserts that a copy of a command is the same, also where memory for it was refused once.
+fn is_copied(rt: &(impl Abort + Env), row: usize, command: &NodeCommand) {
+    let copy = must(rt, at_last!(rt, command.copy(), Err(AllocError)));
+    is(rt, row, copy.same_as(command), true);
+}
+
+#[test]
+fn refused_memory_copies_commands_later(rt: HostRuntime) {
+    for (row, told) in [Told::Get, Told::Set(10), Told::Delete].iter().enumerate() {
+        is_copied(&rt, row, &must(&rt, told.of(rt.alloc(), b'k')));
+    }
 }
 
 /// A node that is always refused memory.
@@ -155,22 +201,57 @@ fn place_of(left: &Left, items: usize) -> Option<usize> {
 }
 
 /// Which of the outcomes a service comes to.
-fn outcome(alloc: Global) -> Result<Option<usize>, NodeError> {
-    let kept = Vec::with_capacity(alloc, 256)?;
-    let mut node = CacheNode::new(alloc, 2)?;
-    let input = b"set k 5 0 1\r\nv\r\nget k\r\n";
-    let left = serve_in_room(alloc, &mut node, input, kept);
-    Ok(place_of(&left, node.len()))
+fn outcome(rt: &(impl Abort + Env), alloc: Global) -> Option<usize> {
+    let kept = must(rt, Vec::with_capacity(alloc, 256));
+    let mut node = must(rt, CacheNode::new(alloc, 2));
+    refuse_memory(rt);
+    let left = serve_in_room(alloc, &mut node, b"set k 5 0 1\r\nv\r\nget k\r\n", kept);
+    grant_memory(rt);
+    place_of(&left, node.len())
 }
 
 #[test]
-fn refused_memory_is_answered_or_ends_the_service(rt: HostRuntime) -> Result<(), Fail> {
-    match outcome(rt.alloc()) {
-        Ok(Some(0)) => return Ok(()),
-        Ok(first) => is(&rt, 0, first.is_some(), true),
-        // Memory for the writer or the cache was refused.
-        Err(_) => {}
+fn refused_memory_is_answered_or_ends_the_service(rt: HostRuntime) {
+    let first = outcome(&rt, rt.alloc());
+    is(&rt, 0, first.is_some(), true);
+    if first != Some(0) {
+        is(&rt, 1, outcome(&rt, rt.alloc()), Some(0));
     }
-    is(&rt, 1, outcome(rt.alloc())?, Some(0));
-    Ok(())
+}
+
+/// What a service of no input may come to: how it ends, how often it reads, and how often it writes. The input is read to its
+/// end; or memory for the buffer was refused, and nothing is read.
+static IDLE: [(Result<Ended, NodeError>, u64, usize); 2] = [
+    (Ok(Ended::Ended), 1, 0),
+    (Err(NodeError::OutOfMemory), 0, 0),
+];
+
+/// What it comes to.
+fn idle(rt: &(impl Abort + Env), alloc: Global) -> (Result<Ended, NodeError>, u64, usize) {
+    let mut node = must(rt, CacheNode::new(alloc, 2));
+    let reads = Cell::new(0);
+    let pieces = Pieces {
+        bytes: b"",
+        length: AMPLE.length,
+        seconds: &reads,
+    };
+    let device = TakesHalf {
+        kept: Vec::new(alloc),
+        calls: 0,
+        fails_at: 0,
+    };
+    let clock = &mut FixedClock(999);
+    refuse_memory(rt);
+    let left = serve_input(alloc, &mut node, clock, pieces, AMPLE, device);
+    grant_memory(rt);
+    (left.how, reads.get(), left.writer.calls)
+}
+
+#[test]
+fn refused_memory_for_the_buffer_ends_before_the_first_read(rt: HostRuntime) {
+    let first = idle(&rt, rt.alloc());
+    if first != IDLE[0] {
+        is(&rt, 0, first, IDLE[1]);
+        is(&rt, 1, idle(&rt, rt.alloc()), IDLE[0]);
+    }
 }

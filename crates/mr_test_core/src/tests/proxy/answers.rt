@@ -3,11 +3,12 @@ use super::{Asked, Came, Rule, answer_to, are, bytes_of_rule, leaves};
 use crate::tests::must;
 use mr_proxy::Answer;
 use mr_test_support::{TakesHalf, reply_text};
-use mr_text::OverWriter;
+use mr_text::{FixedBuffer, OverWriter};
 use std::alloc::Global;
 use std::process::Abort;
 
-/// Asserts that an answer is this text, goes out in so many calls, and stops at each of them that fails.
+/// Asserts that an answer is this text, goes out in so many calls, and stops at each of them that fails, through a buffer of
+/// its own and through one that is lent.
 fn is_written(
     rt: &impl Abort,
     alloc: Global,
@@ -16,9 +17,13 @@ fn is_written(
     text: &[u8],
     calls: usize,
 ) {
+    let mut buffer = FixedBuffer::new();
     for call in 1..calls.saturating_add(2) {
         let mut sink = OverWriter::new(TakesHalf::new(alloc, call));
         let has_failed = answer.write(&mut sink).is_err();
+        leaves(rt, row, has_failed, &sink.into_inner(), text, calls);
+        let mut sink = OverWriter::new(TakesHalf::new(alloc, call));
+        let has_failed = answer.send(&mut buffer, &mut sink).is_err();
         leaves(rt, row, has_failed, &sink.into_inner(), text, calls);
     }
 }

@@ -1,10 +1,11 @@
 //! Worked streams of requests and replies, and readers that are refused memory.
+mod held;
 mod memory;
 mod replies;
 mod requests;
 mod streams;
 
-use super::{Rule, are, bytes_of_rule, holds, is};
+use super::{Rule, are, bytes_of_rule, count_is, holds, is};
 use crate::tests::must;
 use mr_test_support::{Texts, answers_in_two, first_cell};
 use std::alloc::Global;

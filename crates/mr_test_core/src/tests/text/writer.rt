@@ -4,16 +4,18 @@ mod told;
 use super::{Rule, bytes_of_rule, count_is, equal_bytes, item, leaves};
 use crate::tests::must;
 use mr_test_support::TakesHalf;
-use mr_text::OverWriter;
+use mr_text::{FixedBuffer, OverWriter};
 use std::alloc::Global;
 use std::process::Abort;
 use told::{Told, Written, written_of};
 
-/// Asserts that a text takes so many calls, and what each of them leaves where it fails.
+/// Asserts that a text takes so many calls, and what each of them leaves where it fails. What a fault leaves in the buffer is
+/// forgotten by the next.
 fn takes(rt: &impl Abort, alloc: Global, row: usize, written: &Written, text: &[u8], calls: usize) {
+    let mut buffer = FixedBuffer::new();
     for call in 1..calls.saturating_add(2) {
         let mut sink = OverWriter::new(TakesHalf::new(alloc, call));
-        let has_failed = written.write(&mut sink).is_err();
+        let has_failed = written.write(&mut buffer, &mut sink).is_err();
         leaves(rt, row, has_failed, &sink.into_inner(), text, calls);
     }
 }
@@ -142,7 +144,7 @@ static MANY: [(Told, usize, usize); 2] = [
 /// What a device takes that doesn't fail.
 fn text_of(rt: &impl Abort, alloc: Global, written: &Written) -> Vec<u8> {
     let mut sink = OverWriter::new(TakesHalf::new(alloc, 0));
-    must(rt, written.write(&mut sink));
+    must(rt, written.write(&mut FixedBuffer::new(), &mut sink));
     let TakesHalf { kept, .. } = sink.into_inner();
     kept
 }

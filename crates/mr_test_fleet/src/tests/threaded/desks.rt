@@ -2,6 +2,8 @@
 mod books;
 mod carriers;
 mod closings;
+mod memory;
+mod plays;
 
 ghost use Rattle.std.specs.Prelude.{◌≢◌};
 ghost use Rattle.mr_text.specs.declared.request.Request.{Request};

@@ -14,6 +14,7 @@ use std::test::Fail;
 
 mod configurations;
 mod errors;
+mod memory;
 mod plans;
 mod transcripts;
 

@@ -6,6 +6,7 @@ use mr_configs::PlanError;
 use mr_history::OpId;
 use mr_phases::Schedule;
 use mr_pools::NamedHash;
+use mr_proxy::ProxyError;
 use mr_scripts::{Script, read_events};
 use mr_text::{Key, Request};
 use mr_transcripts::write_transcript;
@@ -251,14 +252,51 @@ fn a_refusal_names_the_event_or_what_the_fleet_lacks(rt: HostRuntime) {
     }
 }
 
-/// The first event names the second of two proxies; there is one.
+/// A set of a block of one byte more than a block may have.
+fn set_too_long(rt: &impl Abort, alloc: Global) -> String {
+    let mut set = must(rt, String::from_str(alloc, SET_BEGINS));
+    for _ in 0..8193 {
+        must(rt, set.push('x'));
+    }
+    must(rt, set.push_str("\"}"));
+    set
+}
+
+const SET_BEGINS: &str = r#"{"kind": "set", "key": "c", "flags": 0, "exptime": 0, "data": ""#;
+
+#[test]
+fn a_block_that_is_too_long_is_refused_with_its_event(rt: HostRuntime) {
+    let set = set_too_long(&rt, rt.alloc());
+    let delete = r#"{"kind": "delete", "key": "c", "noreply": false}"#;
+    let found = refusal_with(&rt, rt.alloc(), delete, set.as_str());
+    is_for(&rt, found, Some(PlanError::BadEvent(3)), "8,193 bytes");
+}
+
+/// How the script's events begin behind its proxies.
+const BEGINNING: &str = r#""room": 3}]
+  },
+  "events": [
+    {"do": "clock", "proxy": 1, "reading": 10}"#;
+
+/// What begins in its place, and why the first event is refused then: it names the second proxy of one, a request of the
+/// sixth, or the proxy has no room.
+static REFUSED_PLAYS: [(&str, WorldError); 3] = [
+    (BEGINNING, WorldError::NoSuchProxy),
+    (
+        r#""room": 3}]}, "events": [{"do": "give_up", "op": [5, 0, 0]}"#,
+        WorldError::NoSuchOp,
+    ),
+    (
+        r#""room": 0}]}, "events": [{"do": "client", "proxy": 0, "request": {"kind": "get", "keys": ["k"]}}"#,
+        WorldError::IssueRefused(ProxyError::NoRoom),
+    ),
+];
+
 #[test]
 fn a_refused_event_is_told_with_its_refusal(rt: HostRuntime) {
-    let script = read_whole(&rt, rt.alloc());
-    let wanted = PlanError::EventRefused(0, WorldError::NoSuchProxy);
-    is(
-        &rt,
-        write_transcript(rt.alloc(), script).err(),
-        Some(wanted),
-    );
+    for (new, wanted) in &REFUSED_PLAYS {
+        let script = read_with(&rt, rt.alloc(), BEGINNING, new);
+        let found = write_transcript(rt.alloc(), script).err();
+        is_for(&rt, found, Some(PlanError::EventRefused(0, *wanted)), new);
+    }
 }

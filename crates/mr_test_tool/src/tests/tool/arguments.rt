@@ -9,15 +9,19 @@ use std::alloc::Global;
 use std::env::Args;
 use std::io;
 use std::net::{Net, TcpListener, TcpStream};
+use std::random::RandomSource;
 use std::sync::Wait;
 use std::thread::Threads;
 use std::time::Clock;
 
-fn run_with<R: Net<Listener = TcpListener, Stream = TcpStream> + Threads + Wait + Clock + Sync>(
-    rt: &R,
-    alloc: Global,
-    arguments: io::Result<Args<Global>>,
-) -> Ran {
+fn run_with<
+    R: Net<Listener = TcpListener, Stream = TcpStream>
+        + Threads
+        + Wait
+        + Clock
+        + RandomSource
+        + Sync,
+>(rt: &R, alloc: Global, arguments: io::Result<Args<Global>>) -> Ran {
     let mut input = OverReader::new(&b"delete k\n"[..]);
     let mut output = OverWriter::new(Vec::new(alloc));
     let mut faults = OverWriter::new(Vec::new(alloc));

@@ -8,6 +8,7 @@ use mr_tool::run_words;
 use std::alloc::Global;
 use std::net::{Net, TcpListener, TcpStream};
 use std::process::Abort;
+use std::random::RandomSource;
 use std::sync::Wait;
 use std::thread::Threads;
 use std::time::Clock;
@@ -127,7 +128,13 @@ fn expect_device(rt: &impl Abort, place: usize, device: OverWriter<TakesHalf>, h
 
 /// Runs the words of a row, and asserts what they leave.
 fn runs_as<
-    R: Abort + Net<Listener = TcpListener, Stream = TcpStream> + Threads + Wait + Clock + Sync,
+    R: Abort
+        + Net<Listener = TcpListener, Stream = TcpStream>
+        + Threads
+        + Wait
+        + Clock
+        + RandomSource
+        + Sync,
 >(rt: &R, alloc: Global, place: usize, row: &Row) {
     let (words, input, wanted, written, told) = row;
     let mut output = device(alloc, written);

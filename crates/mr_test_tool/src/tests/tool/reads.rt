@@ -6,6 +6,7 @@ use mr_text::{FailsAt, OverReader, Source};
 use std::alloc::Global;
 use std::net::{Net, TcpListener, TcpStream};
 use std::process::Abort;
+use std::random::RandomSource;
 use std::sync::Wait;
 use std::thread::Threads;
 use std::time::Clock;
@@ -19,7 +20,13 @@ const REQUESTS: &[u8] = b"get k\r\nget";
 
 /// Asserts that a run ends with a fault of its input where that fails at a call.
 fn fails_at<
-    R: Abort + Net<Listener = TcpListener, Stream = TcpStream> + Threads + Wait + Clock + Sync,
+    R: Abort
+        + Net<Listener = TcpListener, Stream = TcpStream>
+        + Threads
+        + Wait
+        + Clock
+        + RandomSource
+        + Sync,
 >(rt: &R, alloc: Global, words: &[&str], bytes: &[u8], call: u64) {
     let mut input = FailsAt::new(byte_by_byte(bytes), call);
     let mut files = FilesAt::new(PLACES.as_slice());
@@ -38,7 +45,13 @@ fn each_read_fails(rt: HostRuntime) {
 
 /// Runs a plan over an input, and asserts what is left.
 fn plans<
-    R: Abort + Net<Listener = TcpListener, Stream = TcpStream> + Threads + Wait + Clock + Sync,
+    R: Abort
+        + Net<Listener = TcpListener, Stream = TcpStream>
+        + Threads
+        + Wait
+        + Clock
+        + RandomSource
+        + Sync,
     I: Source,
 >(rt: &R, alloc: Global, input: &mut I, status: u8, output: &[u8], faults: &[u8]) {
     let mut files = FilesAt::new(PLACES.as_slice());

@@ -6,6 +6,7 @@ use mr_text::OverReader;
 use std::alloc::Global;
 use std::net::{Net, TcpListener, TcpStream};
 use std::process::Abort;
+use std::random::RandomSource;
 use std::sync::Wait;
 use std::thread::Threads;
 use std::time::Clock;
@@ -136,7 +137,13 @@ fn expect_left(rt: &impl Abort, place: usize, ran: &Ran, left: &Left) {
 
 /// Runs the words of a row, and asserts what they leave.
 fn runs_as<
-    R: Abort + Net<Listener = TcpListener, Stream = TcpStream> + Threads + Wait + Clock + Sync,
+    R: Abort
+        + Net<Listener = TcpListener, Stream = TcpStream>
+        + Threads
+        + Wait
+        + Clock
+        + RandomSource
+        + Sync,
 >(rt: &R, alloc: Global, place: usize, row: &Row) {
     let mut files = FilesAt::new(PLACES.as_slice());
     let (words, input, loads, left) = row;

@@ -9,7 +9,7 @@ use mr_test_support::{FIRST, OTHER_FIRST, OTHER_SECOND};
 use mr_world::Note;
 
 /// The second proxy sets the key, the first deletes it from both pools, the second gets it.
-static NEAR_CLOCKS: Run = Run {
+pub static NEAR_CLOCKS: Run = Run {
     fleet: Fleet {
         proxies: &[(1000, 1000), (1000, 1100)],
         room: 4,

@@ -5,7 +5,7 @@ use Rattle.mr_tool.specs.Input.{ReadsRequest}
 use Rattle.mr_tool.proofs.input.first_request.Goals as goal
 
 pub loop-turn-init : goal.loop-turn-init
-loop-turn-init g c = fed_nothing (g.I.Source.told c.args.input.now) c.new-reader.result c.new-reader.ensures
+loop-turn-init g c = fed_nothing (g.I.Source.told c.args.input.now) c.new-reader.result c.new-reader.ensures.stands
 
 pub returns-in-Some-clause-request : goal.returns-in-Some-clause-request
 returns-in-Some-clause-request g c =

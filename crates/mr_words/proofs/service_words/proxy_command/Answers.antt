@@ -15,4 +15,8 @@ returns c =
     let clients = option_added _ _ _ _ (number_rule (codes "clients")) c.with_option-proxy-4.ensures c.clients_option.ensures.local room
     c.clients_option.ensures.rule in
     let turns = option_added _ _ _ _ (number_rule (codes "turns")) c.with_option-proxy-5.ensures c.turns_option.ensures.local clients c.turns_option.ensures.rule in
-    option_added _ _ _ _ forever_rule c.with_option.ensures c.forever_flag.ensures.local turns c.forever_flag.ensures.rule
+    let leg = option_added _ _ _ _ (number_rule (codes "leg-timeout")) c.with_option-proxy-6.ensures c.leg_timeout_option.ensures.local turns
+    c.leg_timeout_option.ensures.rule in
+    let idle = option_added _ _ _ _ (number_rule (codes "idle-timeout")) c.with_option-proxy-7.ensures c.idle_timeout_option.ensures.local leg
+    c.idle_timeout_option.ensures.rule in
+    option_added _ _ _ _ forever_rule c.with_option.ensures c.forever_flag.ensures.local idle c.forever_flag.ensures.rule

@@ -11,6 +11,8 @@ returns-clause-found c = record {
   room_is = c.in_ok-number_or.ensures.found;
   clients_is = c.in_ok-bound_or.ensures.found;
   turns_is = c.in_ok-bound_or-2.ensures.found;
+  leg_is = c.in_ok-number_or-2.ensures.found;
+  idle_is = c.in_ok-number_or-3.ensures.found;
 }
 
 pub returns-in_err-get_str-clause-missing : goal.returns-in_err-get_str-clause-missing

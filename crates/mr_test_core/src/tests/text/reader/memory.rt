@@ -1,91 +1,154 @@
-//! Readers that are refused memory once: the same call made again gives what it would have given.
+//! Readers that are refused memory: the same call made again gives what it gives with ample memory.
 use super::are;
-use mr_test_support::{Reader, Texts};
-use mr_text::{OverWriter, ReplyReader, RequestReader, TextError, write_reply, write_request};
-use std::alloc::{AllocError, Global};
+use crate::tests::{Rule, bytes_of_rule, is, must};
+use mr_test_support::{Texts, at_last, reply_text, request_text};
+use mr_text::{Reply, ReplyReader, Request, RequestReader, TextError};
+use std::alloc::Global;
+use std::env::Env;
 use std::process::Abort;
-use std::test::Fail;
 
-/// Writes the next request, and says whether there was memory for it.
-fn request_is_written(
-    reader: &mut RequestReader,
-    sink: &mut OverWriter<Vec<u8>>,
-) -> Result<bool, Fail> {
-    match reader.next() {
-        Ok(Some(request)) => write_request(&request, sink)?,
-        Ok(None) => {}
-        Err(TextError::OutOfMemory) => return Ok(false),
-        Err(refusal) => Err(refusal)?,
-    }
-    Ok(true)
-}
+/// What a reader is fed, and what it gives then: as it is written, nothing where it waits, or a refusal.
+type Row = (Texts, Rule, Result<&'static [u8], TextError>);
 
-/// The same of a reply.
-fn reply_is_written(
-    reader: &mut ReplyReader,
-    sink: &mut OverWriter<Vec<u8>>,
-) -> Result<bool, Fail> {
-    match reader.next() {
-        Ok(Some(reply)) => write_reply(&reply, sink)?,
-        Ok(None) => {}
-        Err(TextError::OutOfMemory) => return Ok(false),
-        Err(refusal) => Err(refusal)?,
-    }
-    Ok(true)
-}
-
-fn next_is_written(reader: &mut Reader, sink: &mut OverWriter<Vec<u8>>) -> Result<bool, Fail> {
-    match reader {
-        Reader::OfRequests(reader) => request_is_written(reader, sink),
-        Reader::OfReplies(reader) => reply_is_written(reader, sink),
-    }
-}
-
-/// Feeds a reader, once more where memory was refused.
-fn feed(reader: &mut Reader, text: &[u8]) -> Result<(), TextError> {
-    match reader.feed(text) {
-        Err(TextError::OutOfMemory) => reader.feed(text),
-        fed => fed,
-    }
-}
-
-/// A sink that has room for the texts of this file, made at the second try where the first one is refused.
-fn roomy_sink(alloc: Global) -> Result<OverWriter<Vec<u8>>, AllocError> {
-    let bytes = match Vec::with_capacity(alloc, 128) {
-        Ok(bytes) => bytes,
-        Err(_) => Vec::with_capacity(alloc, 128)?,
-    };
-    Ok(OverWriter::new(bytes))
-}
-
-/// What a reader that is fed a text gives, as it is written.
-fn read_and_write(alloc: Global, texts: Texts, text: &[u8]) -> Result<Vec<u8>, Fail> {
-    let mut reader = Reader::new(alloc, texts);
-    feed(&mut reader, text)?;
-    let mut sink = roomy_sink(alloc)?;
-    if !next_is_written(&mut reader, &mut sink)? {
-        next_is_written(&mut reader, &mut sink)?;
-    }
-    Ok(sink.into_inner())
-}
-
-/// Texts that are read as they are written.
-static TEXTS: [(Texts, &[u8]); 5] = [
-    (Texts::Requests, b"set k 5 0 1\r\nv\r\n"),
-    (Texts::Requests, b"get k b k\r\n"),
-    (Texts::Requests, b"delete k\r\n"),
+static ROWS: [Row; 11] = [
+    (
+        Texts::Requests,
+        (b"set k 5 0 4\r\na\r\nb\r\n", b"", 0, b""),
+        Ok(b"set k 5 0 4\r\na\r\nb\r\n"),
+    ),
+    (
+        Texts::Requests,
+        (b"get k b k\r\n", b"", 0, b""),
+        Ok(b"get k b k\r\n"),
+    ),
+    (
+        Texts::Requests,
+        (b"delete k\r\n", b"", 0, b""),
+        Ok(b"delete k\r\n"),
+    ),
+    (
+        Texts::Requests,
+        (b"get ", b"x", 251, b"\r\n"),
+        Err(TextError::BadKey),
+    ),
+    // A line of 8,192 bytes, and one of a byte more.
+    (
+        Texts::Requests,
+        (b"get k", b" ", 8187, b"\n"),
+        Ok(b"get k\r\n"),
+    ),
+    (
+        Texts::Requests,
+        (b"get k", b" ", 8188, b"\n"),
+        Err(TextError::LineTooLong),
+    ),
+    // The longest line may end with the next byte, which one of a byte more may not.
+    (Texts::Requests, (b"", b"x", 8193, b""), Ok(b"")),
+    (
+        Texts::Requests,
+        (b"", b"x", 8194, b""),
+        Err(TextError::LineTooLong),
+    ),
     (
         Texts::Replies,
-        b"VALUE k 5 1\r\nv\r\nVALUE b 6 1\r\nw\r\nEND\r\n",
+        (
+            b"VALUE k 5 1\r\nv\r\nVALUE b 6 1\r\nw\r\nEND\r\n",
+            b"",
+            0,
+            b"",
+        ),
+        Ok(b"VALUE k 5 1\r\nv\r\nVALUE b 6 1\r\nw\r\nEND\r\n"),
     ),
-    (Texts::Replies, b"SERVER_ERROR later\r\n"),
+    (
+        Texts::Replies,
+        (b"SERVER_ERROR later\r\n", b"", 0, b""),
+        Ok(b"SERVER_ERROR later\r\n"),
+    ),
+    (
+        Texts::Replies,
+        (b"VALUE k 5 1\r\nvw\r\n", b"", 0, b""),
+        Err(TextError::BadDataEnd),
+    ),
 ];
 
-/// In the gate no allocation is refused; `refused-memory` refuses each in turn.
-#[test]
-fn refused_memory_leaves_readers_as_they_were(rt: HostRuntime) -> Result<(), Fail> {
-    for (row, (texts, text)) in TEXTS.iter().enumerate() {
-        are(&rt, row, &read_and_write(rt.alloc(), *texts, text)?, text);
+/// The request that a reader gives of a text; likewise below.
+fn request_of(rt: &impl Env, alloc: Global, text: &[u8]) -> Result<Option<Request>, TextError> {
+    let mut reader = RequestReader::new(alloc);
+    at_last!(rt, reader.feed(text), Err(TextError::OutOfMemory))?;
+    at_last!(rt, reader.next(), Err(TextError::OutOfMemory))
+}
+
+fn reply_of(rt: &impl Env, alloc: Global, text: &[u8]) -> Result<Option<Reply>, TextError> {
+    let mut reader = ReplyReader::new(alloc);
+    at_last!(rt, reader.feed(text), Err(TextError::OutOfMemory))?;
+    at_last!(rt, reader.next(), Err(TextError::OutOfMemory))
+}
+
+/// The text of what a reader of requests gives.
+fn requested(rt: &(impl Abort + Env), alloc: Global, text: &[u8]) -> Result<Vec<u8>, TextError> {
+    Ok(match request_of(rt, alloc, text)? {
+        Some(request) => must(rt, request_text(alloc, &request)),
+        None => Vec::new(alloc),
+    })
+}
+
+fn replied(rt: &(impl Abort + Env), alloc: Global, text: &[u8]) -> Result<Vec<u8>, TextError> {
+    Ok(match reply_of(rt, alloc, text)? {
+        Some(reply) => must(rt, reply_text(alloc, &reply)),
+        None => Vec::new(alloc),
+    })
+}
+
+/// Asserts what a reader gives.
+fn gives(rt: &(impl Abort + Env), alloc: Global, row: usize, text: &[u8], it: &Row) {
+    let given = match it.0 {
+        Texts::Requests => requested(rt, alloc, text),
+        Texts::Replies => replied(rt, alloc, text),
+    };
+    is(rt, row, given.as_ref().err().copied(), it.2.err());
+    if let (Ok(found), Ok(wanted)) = (&given, it.2) {
+        are(rt, row, found, wanted);
     }
-    Ok(())
+}
+
+#[test]
+fn refused_memory_leaves_readers_as_they_were(rt: HostRuntime) {
+    for (row, it) in ROWS.iter().enumerate() {
+        let text = bytes_of_rule(&rt, rt.alloc(), it.1);
+        gives(&rt, rt.alloc(), row, &text, it);
+    }
+}
+
+/// The replies of several items that are read in pieces, so that memory may be refused inside one.
+static REPLIES: [&[u8]; 2] = [
+    b"VALUE k 5 1\r\nv\r\nVALUE b 6 1\r\nw\r\nEND\r\n",
+    b"VALUE k 5 4\r\na\r\nb\r\nVALUE b 6 0\r\n\r\nVALUE b 7 1\r\nw\r\nEND\r\n",
+];
+
+/// The reply that a reader gives of a text that comes in pieces of five bytes; it is asked behind each.
+fn reply_in_pieces(rt: &impl Env, alloc: Global, text: &[u8]) -> Result<Option<Reply>, TextError> {
+    let mut reader = ReplyReader::new(alloc);
+    let mut given = None;
+    for piece in text.chunks(5) {
+        at_last!(rt, reader.feed(piece), Err(TextError::OutOfMemory))?;
+        given = at_last!(rt, reader.next(), Err(TextError::OutOfMemory))?;
+    }
+    Ok(given)
+}
+
+/// Asserts that this is the reply that the text spells.
+fn is_spelled(rt: &impl Abort, alloc: Global, row: usize, reply: Option<Reply>, text: &[u8]) {
+    match reply {
+        Some(reply) => are(rt, row, &must(rt, reply_text(alloc, &reply)), text),
+        None => is(rt, row, false, true),
+    }
+}
+
+/// Where memory is refused inside a reply, the same call made again goes on, and the whole reply is given.
+#[test]
+fn refused_memory_inside_a_reply_loses_nothing(rt: HostRuntime) {
+    for (row, text) in REPLIES.iter().enumerate() {
+        let reply = must(&rt, reply_in_pieces(&rt, rt.alloc(), text));
+        is_spelled(&rt, rt.alloc(), row, reply, text);
+    }
 }

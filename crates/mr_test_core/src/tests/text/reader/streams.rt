@@ -7,7 +7,7 @@ use std::alloc::Global;
 use std::process::Abort;
 
 /// Texts with a block that holds a line end, each the canonical one of what it says.
-static WHOLE: [(Texts, &[u8], &[u8]); 2] = [
+static WHOLE: [(Texts, &[u8], &[u8]); 3] = [
     (
         Texts::Requests,
         b"set k 5 0 4\r\na\r\nb\r\n",
@@ -17,6 +17,12 @@ static WHOLE: [(Texts, &[u8], &[u8]); 2] = [
         Texts::Replies,
         b"VALUE k 5 4\r\na\r\nb\r\nEND\r\n",
         b"VALUE k 5 4\r\na\r\nb\r\nEND\r\n;",
+    ),
+    // Several items, of which one is empty and one holds an end.
+    (
+        Texts::Replies,
+        b"VALUE k 5 1\r\nv\r\nVALUE k 6 0\r\n\r\nVALUE b 7 5\r\nEND\r\n\r\nEND\r\n",
+        b"VALUE k 5 1\r\nv\r\nVALUE k 6 0\r\n\r\nVALUE b 7 5\r\nEND\r\n\r\nEND\r\n;",
     ),
 ];
 

@@ -3,8 +3,8 @@ use super::{equal_bytes, item};
 use crate::tests::must;
 use mr_test_support::{TakesHalf, repeated_keys};
 use mr_text::{
-    Block, Cause, ItemList, Key, KeyList, Line, MAX_ITEMS, OverWriter, Reply, Request, WriteFault,
-    write_delete, write_get, write_reply, write_request, write_server_error, write_set,
+    Block, Cause, FixedBuffer, ItemList, Key, KeyList, Line, MAX_ITEMS, OverWriter, Reply, Request,
+    WriteFault, send_delete, send_get, send_reply, send_server_error, send_set, write_request,
 };
 use std::alloc::Global;
 use std::process::Abort;
@@ -59,14 +59,19 @@ pub(super) enum Written {
 }
 
 impl Written {
-    pub(super) fn write(&self, sink: &mut OverWriter<TakesHalf>) -> Result<(), WriteFault> {
+    /// Writes it, through this buffer unless it is a request.
+    pub(super) fn write(
+        &self,
+        buffer: &mut FixedBuffer,
+        sink: &mut OverWriter<TakesHalf>,
+    ) -> Result<(), WriteFault> {
         match self {
             Written::OfRequest(request) => write_request(request, sink),
-            Written::OfReply(reply) => write_reply(reply, sink),
-            Written::OneGet(key) => write_get(key, sink),
-            Written::OneSet(key, block) => write_set(key, 7, -1, block, sink),
-            Written::OneDelete(key) => write_delete(key, sink),
-            Written::OneError(cause) => write_server_error(cause, sink),
+            Written::OfReply(reply) => send_reply(reply, buffer, sink),
+            Written::OneGet(key) => send_get(key, buffer, sink),
+            Written::OneSet(key, block) => send_set(key, 7, -1, block, buffer, sink),
+            Written::OneDelete(key) => send_delete(key, buffer, sink),
+            Written::OneError(cause) => send_server_error(cause, buffer, sink),
         }
     }
 

@@ -1,15 +1,16 @@
 //! When a book stands with what its sessions did.
-ghost use Rattle.std.specs.Prelude.{◌≢◌, IfOk};
+ghost use Rattle.std.specs.Prelude.{◌≢◌};
 ghost use Rattle.mr_text.specs.declared.request.Request.{Request};
 
-use super::{NEW, desk_of, issue};
+use super::{desk_of, issue};
 use crate::tests::threaded::broken::Broken;
 use crate::tests::threaded::{delete_of, get_of};
-use crate::tests::{is, must, or_no_memory, recorded_proxy};
+use crate::tests::{is, must};
 use mr_desks::{Book, Carried, CloseError, Desk, RecordedProxy, Share, close};
 use mr_proxy::{Answer, Leg, Taken};
-use mr_text::{Key, Request};
-use std::alloc::{AllocError, Global};
+use mr_test_support::{grant_memory, refuse_memory};
+use mr_text::Request;
+use std::alloc::Global;
 use std::process::Abort;
 use std::sync::Wait;
 
@@ -23,9 +24,9 @@ struct Sessions {
 
 /// What a session of a proxy did.
 #[derive(Drop)]
-struct Session {
-    share: Share,
-    answers: Vec<Answer>,
+pub(super) struct Session {
+    pub(super) share: Share,
+    pub(super) answers: Vec<Answer>,
 }
 
 /// Loses a leg, and keeps the answer.
@@ -41,8 +42,8 @@ fn lose(
     }
 }
 
-/// Issues a get, and loses its leg.
-fn get(
+/// Issues a request, and loses its legs.
+pub(super) fn ask(
     rt: &(impl Wait + Abort),
     desk: &RecordedProxy<Broken>,
     session: &mut Session,
@@ -56,7 +57,7 @@ fn get(
 }
 
 /// Issues a request, and gives it up.
-fn give_up(
+pub(super) fn give_up(
     rt: &(impl Wait + Abort),
     desk: &RecordedProxy<Broken>,
     session: &mut Session,
@@ -74,7 +75,7 @@ fn play_session(rt: &(impl Wait + Abort), alloc: Global, desk: &RecordedProxy<Br
         share: desk.share(),
         answers: Vec::new(alloc),
     };
-    get(rt, desk, &mut session, &get_of(rt, alloc, &[b"k"]));
+    ask(rt, desk, &mut session, &get_of(rt, alloc, &[b"k"]));
     give_up(rt, desk, &mut session, &delete_of(rt, alloc, b"k"));
     session
 }
@@ -191,58 +192,20 @@ fn an_answer_of_another_proxy_differs(rt: HostRuntime) {
     closes_so(&rt, rt.alloc(), sessions, DIFFERS);
 }
 
-/// A delete. It fails for want of memory alone; likewise below.
-fn delete_request(alloc: Global) -> Result<Request, AllocError>
-    ensures { IfOk result (λ request. request ≢ Request.Quit) }
-{
-    Ok(Request::Delete {
-        key: or_no_memory(Key::new(alloc, b"k"))?,
-        noreply: false,
-    })
-}
-
-/// The answer to a delete that was issued at a proxy and given up.
-fn given_up(
-    rt: &impl Wait,
-    alloc: Global,
-    desk: &RecordedProxy<Broken>,
-    share: &mut Share,
-) -> Result<Vec<Answer>, AllocError> {
-    let request = delete_request(alloc)?;
-    let issued = or_no_memory(issue(rt, desk, share, &request))?;
-    let mut answers = Vec::new(alloc);
-    answers.push(or_no_memory(desk.give_up(rt, issued.op))?)?;
-    Ok(answers)
-}
-
-/// What a proxy came to whose one session did that: its book has two steps.
-fn close_one(rt: &impl Wait, alloc: Global) -> Result<Result<usize, u8>, AllocError> {
-    let desk = recorded_proxy(alloc, 0, &NEW, 4)?;
-    let mut share = desk.share();
-    let mut answers = Vec::new(alloc);
-    answers.push(given_up(rt, alloc, &desk, &mut share)?)?;
-    let mut shares = Vec::new(alloc);
-    shares.push(share)?;
-    Ok(came_to(closed_later(alloc, desk, &shares, &answers)))
-}
-
-/// Closes a book, and once more where memory was refused.
-fn closed_later(
-    alloc: Global,
-    desk: RecordedProxy<Broken>,
-    shares: &[Share],
-    answers: &[Vec<Answer>],
-) -> Result<Book, CloseError<Broken>> {
-    match close(alloc, desk, shares, answers) {
-        Err(CloseError::OutOfMemory(back)) => close(alloc, back, shares, answers),
-        closed => closed,
-    }
-}
-
 /// Where memory to close it is refused, the proxy comes back, and its book is closed later.
 #[test]
 fn refused_memory_leaves_a_book_to_be_closed(rt: HostRuntime) {
-    if let Ok(came) = close_one(&rt, rt.alloc()) {
-        is(&rt, "closed", &came, &Ok(2));
-    }
+    let Sessions {
+        desk,
+        shares,
+        answers,
+    } = two_sessions(&rt, rt.alloc());
+    refuse_memory(&rt);
+    let first = close(rt.alloc(), desk, &shares, &answers);
+    grant_memory(&rt);
+    let closed = match first {
+        Err(CloseError::OutOfMemory(back)) => close(rt.alloc(), back, &shares, &answers),
+        closed => closed,
+    };
+    is(&rt, "steps", &came_to(closed), &Ok(8));
 }

@@ -121,10 +121,15 @@ const SPENT: &[(Told, Came)] = &[
     (Told::Get, BROKEN),
 ];
 
-static FAULTS: [Row; 10] = [
+static FAULTS: [Row; 11] = [
     Row {
         legs: ENDED,
         answered: b"",
+        ..GET
+    },
+    Row {
+        legs: ENDED,
+        answered: b"VALUE k 0 5\r\nab",
         ..GET
     },
     Row {
@@ -211,4 +216,24 @@ static FAULTS: [Row; 10] = [
 #[test]
 fn each_fault_breaks_a_link(rt: HostRuntime) {
     are_rows(&rt, rt.alloc(), &FAULTS);
+}
+
+/// A hit whose bytes come one at a time.
+const HIT: &[u8] = b"VALUE k 5 1\r\nv\r\nEND\r\n";
+
+#[test]
+fn each_read_of_a_reply_fails(rt: HostRuntime) {
+    for taken in 0..HIT.len() {
+        let row = Row {
+            legs: FAILS_TO_READ,
+            answered: HIT,
+            given: Given {
+                read_fails: (taken as u64).wrapping_add(1),
+                ..BY_BYTES
+            },
+            unread: HIT.len().wrapping_sub(taken),
+            ..GET
+        };
+        are_rows(&rt, rt.alloc(), &[row]);
+    }
 }

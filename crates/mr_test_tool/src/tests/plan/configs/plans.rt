@@ -6,16 +6,16 @@ use std::process::Abort;
 
 /// One request that is planned.
 #[derive(Clone, Copy)]
-enum Asked {
+pub(super) enum Asked {
     Get(&'static [u8]),
     Delete(u8),
     Quit,
 }
 
 /// A plan: what is asked and when, the phase, and each leg's side and node.
-type Row = (Asked, u64, PhaseName, &'static [(Side, u32)]);
+pub(super) type Row = (Asked, u64, PhaseName, &'static [(Side, u32)]);
 
-static ROWS: [Row; 3] = [
+pub(super) static ROWS: [Row; 3] = [
     (
         Asked::Delete(b'k'),
         1000,
@@ -49,7 +49,7 @@ fn keys(alloc: Global, bytes: &[u8]) -> Result<KeyList, Fail> {
     }
 }
 
-fn request(rt: &impl Abort, alloc: Global, asked: Asked) -> Request {
+pub(super) fn request(rt: &impl Abort, alloc: Global, asked: Asked) -> Request {
     match asked {
         Asked::Get(bytes) => Request::Get {
             keys: must(rt, keys(alloc, bytes)),
@@ -77,7 +77,7 @@ fn are_legs(sheets: &[LegSheet], legs: &[(Side, u32)]) -> bool {
 }
 
 /// Asserts what a plan says.
-fn plan_is(rt: &impl Abort, plan: &RequestPlan, row: Row) {
+pub(super) fn plan_is(rt: &impl Abort, plan: &RequestPlan, row: Row) {
     let (_, at, phase, legs) = row;
     is(rt, plan.phase() == phase, true);
     is(rt, plan.reading(), at);
@@ -148,7 +148,7 @@ fn spread_is(rt: &impl Abort, advice: &Advice, spread: u64, near: bool) {
 }
 
 /// Asserts what is told of clocks too far apart.
-fn far_is_told(rt: &impl Abort, advice: &Advice) {
+pub(super) fn far_is_told(rt: &impl Abort, advice: &Advice) {
     let phases = [PhaseName::OldOnly, PhaseName::BothReadNew];
     is(rt, advice.phases() == phases.as_slice(), true);
     spread_is(rt, advice, 101, false);

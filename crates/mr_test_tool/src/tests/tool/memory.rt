@@ -1,0 +1,55 @@
+//! Refused memory: the same call made again gives what it gives with ample memory, and nothing was written before. That whole
+//! commands leave nothing half printed is looked at from outside (`tests/refused`).
+use super::{FLEET, is};
+use crate::tests::must;
+use mr_configs::Config;
+use mr_test_support::{at_last, grant_memory, refuse_memory};
+use mr_text::{Key, OverWriter, Request};
+use mr_tool::{PrintFault, Wanted, WordsFault, read_words, write_plan};
+use std::alloc::Global;
+use std::env::Env;
+use std::process::Abort;
+
+const PLAN: &[&str] = &["plan", "--config", "fleet.json", "--at", "1000"];
+
+#[test]
+fn refused_memory_reads_words_later(rt: HostRuntime) {
+    let read = at_last!(&rt, read_words(rt.alloc(), PLAN), Err(WordsFault::Memory));
+    match must(&rt, read) {
+        Wanted::Plan(values) => is(&rt, (values.config, values.at), ("fleet.json", 1000)),
+        _ => rt.panic("another command"),
+    }
+}
+
+fn delete(rt: &impl Abort, alloc: Global) -> Request {
+    Request::Delete {
+        key: must(rt, Key::new(alloc, b"k")),
+        noreply: false,
+    }
+}
+
+/// What is written of a plan, in the second of two calls where memory was refused in the first: then that wrote nothing.
+fn plan_at_last(rt: &(impl Abort + Env), alloc: Global, config: &Config) -> Vec<u8> {
+    let (request, again) = (delete(rt, alloc), delete(rt, alloc));
+    let mut writer = OverWriter::new(must(rt, Vec::with_capacity(alloc, 256)));
+    refuse_memory(rt);
+    let first = write_plan(alloc, config, 1000, request, &mut writer);
+    grant_memory(rt);
+    let written = writer.into_inner();
+    if first != Err(PrintFault::Memory) {
+        must(rt, first);
+        return written;
+    }
+    is(rt, written.len(), 0);
+    let mut writer = OverWriter::new(written);
+    must(rt, write_plan(alloc, config, 1000, again, &mut writer));
+    writer.into_inner()
+}
+
+#[test]
+fn refused_memory_writes_a_plan_later(rt: HostRuntime) {
+    let config = must(&rt, Config::read(rt.alloc(), FLEET));
+    let written = plan_at_last(&rt, rt.alloc(), &config);
+    let wanted = b"phase both-read-old at 1000\nleg 0 old 7002\nleg 1 new 7103\n";
+    is(&rt, written.as_slice(), wanted.as_slice());
+}

@@ -1,0 +1,18 @@
+use Rattle.std.proofs.Common.{Ok, ◌∙◌, subst}
+use Rattle.mr_text.specs.steps.ReplyProgress.{FirstLineIs}
+use Rattle.mr_text.specs.steps.StreamView.{reader_of}
+use Rattle.mr_text.specs.declared.reading.unfinished_reply.FirstLine.{FirstLine}
+use Rattle.mr_text.proofs.ReplyNexts.{next_from}
+use Rattle.mr_text.proofs.UnfinishedReplies.{first_wait}
+use Rattle.mr_text.proofs.reading.unfinished_reply.UnfinishedReply.next.Goals as goal
+
+pub returns-in-Ok-Waits-clause-next : goal.returns-in-Ok-Waits-clause-next
+returns-in-Ok-Waits-clause-next c =
+    let is = subst (λ (f : FirstLine). FirstLineIs c.args.self.now c.read_first_line.new.self (Ok f)) c.in-Ok-Waits.field-0-is c.in-Ok-Waits.ensures in
+    first_wait c.args.self.now c.read_first_line.new.self c.wait.new.self c.wait.result c.requires.going_on is c.wait.ensures
+
+pub returns-in-Ok-Item-clause-next : goal.returns-in-Ok-Item-clause-next
+returns-in-Ok-Item-clause-next c =
+    let is = subst (λ (f : FirstLine). FirstLineIs c.args.self.now c.read_first_line.new.self (Ok f)) c.in-Ok-Item.field-0-is c.in-Ok-Item.ensures in
+    next_from c.args.self.now.stream c.read_first_line.new.self.stream (reader_of c.next_items-in-Ok-Item.new.self.stream) c.next_items-in-Ok-Item.result
+    (is.1.closed ∙ c.requires.going_on) is.1 c.next_items-in-Ok-Item.ensures.next

@@ -1,5 +1,0 @@
-use Rattle.mr_text.proofs.Gathered.{sent_at_last}
-use Rattle.mr_text.proofs.writing.write_reply.Goals as goal
-
-pub returns-clause-text : goal.returns-clause-text
-returns-clause-text g c = sent_at_last _ _ _ _ _ _ _ c.new-buffer.ensures c.in_ok-put_reply.ensures.text c.send.ensures.text
