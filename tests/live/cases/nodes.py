@@ -98,11 +98,11 @@ def a_capacity_takes_no_memory_before_there_are_items():
 
 
 def seconds_spent_on(node, keys):
-    """The processor time that a node takes for a set of each of these keys and 30 gets of each, in seconds."""
+    """The processor time that a node takes for a set of each of these keys and 60 gets of each, in seconds."""
     client = node.client()
     before = node.processor_seconds()
     client.ask(b"".join(set_of(key, "v") for key in keys), STORED * len(keys))
-    for _ in range(30):
+    for _ in range(60):
         for begin in range(0, len(keys), 100):
             some = keys[begin : begin + 100]
             client.ask(get_of(*some), hits(*((key, "v") for key in some)))
@@ -116,7 +116,7 @@ def keys_that_fall_together_without_a_seed_are_found_as_soon_as_others():
         others = [f"k{n:04}" for n in range(len(TOGETHER))]
         usual = seconds_spent_on(fleet.node("--capacity", "10000"), others)
         spent = seconds_spent_on(fleet.node("--capacity", "10000"), TOGETHER)
-        check_true(f"that {spent:.2f} s are at most four times {usual:.2f} s", spent <= 4 * usual + 0.1)
+        check_true(f"that {spent:.2f} s are at most three times {usual:.2f} s", spent <= 3 * usual + 0.1)
 
 
 @case
