@@ -5,7 +5,9 @@ ghost use Rattle.mr_words.specs.Command.{node_app, proxy_app, forever_rule, numb
 ghost use Rattle.mr_words.specs.Words.{HasNodeValues, HasProxyValues, IsBoundOr, is_forever};
 
 use crate::help::{NODE_NOTES, PROXY_NOTES};
-use crate::options::{config_option, listen_option, number_option, number_or, quantity_option, with_option};
+use crate::options::{
+    config_option, listen_option, number_option, number_or, quantity_option, with_option,
+};
 use clap::{Arg, ArgAction, ArgMatches, Command};
 use std::alloc::{AllocError, Global};
 
