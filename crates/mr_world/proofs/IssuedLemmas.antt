@@ -1,5 +1,5 @@
 -- A request that is accepted keeps what the headline rests on.
-use Rattle.std.proofs.Common.{◌≡◌, ℕ, ◌+◌, ◌≤◌, Bool, List, [], ◌∷◌, ◌++◌, length, map, take, Option, Some, None, Contains, slice_get, refl, sym, ap, subst, ◌∙◌, inl, inr, arith}
+use Rattle.std.proofs.Common.{◌≡◌, ℕ, ◌+◌, ◌≤◌, Bool, List, [], ◌∷◌, ◌++◌, length, map, Option, Some, None, Contains, slice_get, refl, sym, ap, subst, ◌∙◌, inl, inr, arith}
 use Rattle.mr_text.specs.declared.item.Item.{Item}
 use Rattle.mr_text.specs.declared.request.Request.{Request}
 use Rattle.mr_text.specs.declared.request.Request.TheVariants as request

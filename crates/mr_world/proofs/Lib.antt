@@ -4,6 +4,8 @@ pub mod TrackedLemmas
 pub mod StartLemmas
 pub mod PremiseLemmas
 pub mod NetworkLemmas
+pub mod NodeLemmas
+pub mod TermLemmas
 pub mod ReadyLemmas
 pub mod FactLemmas
 pub mod HeldLemmas

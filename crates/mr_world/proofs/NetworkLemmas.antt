@@ -41,6 +41,7 @@ use Rattle.mr_world.specs.declared.message.Message.{Message}
 use Rattle.mr_world.specs.declared.message.Delivery.{Delivery}
 use Rattle.mr_world.specs.declared.node.Node.{Node}
 use Rattle.mr_world.specs.Lists.{Has}
+use Rattle.mr_world.specs.Nodes.{PerformsAt}
 use Rattle.mr_world.specs.Network.{NetworkView, numbers_at, HasNumber, message_by}
 use Rattle.mr_world.specs.Refusals.{refused_past, refused_restart, refused_request, TakesMemory, IsEventRefusal}
 use Rattle.mr_world.specs.Setup.{proxies_from, AllAlike, hold_at, hold}
@@ -71,10 +72,12 @@ restart_refused p last = elim (eqb_tells p.incarnation (2 ^ 64 - 1)) [ inl e ↦
 
 -- a state whose parts are equal
 
-pub same_delivered : (w : WorldView) (nodes : List Node) (replies replies' : List Delivery) (history history' : List Entry) → replies ≡ replies' → history ≡ history'
-    → record w { nodes = nodes; replies = replies; history = history } ≡ record w { nodes = nodes; replies = replies'; history = history' }
-same_delivered w nodes replies replies' history history' e f =
-    ap (λ (x : List Delivery). record w { nodes = nodes; replies = x; history = history }) e ∙ ap (λ (y : List Entry). record w { nodes = nodes; replies = replies'; history = y }) f
+pub same_delivered : (w : WorldView) {nodes nodes' : List Node} {replies replies' : List Delivery} {history history' : List Entry} → nodes ≡ nodes' → replies ≡ replies'
+    → history ≡ history' → record w { nodes = nodes; replies = replies; history = history } ≡ record w { nodes = nodes'; replies = replies'; history = history' }
+same_delivered w {nodes' = nodes'} {replies = replies} {replies' = replies'} {history = history} d e f =
+    ap (λ (l : List Node). record w { nodes = l; replies = replies; history = history }) d
+    ∙ ap (λ (x : List Delivery). record w { nodes = nodes'; replies = x; history = history }) e
+    ∙ ap (λ (y : List Entry). record w { nodes = nodes'; replies = replies'; history = y }) f
 
 pub same_moved : (w : WorldView) (place : ℕ) (proxy proxy' : ProxyView) (history history' : List Entry) → proxy ≡ proxy' → history ≡ history'
     → record w { proxies = slice_set w.proxies place proxy; history = history } ≡ record w { proxies = slice_set w.proxies place proxy'; history = history' }
@@ -168,7 +171,7 @@ position_some test xs k false e = cc
 pub found_at : {X : Type 0} (test : X → Bool) (xs : List X) (k : ℕ) → position test xs ≡ Some k → k ≡ position_or_len test xs
 found_at test xs k e = position_some test xs k (nat_lt (position_or_len test xs) (length xs)) e
 
-within_length : {X : Type 0} (test : X → Bool) (xs : List X) → position_or_len test xs ≤ length xs
+pub within_length : {X : Type 0} (test : X → Bool) (xs : List X) → position_or_len test xs ≤ length xs
 within_length test [] = omega arith
 within_length test (x ∷ xs) =
     elim (test x) as (λ b. cond (not b) (1 + position_or_len test xs) 0 ≤ suc (length xs)) [
@@ -253,7 +256,7 @@ placed_there routing sheets r all sheet h =
 
 -- a network of which nothing changed
 
-set_same : {X : Type 0} (xs : List X) (k : ℕ) (x : X) → slice_get xs k ≡ Some x → slice_set xs k x ≡ xs
+pub set_same : {X : Type 0} (xs : List X) (k : ℕ) (x : X) → slice_get xs k ≡ Some x → slice_set xs k x ≡ xs
 set_same [] k x e = cc
 set_same (y ∷ xs) zero x e = let is : y ≡ x = cc in ap (λ z. z ∷ xs) (sym is)
 set_same (y ∷ xs) (suc k) x e = ap (λ l. y ∷ l) (set_same xs k x e)
@@ -295,18 +298,18 @@ within_some test xs k true t e =
     omega arith
 within_some test xs k false t e = absurd (none-some k e)
 
+pub found_within : (nodes : List Node) (name : List ℕ) (k : ℕ) → position (λ node. bytes_eq node.name name) nodes ≡ Some k → k < length nodes
+found_within nodes name k e = within_some (λ node. bytes_eq node.name name) nodes k (nat_lt (node_number nodes name) (length nodes)) refl e
+
 -- a node that was found and set what is held holds it
-pub held_by : (nodes : List Node) (item : HeldItem) (number : ℕ) (d : Node) (command : NodeCommand) (reply : LegReply) (left : CacheView)
+pub held_by : (nodes : List Node) (item : HeldItem) (number : ℕ) (command : NodeCommand) (reply : LegReply) (new : List Node)
     → Some number ≡ position (λ node. bytes_eq node.name item.node) nodes → command ≡ Set item.key item.flags (pos 0) item.block
-    → RecencyStep (get_or nodes number d).cache 0 command reply left
-    → slice_set nodes number (record { name = (get_or nodes number d).name; cache = left }) ≡ hold nodes item
-held_by nodes item number d command reply left found made step =
-    let node = get_or nodes number d in
+    → PerformsAt nodes number 0 command reply new → new ≡ hold nodes item
+held_by nodes item number command reply new found made did =
     let named = node_number nodes item.node in
-    let within = within_some (λ x. bytes_eq x.name item.node) nodes number (nat_lt named (length nodes)) refl (sym found) in
     let same : number ≡ named = found_node nodes item.node number (sym found) in
-    let there : slice_get nodes named ≡ Some node = subst (λ k. slice_get nodes k ≡ Some node) same (slice_get-get_or nodes number d within) in
-    let leaves = (subst (λ (c : NodeCommand). RecencyStep node.cache 0 c reply left) made step).leaves in
-    ap (λ k. slice_set nodes k (record { name = node.name; cache = left })) same
-    ∙ ap (λ (cache : CacheView). slice_set nodes named (record { name = node.name; cache = cache })) leaves
+    let there : slice_get nodes named ≡ Some did.node = subst (λ k. slice_get nodes k ≡ Some did.node) same did.there.gets in
+    let leaves = (subst (λ (c : NodeCommand). RecencyStep did.node.cache 0 c reply did.left) made did.step).leaves in
+    did.becomes ∙ ap (λ k. slice_set nodes k (record { name = did.node.name; cache = did.left })) same
+    ∙ ap (λ (cache : CacheView). slice_set nodes named (record { name = did.node.name; cache = cache })) leaves
     ∙ ap (hold_at nodes named item) (sym there)

@@ -36,7 +36,7 @@ there_kept name (x ∷ nodes) node h =
       | false ↦ λ below. ap (λ n. 1 + n) (there_kept name nodes node (omega arith))
     ] h
 
-length_pushed : {X : Type 0} (xs : List X) (x : X) → length (xs ++ x ∷ []) ≡ length xs + 1
+pub length_pushed : {X : Type 0} (xs : List X) (x : X) → length (xs ++ x ∷ []) ≡ length xs + 1
 length_pushed [] x = refl
 length_pushed (y ∷ xs) x = let later = length_pushed xs x in omega arith
 
@@ -103,7 +103,7 @@ routing_reaches capacity nodes routing pool index has =
     (slice_get-get_or routing.pools pool [] has.pool)
     (λ nodes. pool_reaches capacity name nodes (pool_of routing pool) index (slice_get-get_or (pool_of routing pool) index [] has.within))
 
-nodes_reach : (capacity : ℕ) (proxies : List ProxySetup) (place : ℕ) (proxy : ProxySetup) (pool index : ℕ) → slice_get proxies place ≡ Some proxy
+pub nodes_reach : (capacity : ℕ) (proxies : List ProxySetup) (place : ℕ) (proxy : ProxySetup) (pool index : ℕ) → slice_get proxies place ≡ Some proxy
     → HasNode proxy.routing pool index → IsThere (name_at proxy.routing pool index) (nodes_of capacity proxies)
 nodes_reach capacity proxies place proxy pool index e has =
     let name = name_at proxy.routing pool index in

@@ -288,7 +288,7 @@ goes_nodes P nodes k old new m at same g =
     ]
 
 -- the node at the number of a name has that name
-number_named : (nodes : List Node) (name : List ℕ) (node : Node) → At nodes (node_number nodes name) node → node.name ≡ name
+pub number_named : (nodes : List Node) (name : List ℕ) (node : Node) → At nodes (node_number nodes name) node → node.name ≡ name
 number_named nodes name node at =
     (bytes_eq-Decides node.name name).0 (test_holds (λ (x : Node). bytes_eq x.name name) nodes node at.gets)
 

@@ -8,6 +8,7 @@ pub mod laws;
 mod message;
 mod network;
 mod node;
+mod nodes;
 mod note;
 mod numbers;
 mod premises;

@@ -10,7 +10,7 @@ mod returning;
 use crate::error::WorldError;
 use crate::event::Event;
 use crate::message::{Delivery, Message};
-use crate::node::Node;
+use crate::nodes::Nodes;
 use crate::note::Note;
 use crate::numbers::NodeNumbers;
 use crate::premises::Premises;
@@ -26,7 +26,7 @@ pub(crate) struct Network {
     readings: Readings,
     proxies: Vec<ProxyCore>,
     numbers: Vec<NodeNumbers>,
-    nodes: Vec<Node>,
+    nodes: Nodes,
     sent: Vec<Message>,
     replies: Vec<Delivery>,
     history: History,
@@ -42,7 +42,7 @@ impl Model for Network {
       world = record {
         readings = n.readings;
         proxies = n.proxies.items;
-        nodes = n.nodes.items;
+        nodes = n.nodes;
         sent = n.sent.items;
         replies = n.replies.items;
         history = n.history.entries;

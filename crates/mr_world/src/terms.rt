@@ -1,9 +1,13 @@
 //! What a setup says of the premises of its runs.
-ghost use Rattle.std.specs.Prelude.{◌≡◌, ◌↔◌, IsTrue, All};
-ghost use Rattle.mr_world.specs.Setup.{AllAlike, IsNewPoolEmpty, MovesTo, HasNamedNode, least_interval_of};
+ghost use Rattle.std.specs.Prelude.{◌≡◌, ◌↔◌, ◌||◌, ℕ, List, IsTrue, IfOk, OnOk};
+ghost use Rattle.std.specs.List.{list_any};
+ghost use Rattle.mr_world.specs.Setup.{AllAlike, IsNewPoolEmpty, HasNamedNode, least_interval_of};
+ghost use Rattle.mr_world.specs.Terms.{is_in, is_moved_to, is_among};
 
 use crate::setup::{ProxySetup, Setup};
-use mr_pools::{NodeName, Routing};
+use mr_pools::{NodeName, Pool, Routing};
+use std::alloc::{AllocError, Global};
+use std::collections::BTreeSet;
 
 /// What no event changes.
 #[derive(Clone, Copy, Debug)]
@@ -23,40 +27,57 @@ pub(crate) fn has_node(routing: &Routing, pool: usize, name: &NodeName) -> bool
     pool < routing.pools().len() && routing.pool(pool).names().contains(name)
 }
 
-/// Whether a pool other than the first has a node of this name.
-fn moves_to(routing: &Routing, name: &NodeName) -> bool
-    ensures { IsTrue result ↔ MovesTo routing.now name.now }
+/// A set of names of nodes, in order: whoever writes a script chooses the names.
+type Names<'a> = BTreeSet<&'a str>;
+
+/// Adds the names of a pool.
+fn add_pool<'a>(names: &mut Names<'a>, pool: &'a Pool) -> Result<(), AllocError>
+    ensures { OnOk result ((name : List ℕ)
+        → is_among names.new name ≡ (is_among names.old name || is_in pool.now name)) }
 {
-    for pool in 1..routing.pools().len() {
-        if has_node(routing, pool, name) {
-            return true;
-        }
+    for name in pool.names() {
+        names.insert(name.as_str())?;
     }
-    false
+    Ok(())
 }
 
-/// Whether no proxy moves to a node of this name.
-fn none_moves_to(proxies: &[ProxySetup], name: &NodeName) -> bool
-    ensures { IsTrue result ↔ All (λ proxy. ¬ MovesTo proxy.routing name.now) proxies.now }
+/// Adds the names of the nodes that a routing moves to: those of each pool other than the first.
+fn add_routing<'a>(names: &mut Names<'a>, routing: &'a Routing) -> Result<(), AllocError>
+    ensures { OnOk result ((name : List ℕ)
+        → is_among names.new name ≡ (is_among names.old name || is_moved_to routing.now.pools name)) }
 {
-    for proxy in proxies {
-        if moves_to(&proxy.routing, name) {
-            return false;
-        }
+    let Some((_first, later)) = routing.pools().split_first() else {
+        return Ok(());
+    };
+    for pool in later {
+        add_pool(names, pool)?;
     }
-    true
+    Ok(())
+}
+
+/// The names of the nodes that proxies move to.
+fn names_moved_to(alloc: Global, proxies: &[ProxySetup]) -> Result<Names<'_>, AllocError>
+    ensures { IfOk result (λ names. (name : List ℕ)
+        → is_among names name ≡ list_any (λ proxy. is_moved_to proxy.routing.pools name) proxies.now) }
+{
+    let mut names = BTreeSet::new(alloc);
+    for proxy in proxies {
+        add_routing(&mut names, &proxy.routing)?;
+    }
+    Ok(names)
 }
 
 /// Whether no node of a pool that a proxy moves to holds an item.
-fn is_new_empty(setup: &Setup) -> bool
-    ensures { IsTrue result ↔ IsNewPoolEmpty setup.now }
+fn is_new_empty(alloc: Global, setup: &Setup) -> Result<bool, AllocError>
+    ensures { IfOk result (λ empty. IsTrue empty ↔ IsNewPoolEmpty setup.now) }
 {
+    let names = names_moved_to(alloc, setup.proxies())?;
     for item in setup.held() {
-        if !none_moves_to(setup.proxies(), &item.node) {
-            return false;
+        if names.contains(item.node.as_str()) {
+            return Ok(false);
         }
     }
-    true
+    Ok(true)
 }
 
 /// Whether two proxies have one routing and one schedule.
@@ -97,15 +118,15 @@ fn least_of(proxies: &[ProxySetup]) -> u64
 
 impl Terms {
     /// The terms of a setup.
-    pub(crate) fn of(setup: &Setup) -> Terms
-        ensures same { IsTrue result.same ↔ AllAlike setup.now.proxies }
-        ensures new_empty { IsTrue result.new_empty ↔ IsNewPoolEmpty setup.now }
-        ensures least { result.least ≡ least_interval_of setup.now.proxies }
+    pub(crate) fn of(alloc: Global, setup: &Setup) -> Result<Terms, AllocError>
+        ensures same { IfOk result (λ terms. IsTrue terms.same ↔ AllAlike setup.now.proxies) }
+        ensures new_empty { IfOk result (λ terms. IsTrue terms.new_empty ↔ IsNewPoolEmpty setup.now) }
+        ensures least { IfOk result (λ terms. terms.least ≡ least_interval_of setup.now.proxies) }
     {
-        Terms {
+        Ok(Terms {
             same: are_alike(setup.proxies()),
-            new_empty: is_new_empty(setup),
+            new_empty: is_new_empty(alloc, setup)?,
             least: least_of(setup.proxies()),
-        }
+        })
     }
 }

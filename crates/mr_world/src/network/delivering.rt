@@ -1,18 +1,19 @@
 //! Messages that reach their nodes.
-ghost use Rattle.std.specs.Prelude.{◌≡◌, ◌++◌, ◌≤◌, All, IfOk, OnOk, OnErr, MatchResult, option_to_list};
+ghost use Rattle.std.specs.Prelude.{◌≡◌, ◌++◌, ◌<◌, ◌≤◌, length, All, IfOk, OnOk, OnErr, MatchResult, option_to_list};
 ghost use Rattle.mr_history.specs.History.{Fits};
-ghost use Rattle.mr_node.specs.Recency.{RecencyStep};
 ghost use Rattle.mr_world.specs.declared.event.Event.TheVariants.{Deliver};
 ghost use Rattle.mr_world.specs.Network.{IsReady, DoesEvent};
+ghost use Rattle.mr_world.specs.Nodes.{PerformsAt};
 ghost use Rattle.mr_world.specs.Steps.{performed};
 
 use crate::error::WorldError;
 use crate::message::Delivery;
 use crate::network::Network;
+use crate::nodes::Nodes;
 use crate::note::Note;
 use mr_history::{Author, Entry, History};
 use mr_join::LegReply;
-use mr_node::{CacheNode, NodeCommand, Perform};
+use mr_node::NodeCommand;
 use mr_proxy::LegSheet;
 use std::alloc::AllocError;
 
@@ -52,30 +53,38 @@ fn append(history: &mut History, entry: Option<Entry>)
     }
 }
 
-/// The node performs a copy of the command.
-fn perform(node: &mut CacheNode, now: u64, command: &NodeCommand) -> Result<LegReply, AllocError>
+/// The node of a number performs a copy of the command.
+fn perform(
+    nodes: &mut Nodes,
+    number: usize,
+    now: u64,
+    command: &NodeCommand,
+) -> Result<LegReply, AllocError>
+    requires { number < length nodes.old }
     ensures { MatchResult result
-        (λ reply. RecencyStep node.old now command.now reply node.new)
-        (λ _. node.new ≡ node.old) }
+        (λ reply. PerformsAt nodes.old number now command.now reply nodes.new)
+        (λ _. nodes.new ≡ nodes.old) }
 {
-    node.perform(now, command.copy()?)
+    nodes.perform(number, now, command.copy()?)
 }
 
-/// The node performs the leg, and the history gains what that leads to.
+/// The node of a number performs the leg, and the history gains what that leads to.
 fn perform_leg(
-    node: &mut CacheNode,
+    nodes: &mut Nodes,
+    number: usize,
     history: &mut History,
     now: u64,
     sheet: &LegSheet,
 ) -> Result<LegReply, AllocError>
+    requires within { number < length nodes.old }
     requires fits { All (Fits history.old.entries) (performed sheet.now sheet.now.command) }
     requires spare { 1 ≤ history.old.spare }
-    ensures step { IfOk result (λ reply. RecencyStep node.old now sheet.now.command reply node.new) }
+    ensures step { IfOk result (λ reply. PerformsAt nodes.old number now sheet.now.command reply nodes.new) }
     ensures history { OnOk result (history.new.entries ≡ history.old.entries ++ performed sheet.now sheet.now.command) }
-    ensures unchanged { OnErr result ((node.new ≡ node.old) × (history.new.entries ≡ history.old.entries)) }
+    ensures unchanged { OnErr result ((nodes.new ≡ nodes.old) × (history.new.entries ≡ history.old.entries)) }
 {
     let entry = entry_of(sheet)?;
-    let Ok(reply) = perform(node, now, &sheet.command) else {
+    let Ok(reply) = perform(nodes, number, now, &sheet.command) else {
         drop(entry);
         return Err(AllocError);
     };
@@ -95,8 +104,13 @@ impl Network {
         self.replies.reserve(1)?;
         self.history.reserve(1)?;
         let message = &self.sent[number];
-        let node = &mut self.nodes[message.node];
-        let reply = perform_leg(&mut node.cache, &mut self.history, now, &message.sheet)?;
+        let reply = perform_leg(
+            &mut self.nodes,
+            message.node,
+            &mut self.history,
+            now,
+            &message.sheet,
+        )?;
         let told = self.replies.len();
         self.replies.push_reserved(Delivery {
             message: number,

@@ -1,24 +1,24 @@
 //! A fleet as it is made of its setup.
-ghost use Rattle.std.specs.Prelude.{◌≡◌, ◌↔◌, ◌⊎◌, ◌^◌, ◌<◌, pos, [], ◌∷◌, ◌++◌, length, map, fold, All, IsTrue, IfOk, IfErr};
+ghost use Rattle.std.specs.Prelude.{◌≡◌, ◌↔◌, ◌⊎◌, ◌^◌, ◌<◌, pos, [], ◌∷◌, ◌++◌, length, map, fold, All, IsTrue, IfSome, IfOk, IfErr};
 ghost use Rattle.mr_node.specs.declared.command.NodeCommand.TheVariants.{Set};
 ghost use Rattle.mr_proxy.specs.ProxyView.{fresh_proxy};
 ghost use Rattle.mr_proxy.specs.Sound.{IsSound};
 ghost use Rattle.mr_world.specs.declared.error.WorldError.TheVariants.{NoSuchNode, OutOfMemory};
 ghost use Rattle.mr_world.specs.Headline.{IsPlan};
-ghost use Rattle.mr_world.specs.Setup.{CanBeMade, Begins, NamesNode, IsNamed, with_name, with_pool, with_routing, nodes_of, hold, held_entry, proxies_from};
+ghost use Rattle.mr_world.specs.Setup.{CanBeMade, Begins, NamesNode, IsNamed, with_pool, with_routing, nodes_of, hold, held_entry, proxies_from};
 ghost use Rattle.mr_world.specs.Positions.{node_number};
 ghost use Rattle.mr_clock.specs.Readings.{readings_at_first};
 ghost use Rattle.mr_world.specs.Tracked.{numbers_of};
 
 use crate::error::WorldError;
 use crate::network::Network;
-use crate::node::{Node, find_node, number_of};
+use crate::nodes::Nodes;
 use crate::numbers::NodeNumbers;
 use crate::setup::{HeldItem, ProxySetup, Setup};
 use crate::terms::{Terms, has_node};
 use mr_clock::Readings;
 use mr_history::{Author, Entry, History};
-use mr_node::{CacheNode, NodeCommand, Perform};
+use mr_node::NodeCommand;
 use mr_phases::Schedule;
 use mr_pools::{NodeName, Pool, Routing};
 use mr_proxy::ProxyCore;
@@ -48,49 +48,47 @@ fn is_named(proxies: &[ProxySetup], name: &NodeName) -> bool
     false
 }
 
+/// Whether some proxy's routing has a node of this name. It is looked up among all nodes, or where there was no memory for
+/// them, among the names of each routing.
+fn is_housed(nodes: Option<&Nodes>, setup: &Setup, name: &NodeName) -> bool
+    requires { IfSome nodes (λ nodes. nodes.now ≡ nodes_of setup.now.capacity setup.now.proxies) }
+    ensures { IsTrue result ↔ IsNamed setup.now.proxies name.now }
+{
+    match nodes {
+        Some(nodes) => nodes.find(name).is_some(),
+        None => is_named(setup.proxies(), name),
+    }
+}
+
 /// Whether there is a node for each item that is held, which could hold something.
-fn can_be_made(setup: &Setup) -> bool
+fn can_be_made(nodes: Option<&Nodes>, setup: &Setup) -> bool
+    requires { IfSome nodes (λ nodes. nodes.now ≡ nodes_of setup.now.capacity setup.now.proxies) }
     ensures { IsTrue result ↔ CanBeMade setup.now }
 {
     if setup.capacity() == 0 && !setup.proxies().is_empty() {
         return false;
     }
     for item in setup.held() {
-        if !is_named(setup.proxies(), &item.node) {
+        if !is_housed(nodes, setup, &item.node) {
             return false;
         }
     }
     true
 }
 
-/// Adds a node of this name, unless there is one.
-fn add_name(nodes: &mut Vec<Node>, capacity: usize, name: &NodeName) -> Result<(), AllocError>
-    ensures { IfOk result (λ _. nodes.new.items ≡ with_name capacity nodes.old.items name.now) }
-{
-    if number_of(nodes, name) < nodes.len() {
-        return Ok(());
-    }
-    let name = name.copy()?;
-    let Ok(cache) = CacheNode::new(*nodes.allocator(), capacity) else {
-        return Err(AllocError);
-    };
-    nodes.push(Node { name, cache })?;
-    Ok(())
-}
-
 /// Adds the nodes of a pool.
-fn add_pool(nodes: &mut Vec<Node>, capacity: usize, pool: &Pool) -> Result<(), AllocError>
-    ensures { IfOk result (λ _. nodes.new.items ≡ with_pool capacity nodes.old.items pool.now) }
+fn add_pool(nodes: &mut Nodes, capacity: usize, pool: &Pool) -> Result<(), AllocError>
+    ensures { IfOk result (λ _. nodes.new ≡ with_pool capacity nodes.old pool.now) }
 {
     for name in pool.names() {
-        add_name(nodes, capacity, name)?;
+        nodes.add(capacity, name)?;
     }
     Ok(())
 }
 
 /// Adds the nodes of a routing.
-fn add_routing(nodes: &mut Vec<Node>, capacity: usize, routing: &Routing) -> Result<(), AllocError>
-    ensures { IfOk result (λ _. nodes.new.items ≡ with_routing capacity nodes.old.items routing.now) }
+fn add_routing(nodes: &mut Nodes, capacity: usize, routing: &Routing) -> Result<(), AllocError>
+    ensures { IfOk result (λ _. nodes.new ≡ with_routing capacity nodes.old routing.now) }
 {
     for pool in routing.pools() {
         add_pool(nodes, capacity, pool)?;
@@ -99,18 +97,28 @@ fn add_routing(nodes: &mut Vec<Node>, capacity: usize, routing: &Routing) -> Res
 }
 
 /// The nodes of all routings, empty.
-fn empty_nodes(
-    alloc: Global,
-    capacity: usize,
-    proxies: &[ProxySetup],
-) -> Result<Vec<Node>, AllocError>
-    ensures { IfOk result (λ nodes. nodes.items ≡ nodes_of capacity proxies.now) }
+fn empty_nodes(alloc: Global, setup: &Setup) -> Result<Nodes, AllocError>
+    ensures { IfOk result (λ nodes. nodes ≡ nodes_of setup.now.capacity setup.now.proxies) }
 {
-    let mut nodes = Vec::new(alloc);
-    for proxy in proxies {
-        add_routing(&mut nodes, capacity, &proxy.routing)?;
+    let mut nodes = Nodes::new(alloc);
+    for proxy in setup.proxies() {
+        add_routing(&mut nodes, setup.capacity(), &proxy.routing)?;
     }
     Ok(nodes)
+}
+
+/// The nodes of a setup, empty, or NoSuchNode where it can't be made.
+fn nodes_of(alloc: Global, setup: &Setup) -> Result<Nodes, WorldError>
+    ensures made { IfOk result
+        (λ nodes. CanBeMade setup.now × (nodes ≡ nodes_of setup.now.capacity setup.now.proxies)) }
+    ensures refused { IfErr result
+        (λ e. ((e ≡ NoSuchNode) × ¬ CanBeMade setup.now) ⊎ ((e ≡ OutOfMemory) × CanBeMade setup.now)) }
+{
+    let nodes = empty_nodes(alloc, setup).ok();
+    if !can_be_made(nodes.as_ref(), setup) {
+        return Err(WorldError::NoSuchNode);
+    }
+    nodes.ok_or(WorldError::OutOfMemory)
 }
 
 /// What the history says of an item that is held.
@@ -144,15 +152,13 @@ fn command_of(item: HeldItem) -> NodeCommand
 }
 
 /// The item's node holds it.
-fn hold_item(nodes: &mut [Node], item: HeldItem) -> Result<(), AllocError>
+fn hold_item(nodes: &mut Nodes, item: HeldItem) -> Result<(), AllocError>
     ensures { IfOk result (λ _. nodes.new ≡ hold nodes.old item) }
 {
-    let Some(number) = find_node(nodes, &item.node) else {
+    let Some(number) = nodes.find(&item.node) else {
         return Ok(());
     };
-    let command = command_of(item);
-    let node = &mut nodes[number];
-    drop(node.cache.perform(0, command)?);
+    drop(nodes.perform(number, 0, command_of(item))?);
     Ok(())
 }
 
@@ -167,7 +173,7 @@ fn record(history: &mut History, item: &HeldItem) -> Result<(), WorldError>
 }
 
 /// The item's node holds it, and the history says so.
-fn begin_with(nodes: &mut [Node], history: &mut History, item: HeldItem) -> Result<(), WorldError>
+fn begin_with(nodes: &mut Nodes, history: &mut History, item: HeldItem) -> Result<(), WorldError>
     ensures nodes { IfOk result (λ _. nodes.new ≡ hold nodes.old item) }
     ensures history { IfOk result (λ _. history.new.entries ≡ history.old.entries ++ held_entry item ∷ []) }
     ensures memory { IfErr result (λ e. e ≡ OutOfMemory) }
@@ -178,11 +184,7 @@ fn begin_with(nodes: &mut [Node], history: &mut History, item: HeldItem) -> Resu
 }
 
 /// The nodes hold the items in order, and the history says so.
-fn hold_items(
-    alloc: Global,
-    nodes: &mut [Node],
-    items: Vec<HeldItem>,
-) -> Result<History, WorldError>
+fn hold_items(alloc: Global, nodes: &mut Nodes, items: Vec<HeldItem>) -> Result<History, WorldError>
     ensures nodes { IfOk result (λ _. nodes.new ≡ fold hold nodes.old items.items) }
     ensures history { IfOk result (λ history. history.entries ≡ map held_entry items.items) }
     ensures memory { IfErr result (λ e. e ≡ OutOfMemory) }
@@ -195,12 +197,12 @@ fn hold_items(
 }
 
 /// The numbers of the nodes of a pool.
-fn numbers_in(alloc: Global, nodes: &[Node], pool: &Pool) -> Result<Vec<usize>, AllocError>
+fn numbers_in(alloc: Global, nodes: &Nodes, pool: &Pool) -> Result<Vec<usize>, AllocError>
     ensures { IfOk result (λ numbers. numbers.items ≡ map (node_number nodes.now) pool.now) }
 {
     let mut numbers = Vec::with_capacity(alloc, pool.len())?;
     for name in pool.names() {
-        numbers.push(number_of(nodes, name))?;
+        numbers.push(nodes.number_of(name))?;
     }
     Ok(numbers)
 }
@@ -208,10 +210,10 @@ fn numbers_in(alloc: Global, nodes: &[Node], pool: &Pool) -> Result<Vec<usize>, 
 /// The numbers of the nodes that each proxy's routing names.
 fn numbers_of(
     alloc: Global,
-    nodes: &Vec<Node>,
+    nodes: &Nodes,
     proxies: &Vec<ProxyCore>,
 ) -> Result<Vec<NodeNumbers>, AllocError>
-    ensures { IfOk result (λ numbers. numbers.items ≡ numbers_of nodes.now.items proxies.now.items) }
+    ensures { IfOk result (λ numbers. numbers.items ≡ numbers_of nodes.now proxies.now.items) }
 {
     let mut numbers = Vec::with_capacity(alloc, proxies.len())?;
     for proxy in proxies {
@@ -294,11 +296,8 @@ impl Network {
         ensures refused { IfErr result
             (λ e. ((e ≡ NoSuchNode) × ¬ CanBeMade setup) ⊎ ((e ≡ OutOfMemory) × CanBeMade setup)) }
     {
-        if !can_be_made(&setup) {
-            return Err(WorldError::NoSuchNode);
-        }
-        let terms = Terms::of(&setup);
-        let mut nodes = empty_nodes(alloc, setup.capacity(), setup.proxies())?;
+        let mut nodes = nodes_of(alloc, &setup)?;
+        let terms = Terms::of(alloc, &setup)?;
         let (proxies, held) = setup.into_parts();
         let history = hold_items(alloc, &mut nodes, held)?;
         let readings = readings_of(alloc, &proxies)?;

@@ -4,7 +4,6 @@ ghost use Rattle.mr_world.specs.Network.{IsReady, DoesEvent};
 
 use crate::error::WorldError;
 use crate::network::Network;
-use crate::node::find_node;
 use crate::note::Note;
 use mr_pools::NodeName;
 
@@ -25,11 +24,10 @@ impl Network {
         requires { IsReady self.old }
         ensures { DoesEvent self.old (NodeRestart name.now) result self.new }
     {
-        let Some(number) = find_node(&self.nodes, name) else {
+        let Some(number) = self.nodes.find(name) else {
             return Err(WorldError::NoSuchNode);
         };
-        let node = &mut self.nodes[number];
-        node.cache.restart();
+        self.nodes.restart(number);
         Ok(Note::Nothing)
     }
 

@@ -1,20 +1,43 @@
-use Rattle.std.proofs.Common.{◌≡◌, length, All, refl, ap, subst, arith}
+use Rattle.std.proofs.Common.{◌≡◌, ◌∙◌, true, false, length, get_or, refl, sym, ap, subst, arith}
 use Rattle.mr_world.specs.declared.setup.HeldItem.{HeldItem}
-use Rattle.mr_world.specs.Setup.{MovesTo}
+use Rattle.mr_world.specs.Terms.{is_among}
 use Rattle.mr_world.proofs.NetworkLemmas.{each_more}
+use Rattle.mr_world.proofs.TermLemmas.{is_told, empty_if_none, told_if_some}
 use Rattle.mr_world.proofs.terms.is_new_empty.Goals as goal
+
+pub returns-then-contains : goal.returns-then-contains
+returns-then-contains c =
+    let setup = c.args.setup.now in
+    let item = c.item-item.result in
+    let held = c.held-item-items.ensures in
+    let read = subst (λ l. item ≡ get_or l c.loop-item.item-index item) held c.item-item.is in
+    let count = ap length held in
+    let below = c.loop-item-test.true in
+    let names = c.in_ok-names.ensures item.node ∙ ap (λ proxies. is_told proxies item) c.proxies.ensures in
+    let looked = c.contains.ensures in
+    let told : is_told setup.proxies item ≡ true = sym names ∙ ap (is_among c.in_ok-names.names) (sym c.as_str.ensures) ∙ sym looked ∙ c.if-contains.true in (
+      λ claimed. let both : false ≡ true = claimed in cc,
+      λ empty. absurd (told_if_some setup c.loop-item.item-index item (omega arith) read told empty),
+    )
 
 pub loop-item-preserved : goal.loop-item-preserved
 loop-item-preserved c =
+    let setup = c.args.setup.now in
+    let item = c.item-item.result in
     let held = c.held-item-items.ensures in
-    let read = subst (λ l. c.item-item.result ≡ Rattle.std.proofs.Common.get_or l c.loop-item.item-index c.item-item.result) held c.item-item.is in
+    let read = subst (λ l. item ≡ get_or l c.loop-item.item-index item) held c.item-item.is in
     let count = ap length held in
-    each_more (λ (item : HeldItem). All (λ proxy. ¬ MovesTo proxy.routing item.node) c.args.setup.now.proxies) c.args.setup.now.held c.loop-item.item-index c.item-item.result
-    c.loop-item.invariant read (omega arith)
-    (subst (λ proxies. All (λ proxy. ¬ MovesTo proxy.routing c.item-item.result.node) proxies) c.proxies.ensures (c.if-not-none_moves_to.ensures.0 refl))
+    let below = c.loop-item-test.true in
+    let names = c.in_ok-names.ensures item.node ∙ ap (λ proxies. is_told proxies item) c.proxies.ensures in
+    let looked = c.contains.ensures in
+    let told : is_told setup.proxies item ≡ false = sym names ∙ ap (is_among c.in_ok-names.names) (sym c.as_str.ensures) ∙ sym looked ∙ c.if-contains.false in
+    each_more (λ (item : HeldItem). is_told setup.proxies item ≡ false) setup.held c.loop-item.item-index item c.loop-item.invariant read (omega arith) told
 
 pub returns : goal.returns
 returns c = (
-  λ _ k d below. let count = ap length c.held-item-items.ensures in c.loop-item.invariant k d (omega arith),
+  λ _.
+      let count = ap length c.held-item-items.ensures in
+      let past = c.loop-item-test.false in
+      empty_if_none c.args.setup.now (λ k d below. c.loop-item.invariant k d (omega arith)),
   λ _. refl,
 )

@@ -10,17 +10,14 @@ use Rattle.mr_world.proofs.Lists.{at_read}
 use Rattle.mr_world.proofs.NetworkLemmas.{not_past, performed_all, same_delivered}
 use Rattle.mr_world.proofs.network.Network.deliver.Goals as goal
 
-pub index_mut-node-requires : goal.index_mut-node-requires
-index_mut-node-requires c =
+pub perform_leg-requires-clause-within : goal.perform_leg-requires-clause-within
+perform_leg-requires-clause-within c =
     let t = (subst IsReady (sym c.self.view_is) c.requires).tracked in
     let sized = c.self.inside.sent.ok.0 in
     let count = c.len.ensures in
     let below = c.if-number-len.false in
     let within : c.args.number < length c.self.inside.sent.items = omega arith in
-    let s = t.sent c.args.number c.index-message.result.now (at_read c.self.inside.sent.items c.args.number c.index-message.result.now within c.index-message.ensures) in
-    let nodes = c.self.inside.nodes.ok.0 in
-    let place = s.node in
-    omega arith
+    (t.sent c.args.number c.index-message.result.now (at_read c.self.inside.sent.items c.args.number c.index-message.result.now within c.index-message.ensures)).node
 
 pub perform_leg-requires-clause-fits : goal.perform_leg-requires-clause-fits
 perform_leg-requires-clause-fits c =
@@ -45,8 +42,8 @@ returns c =
     let at = at_read c.self.inside.sent.items c.args.number m within c.index-message.ensures in
     let s = t.sent c.args.number m at in
     let w = (the_view c.self.inside).world in
-    let node = c.index_mut-node.result.now in
     let reply = c.in_ok-reply.reply in
+    let did = c.in_ok-reply.ensures.step in
     let delivery : Delivery = record { message = c.args.number; reply = reply } in
     let replies : c.push_reserved.new.self.items ≡ c.self.inside.replies.items ++ delivery ∷ [] =
     c.push_reserved.ensures.items ∙ ap (λ l. l ++ delivery ∷ []) c.in_ok-reserve.ensures.items in
@@ -58,14 +55,14 @@ returns c =
       not_past _ c.args.number (length c.self.inside.sent.items) within,
       record {
         message = m;
-        node = node;
+        node = did.node;
         reply = reply;
-        left = c.perform_leg.new.node;
+        left = did.left;
         sent = at;
-        there = at_read c.self.inside.nodes.items m.node node s.node c.index_mut-node.ensures.value;
-        step = c.in_ok-reply.ensures.step;
+        there = did.there;
+        step = did.step;
         tells = ap Performed told;
-        becomes = same_delivered w _ _ _ _ _ replies history;
+        becomes = same_delivered w did.becomes replies history;
       },
       refl,
     )

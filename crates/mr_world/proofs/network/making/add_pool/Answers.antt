@@ -7,8 +7,8 @@ pub loop-name-preserved : goal.loop-name-preserved
 loop-name-preserved c =
     let items = c.names-name-items.result.now in
     let place = c.loop-name.name-index in
-    let nodes = c.args.nodes.now.items in
+    let nodes = c.args.nodes.now in
     let with = with_name c.args.capacity in
-    c.in_ok-add_name.ensures ∙ ap (λ l. with l c.name-item.result) c.loop-name.invariant
+    c.in_ok-add.ensures ∙ ap (λ l. with l c.name-item.result) c.loop-name.invariant
     ∙ ap (with (fold with nodes (take place items))) c.name-item.is
     ∙ sym (fold_more with nodes items place c.name-item.result c.loop-name-test.true)

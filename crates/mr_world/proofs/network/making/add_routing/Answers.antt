@@ -7,7 +7,7 @@ pub loop-pool-preserved : goal.loop-pool-preserved
 loop-pool-preserved c =
     let items = c.pools-pool-items.result.now in
     let place = c.loop-pool.pool-index in
-    let nodes = c.args.nodes.now.items in
+    let nodes = c.args.nodes.now in
     let with = with_pool c.args.capacity in
     c.in_ok-add_pool.ensures ∙ ap (λ l. with l c.pool-item.result) c.loop-pool.invariant
     ∙ ap (with (fold with nodes (take place items))) c.pool-item.is

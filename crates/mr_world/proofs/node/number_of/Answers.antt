@@ -1,9 +1,0 @@
-use Rattle.std.proofs.Common.{sym}
-use Rattle.mr_world.proofs.NetworkLemmas.{found_node, no_node}
-use Rattle.mr_world.proofs.node.number_of.Goals as goal
-
-pub returns-in-Some : goal.returns-in-Some
-returns-in-Some c = found_node c.args.nodes.now c.args.name.now c.in-Some.number (sym c.in-Some.ensures)
-
-pub returns-in-None : goal.returns-in-None
-returns-in-None c = no_node c.args.nodes.now c.args.name.now (sym c.in-None.ensures)
