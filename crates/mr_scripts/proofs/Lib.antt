@@ -1,4 +1,5 @@
 pub mod EventLemmas
+pub mod HomeIndexLemmas
 pub mod HomeLemmas
 pub mod ListLemmas
 pub mod OrderLemmas

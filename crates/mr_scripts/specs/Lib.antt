@@ -1,5 +1,6 @@
 pub mod EventDraft
 pub mod Events
+pub mod HomeIndex
 pub mod Homes
 pub mod Limits
 pub mod Lists

@@ -1,12 +1,17 @@
 //! The nodes of a setup's proxies, looked up in its JSON values without making them.
-ghost use Rattle.std.specs.Prelude.{◌≡◌, map, option_map};
+ghost use Rattle.std.specs.Prelude.{◌≡◌, ◌||◌, map, option_map, IfOk, OnOk};
+ghost use Rattle.std.specs.List.{list_all};
 ghost use Rattle.serde_json.specs.View.{view, items_view};
 ghost use Rattle.mr_scripts.specs.Homes.{pool_name_at, servers_at, names_at, pools_at, config_at, values_name, node_at, are_housed, values_have_room};
+ghost use Rattle.mr_configs.specs.Fields.{Text, is_one_of};
 ghost use Rattle.mr_configs.specs.Pools.{names_in};
+ghost use Rattle.mr_scripts.specs.HomeIndex.{has_name, IsIndexOf};
 ghost use Rattle.mr_scripts.specs.Setups.{pools_name};
 
 use mr_configs::{is_among, name_pointed_to};
 use serde_json::Value;
+use std::alloc::{AllocError, Global};
+use std::collections::BTreeSet;
 
 /// The name of the pool that a configuration's route names at this key.
 fn name_at<'a>(config: &'a Value, key: &str) -> Option<&'a str>
@@ -69,8 +74,63 @@ fn node_at(item: &Value) -> &str
     item.get("node").and_then(Value::as_str).unwrap_or("")
 }
 
-/// Whether each item is held by a node of some proxy.
-pub fn are_housed(common: &Value, proxies: &[Value], items: &[Value]) -> bool
+/// Adds the names of a pool to an index.
+fn add_names<'a>(index: &mut BTreeSet<&'a str>, values: &'a [Value]) -> Result<(), AllocError>
+    ensures { OnOk result ((name : Text)
+        → has_name index.new name ≡ (is_one_of (names_in (map view values.now)) name || has_name index.old name)) }
+{
+    for value in values {
+        index.insert(value.as_str().unwrap_or(""))?;
+    }
+    Ok(())
+}
+
+/// Adds the names of both pools of a configuration to an index.
+fn add_nodes<'a>(index: &mut BTreeSet<&'a str>, config: &'a Value) -> Result<(), AllocError>
+    ensures { OnOk result ((name : Text)
+        → has_name index.new name ≡ (pools_name (pools_at (view config.now)) name || has_name index.old name)) }
+{
+    add_names(index, names_at(config, "from"))?;
+    add_names(index, names_at(config, "to"))
+}
+
+/// The names of all proxies' nodes; those of the common configuration are added once, however many proxies share it.
+fn index_of_nodes<'a>(
+    alloc: Global,
+    common: &'a Value,
+    proxies: &'a [Value],
+) -> Result<BTreeSet<&'a str>, AllocError>
+    ensures { IfOk result (λ index. IsIndexOf (view common.now) (map view proxies.now) index) }
+{
+    let mut index = BTreeSet::new(alloc);
+    let mut has_common = false;
+    for proxy in proxies {
+        match proxy.get("config") {
+            Some(own) => add_nodes(&mut index, own)?,
+            None if has_common => {}
+            None => {
+                add_nodes(&mut index, common)?;
+                has_common = true;
+            }
+        }
+    }
+    Ok(index)
+}
+
+/// Whether each item is held by a node of the index.
+fn are_indexed(index: &BTreeSet<&str>, items: &[Value]) -> bool
+    ensures { result ≡ list_all (λ item. has_name index.now (node_at item)) (map view items.now) }
+{
+    for item in items {
+        if !index.contains(node_at(item)) {
+            return false;
+        }
+    }
+    true
+}
+
+/// Whether each item is held by a node of some proxy, without memory: each item's node is compared with all nodes.
+fn are_found(common: &Value, proxies: &[Value], items: &[Value]) -> bool
     ensures { result ≡ are_housed (view common.now) (map view proxies.now) (map view items.now) }
 {
     for item in items {
@@ -79,6 +139,18 @@ pub fn are_housed(common: &Value, proxies: &[Value], items: &[Value]) -> bool
         }
     }
     true
+}
+
+/// Whether each item is held by a node of some proxy: one look-up for each item in an index of all names, which is ordered,
+/// since a script may come from somebody who wants look-ups by a hash to be slow.
+pub fn are_housed(alloc: Global, common: &Value, proxies: &[Value], items: &[Value]) -> bool
+    ensures { result ≡ are_housed (view common.now) (map view proxies.now) (map view items.now) }
+{
+    match index_of_nodes(alloc, common, proxies) {
+        Ok(index) => are_indexed(&index, items),
+        // OutOfMemory comes after every other refusal, so where the index has no memory the names are compared one by one.
+        Err(_) => are_found(common, proxies, items),
+    }
 }
 
 /// Whether the nodes can hold something, or there is none.

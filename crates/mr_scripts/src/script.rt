@@ -99,8 +99,8 @@ fn values_of_events<'a>(setup: &SetupDraft<'_>, events: &'a Value) -> Result<&'a
     }
 }
 
-/// Looks at the keys of a script whole, without taking memory, and tells the first refusal.
-fn parts_draft(value: &Value) -> Result<ScriptDraft<'_>, PlanError>
+/// Looks at the keys of a script whole, and tells the first refusal. Want of memory is none of them.
+fn parts_draft(alloc: Global, value: &Value) -> Result<ScriptDraft<'_>, PlanError>
     ensures parts { IfOk result (λ draft. script_in (view value.now) ≡ parts_drafted draft) }
     ensures ready { IfOk result (λ draft. IsScriptReady draft) }
     ensures refused { IfErr result (λ e. script_in (view value.now) ≡ Err e) }
@@ -109,7 +109,7 @@ fn parts_draft(value: &Value) -> Result<ScriptDraft<'_>, PlanError>
     let format = field(value, "format")?;
     let setup = field(value, "setup")?;
     check_format(format)?;
-    let setup = match setup_draft(setup) {
+    let setup = match setup_draft(alloc, setup) {
         Ok(setup) => setup,
         Err(refusal) => return Err(refusal),
     };
@@ -140,20 +140,20 @@ pub fn read_parts(alloc: Global, value: &Value) -> Result<(Setup, Vec<Event>), P
     ensures playable { IfOk result (λ parts. IsPlayable parts.0) }
     ensures refused { IfErr result (λ e. RefusesParts (view value.now) e) }
 {
-    match parts_draft(value) {
+    match parts_draft(alloc, value) {
         Ok(draft) => Ok(draft.make(alloc)?),
         Err(refusal) => Err(refusal),
     }
 }
 
-/// Looks at a script whole, without taking memory, and tells the first refusal.
-fn script_draft(value: &Value) -> Result<ScriptDraft<'_>, PlanError>
+/// Looks at a script whole, and tells the first refusal. Want of memory is none of them.
+fn script_draft(alloc: Global, value: &Value) -> Result<ScriptDraft<'_>, PlanError>
     ensures parts { IfOk result (λ draft. script_of (view value.now) ≡ parts_drafted draft) }
     ensures ready { IfOk result (λ draft. IsScriptReady draft) }
     ensures refused { IfErr result (λ e. script_of (view value.now) ≡ Err e) }
 {
     check_object(value, &SCRIPT_KEYS)?;
-    parts_draft(value)
+    parts_draft(alloc, value)
 }
 
 impl Script {
@@ -224,7 +224,7 @@ pub fn read_events(alloc: Global, bytes: &[u8]) -> Result<Script, PlanError>
         return Err(PlanError::TooLarge);
     }
     let json = json_of(alloc, bytes)?;
-    let (setup, events) = match script_draft(&json) {
+    let (setup, events) = match script_draft(alloc, &json) {
         Ok(draft) => draft.make(alloc)?,
         Err(refusal) => return Err(refusal),
     };

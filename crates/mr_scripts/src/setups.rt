@@ -34,6 +34,7 @@ pub struct SetupDraft<'a> {
 /// Looks whether the nodes can hold something, and whether there is a node for each item.
 #[tactic(auto, using(crate::proofs::HomeLemmas::setup_refused, crate::proofs::HomeLemmas::setup_ready))]
 fn check_homes(
+    alloc: Global,
     config: &Value,
     capacity: usize,
     held: &[Value],
@@ -46,14 +47,14 @@ fn check_homes(
     ensures refused { IfErr result (λ e. (common : ConfigView) → config_of (view config.now) ≡ Ok common
         → setup_between common capacity (map view held.now) (map view proxies.now) ≡ Err e) }
 {
-    if !have_room(capacity, proxies) || !are_housed(config, proxies, held) {
+    if !have_room(capacity, proxies) || !are_housed(alloc, config, proxies, held) {
         return Err(PlanError::BadSetup(WorldError::NoSuchNode));
     }
     Ok(())
 }
 
-/// Looks at a setup whole, without taking memory, and tells the first refusal.
-pub fn setup_draft(value: &Value) -> Result<SetupDraft<'_>, PlanError>
+/// Looks at a setup whole, and tells the first refusal. Want of memory is none of them: it takes longer then.
+pub fn setup_draft(alloc: Global, value: &Value) -> Result<SetupDraft<'_>, PlanError>
     ensures setup { IfOk result (λ draft. setup_of (view value.now) ≡ setup_drafted draft) }
     ensures ready { IfOk result (λ draft. IsSetupReady draft) }
     ensures refused { IfErr result (λ e. setup_of (view value.now) ≡ Err e) }
@@ -72,7 +73,7 @@ pub fn setup_draft(value: &Value) -> Result<SetupDraft<'_>, PlanError>
     check_held(held)?;
     let proxies = list(proxies)?;
     check_proxies(proxies)?;
-    match check_homes(config, capacity, held, proxies) {
+    match check_homes(alloc, config, capacity, held, proxies) {
         Ok(()) => Ok(SetupDraft {
             capacity,
             common,

@@ -1,7 +1,7 @@
 use Rattle.std.proofs.Common.{◌≡◌, map, drop}
 use Rattle.serde_json.specs.View.{view}
 use Rattle.mr_scripts.specs.Homes.{are_housed}
-use Rattle.mr_scripts.proofs.homes.are_housed.Given as goal
+use Rattle.mr_scripts.proofs.homes.are_found.Given as goal
 
 abbrev pub invariant-loop-item : goal.invariant-loop-item
 invariant-loop-item l =
