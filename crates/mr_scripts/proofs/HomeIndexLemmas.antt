@@ -9,9 +9,8 @@ use Rattle.std.specs.Str.{bytes_eq}
 use denote.Ref.{Bor}
 use Rattle.serde_json.specs.Data.{Data}
 use Rattle.mr_configs.specs.Fields.{Text, is_one_of}
-use Rattle.mr_scripts.specs.Homes.{pools_at, config_at, values_name, node_at, are_housed}
+use Rattle.mr_scripts.specs.Homes.{values_name, node_at, are_housed}
 use Rattle.mr_scripts.specs.HomeIndex.{has_name, IsIndexOf}
-use Rattle.mr_scripts.specs.Setups.{pools_name}
 
 -- what an index has after a name was added
 pub name_added : (first : Text) (old new : BTreeSet (Bor Text)) →
@@ -29,13 +28,6 @@ name_moved first rest name old new e = go (bytes_eq first name) (is_one_of rest 
     go true true e = refl
     go true false e = sym e
     go false among e = ap (among ||◌) (sym e)
-
--- the names of two pools, one after the other
-pub both_added : (from to old : Bool) → (to || (from || old)) ≡ ((from || (to || false)) || old)
-both_added true true old = refl
-both_added true false old = refl
-both_added false true old = refl
-both_added false false old = refl
 
 -- the names of a proxy's nodes move to the index
 pub proxy_moved : (here rest old new : Bool) → new ≡ (here || old) → ((here || rest) || old) ≡ (rest || new)

@@ -1,4 +1,4 @@
-use Rattle.std.proofs.Common.{◌≡◌, ◌∙◌, ◌||◌, ◌∷◌, ap, rules, subst, sym}
+use Rattle.std.proofs.Common.{◌≡◌, ◌∙◌, ◌||◌, ap, rules, subst, sym}
 use Rattle.serde_json.specs.View.{view}
 use Rattle.mr_configs.specs.Fields.{Text}
 use Rattle.mr_scripts.specs.Homes.{config_at, pools_at, values_name}
