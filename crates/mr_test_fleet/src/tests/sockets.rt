@@ -2,6 +2,7 @@
 //! names; its hash is the sum of a key's bytes, and the migration starts at 1000 with an interval of 100 seconds.
 mod connections;
 mod fleet;
+mod memory;
 
 ghost use Rattle.mr_proxy.specs.ProxyView.{IsFresh};
 

@@ -10,7 +10,9 @@ use mr_text::Key;
 use std::alloc::{AllocError, Global};
 use std::cell::Cell;
 use std::env::Env;
+use std::hash::RandomState;
 use std::process::Abort;
+use std::test::Fail;
 
 /// What a command comes to and how many items it leaves, or nothing where memory was refused for it.
 type Outcome = Option<(&'static str, usize)>;
@@ -98,6 +100,13 @@ fn comes_to(rt: &(impl Abort + Env), alloc: Global, node: &mut CacheNode, place:
     is(rt, place, came, Some((wanted.word(), kept)));
 }
 
+/// Asserts what each command of the row comes to, of a new cache.
+fn come_to(rt: &(impl Abort + Env), alloc: Global, mut node: CacheNode) {
+    for (place, row) in ROW.iter().enumerate() {
+        comes_to(rt, alloc, &mut node, place, row);
+    }
+}
+
 #[test]
 fn refused_memory_performs_later(rt: HostRuntime) {
     let made = at_last!(
@@ -105,10 +114,19 @@ fn refused_memory_performs_later(rt: HostRuntime) {
         CacheNode::new(rt.alloc(), 2),
         Err(NodeError::OutOfMemory)
     );
-    let mut node = must(&rt, made);
-    for (place, row) in ROW.iter().enumerate() {
-        comes_to(&rt, rt.alloc(), &mut node, place, row);
-    }
+    come_to(&rt, rt.alloc(), must(&rt, made));
+}
+
+#[test]
+fn refused_memory_makes_a_seeded_cache_later(rt: HostRuntime) -> Result<(), Fail> {
+    let seed = RandomState::new(&rt)?;
+    let made = at_last!(
+        &rt,
+        CacheNode::seeded(rt.alloc(), 2, seed),
+        Err(NodeError::OutOfMemory)
+    );
+    come_to(&rt, rt.alloc(), must(&rt, made));
+    Ok(())
 }
 
 /// Asserts that a copy of a command is the same, also where memory for it was refused once.

@@ -60,7 +60,7 @@ impl<'a, R: Net<Listener = TcpListener, Stream = TcpStream> + Wait> Net for Watc
 }
 
 /// The leg of a get of the key `k`.
-fn get(rt: &impl Abort, alloc: Global) -> LegSheet {
+pub(super) fn get(rt: &impl Abort, alloc: Global) -> LegSheet {
     LegSheet {
         id: LegId {
             op: FIRST,

@@ -179,7 +179,7 @@ fn get_twice(rt: &impl Abort, alloc: Global, state: &mut RecordedState<Broken>) 
 
 /// A step of a book in few words.
 #[derive(Clone, Copy, Debug, PartialEq, Eq)]
-enum Told {
+pub(super) enum Told {
     /// A request was issued at this second.
     Issue(u64),
     /// A leg of this request came back.
@@ -189,7 +189,7 @@ enum Told {
 }
 
 /// What a step tells.
-fn told_of(step: &Step) -> Told {
+pub(super) fn told_of(step: &Step) -> Told {
     match step {
         Step::Issue { reading, .. } => Told::Issue(*reading),
         Step::Take(back) => Told::Take(back.sheet.id.op),

@@ -2,19 +2,21 @@
 ghost use Rattle.std.specs.Prelude.{◌≢◌};
 ghost use Rattle.mr_text.specs.declared.request.Request.{Request};
 
+use super::books::{Told, told_of};
 use super::{NEW, desk_of, issue};
 use crate::tests::threaded::broken::{Broken, broken_carriers};
 use crate::tests::threaded::{delete_of, first_leg, get_of};
-use crate::tests::{core_of, is, must};
+use crate::tests::{ToNode, core_of, is, is_at, must};
 use mr_clock::FixedClock;
 use mr_desks::{
-    Carried, Carrier, Carriers, Desk, DeskError, LocalCarrier, RecordedProxy, Share, SharedNode,
-    SharedProxy,
+    Carried, Carrier, Carriers, Desk, DeskError, LocalCarrier, RecordedProxy, RecordedState, Share,
+    SharedNode, SharedProxy, Step,
 };
+use mr_history::OpId;
 use mr_join::LegReply;
 use mr_node::{CacheNode, NodeCommand, Perform};
-use mr_proxy::{Issued, Leg, LegSheet, Taken};
-use mr_test_support::{FIRST, at_last, grant_memory, refuse_memory};
+use mr_proxy::{Answer, Issued, Leg, LegSheet, Taken};
+use mr_test_support::{FIRST, SECOND, at_last, grant_memory, refuse_memory, reply_text};
 use mr_text::{Block, Cause, Key, Request};
 use std::alloc::{AllocError, Global};
 use std::env::Env;
@@ -184,4 +186,113 @@ fn refused_memory_copies_what_was_carried_later(rt: HostRuntime) {
         &matches!(taken, Taken::Stranger(_)),
         &true,
     );
+}
+
+/// Issues a request over a book, carries its first leg to a cache, and takes what comes of it: whether that answers it.
+fn ask<'x, R: Wait + Abort>(
+    rt: &'x R,
+    node: &'x SharedNode,
+    state: &mut RecordedState<ToNode<'x, R>>,
+    share: &mut Share,
+    request: &Request,
+) -> bool
+    requires { request.now ≢ Request.Quit }
+{
+    let issued = must(rt, state.issue(share, &mut FixedClock(1000), request));
+    let mut carrier = LocalCarrier::new(rt, node, FixedClock(999));
+    let carried = Carried::of(&mut carrier, first_leg(rt, issued.legs));
+    matches!(must(rt, state.take(&carried)), Taken::Answered(_))
+}
+
+/// A proxy with the book of a get of `k`, which finds it, and of a delete that is given up once its first leg came back.
+fn played<'x, R: Wait + Abort>(
+    rt: &'x R,
+    alloc: Global,
+    node: &'x SharedNode,
+) -> RecordedState<ToNode<'x, R>> {
+    let mut state = RecordedState::new(alloc, must(rt, core_of(alloc, 0, &NEW)), 5);
+    let mut share = desk_of(rt, alloc, 5).share();
+    let get = ask(
+        rt,
+        node,
+        &mut state,
+        &mut share,
+        &get_of(rt, alloc, &[b"k"]),
+    );
+    let delete = ask(
+        rt,
+        node,
+        &mut state,
+        &mut share,
+        &delete_of(rt, alloc, b"k"),
+    );
+    is(rt, "answered", &(get, delete), &(true, false));
+    is(rt, "given up", &state.give_up(SECOND).is_ok(), &true);
+    state
+}
+
+/// The steps of that book.
+static STEPS: [Told; 5] = [
+    Told::Issue(1000),
+    Told::Take(FIRST),
+    Told::Issue(1000),
+    Told::Take(SECOND),
+    Told::GiveUp(SECOND),
+];
+
+/// Whether two steps are equal.
+fn same_step(step: &Step, other: &Step) -> bool {
+    match (step, other) {
+        (Step::Issue { request, .. }, Step::Issue { request: again, .. }) => request.same_as(again),
+        (Step::Take(back), Step::Take(again)) => {
+            back.sheet.same_as(&again.sheet) && back.reply.same_as(&again.reply)
+        }
+        (Step::GiveUp(op), Step::GiveUp(again)) => op == again,
+        _ => false,
+    }
+}
+
+/// Asserts that the copy of a step is equal, also where memory for it was refused once, and what it tells.
+fn is_copied(rt: &(impl Abort + Env), number: usize, step: &Step, wanted: &Told) {
+    let copy = must(rt, at_last!(rt, step.copy(), Err(AllocError)));
+    is_at(rt, number, "equal", &same_step(&copy, step), &true);
+    is_at(rt, number, "step", &told_of(&copy), wanted);
+}
+
+#[test]
+fn refused_memory_copies_steps_later(rt: HostRuntime) {
+    let node = holder(&rt, rt.alloc());
+    let state = played(&rt, rt.alloc(), &node);
+    is(&rt, "steps", &state.steps().len(), &STEPS.len());
+    for (number, (step, wanted)) in state.steps().iter().zip(&STEPS).enumerate() {
+        is_copied(&rt, number, step, wanted);
+    }
+}
+
+/// The answers of that book: to which request, whether it was given up, and what its client is told.
+static ANSWERS: [(OpId, bool, &[u8]); 2] = [
+    (FIRST, false, b"VALUE k 7 1\r\nv\r\nEND\r\n"),
+    (SECOND, true, b"SERVER_ERROR leg lost\r\n"),
+];
+
+/// Asserts which answer this is.
+fn is_answer(rt: &impl Abort, alloc: Global, number: usize, answer: Answer) {
+    let there = (answer.op(), answer.given_up());
+    let text = must(rt, reply_text(alloc, &answer.into_reply()));
+    let found = Some(&(there.0, there.1, text.as_slice()));
+    is_at(rt, number, "answer", &found, &ANSWERS.get(number));
+}
+
+#[test]
+fn refused_memory_gives_the_answers_of_a_book_later(rt: HostRuntime) {
+    let node = holder(&rt, rt.alloc());
+    let state = played(&rt, rt.alloc(), &node);
+    let answers = must(
+        &rt,
+        at_last!(&rt, state.answers(rt.alloc()), Err(AllocError)),
+    );
+    is(&rt, "answers", &answers.len(), &ANSWERS.len());
+    for (number, answer) in answers.into_iter().enumerate() {
+        is_answer(&rt, rt.alloc(), number, answer);
+    }
 }
