@@ -2,8 +2,10 @@
 use super::{Told, are, is};
 use crate::tests::must;
 use mr_node::{CacheNode, CachedItem, NodeError, Perform};
+use mr_test_support::{at_last, grant_memory, refuse_memory};
 use mr_text::Key;
-use std::alloc::Global;
+use std::alloc::{AllocError, Global};
+use std::env::Env;
 use std::process::Abort;
 
 /// Asserts what an item has.
@@ -13,16 +15,16 @@ fn has(rt: &impl Abort, item: &CachedItem) {
     is(rt, 2, item.expires_at, Some(110));
 }
 
-/// A copy of the item of the key `k`.
-fn copy_of_item(rt: &impl Abort, node: &CacheNode, key: &Key) -> Option<CachedItem> {
+/// A copy of the item of the key `k`, made again where memory for it was refused.
+fn copy_of_item(rt: &(impl Abort + Env), node: &CacheNode, key: &Key) -> Option<CachedItem> {
     match node.peek(key) {
-        Some(item) => Some(must(rt, item.copy())),
+        Some(item) => Some(must(rt, at_last!(rt, item.copy(), Err(AllocError)))),
         None => None,
     }
 }
 
 /// Asserts that the copy of an item that a set leaves is there, though the cache keeps nothing then.
-fn is_copied(rt: &impl Abort, alloc: Global, node: &mut CacheNode) {
+fn is_copied(rt: &(impl Abort + Env), alloc: Global, node: &mut CacheNode) {
     let command = must(rt, Told::Set(10).of(alloc, b'k'));
     must(rt, node.perform(100, command));
     let copy = copy_of_item(rt, node, &must(rt, Key::new(alloc, b"k")));
@@ -34,7 +36,7 @@ fn is_copied(rt: &impl Abort, alloc: Global, node: &mut CacheNode) {
 }
 
 #[test]
-fn a_copied_item_is_equal(rt: HostRuntime) {
+fn refused_memory_copies_an_item_later(rt: HostRuntime) {
     let mut node = must(&rt, CacheNode::new(rt.alloc(), 1));
     is_copied(&rt, rt.alloc(), &mut node);
 }
