@@ -1,3 +1,4 @@
 pub mod CheckLemmas
+pub mod LeastLemmas
 pub mod PlayLemmas
 pub mod ShownLemmas

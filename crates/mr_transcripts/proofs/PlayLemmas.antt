@@ -1,5 +1,5 @@
 -- A play grows event by event.
-use Rattle.std.proofs.Common.{◌≡◌, ℕ, suc, List, [], ◌∷◌, ◌++◌, length, take, slice_get, Some, None, refl, sym, ap, ◌∙◌, subst, append-nil, append_assoc, arith}
+use Rattle.std.proofs.Common.{◌≡◌, ℕ, suc, List, [], ◌∷◌, ◌++◌, length, take, slice_get, Option, Some, None, refl, sym, ap, ◌∙◌, subst, append-nil, append_assoc, arith}
 use Rattle.mr_world.specs.Refusals.{refusal_of_event}
 use Rattle.mr_world.specs.Setup.{SetupView, Begins}
 use Rattle.mr_world.specs.Steps.{WorldStep, WorldRun}
@@ -7,7 +7,11 @@ use Rattle.mr_world.specs.WorldView.{WorldView}
 use Rattle.mr_world.specs.declared.error.WorldError.{WorldError}
 use Rattle.mr_world.specs.declared.event.Event.{Event}
 use Rattle.mr_world.specs.declared.note.Note.{Note}
+use Rattle.mr_shown.specs.Verdict.{JudgesSo}
+use Rattle.mr_shown.specs.declared.verdict.KeptVerdict.{KeptVerdict}
 use Rattle.mr_transcripts.specs.Play.{PlaysTo, IsPlay}
+use Rattle.mr_transcripts.specs.Transcript.{IsWholePlay}
+use Rattle.mr_transcripts.specs.declared.play.Stop.{Stop}
 
 pub record IsUnderWay (setup : SetupView) (events : List Event) (notes : List Note) (left : List Event) (world : WorldView) : Type 0 where
   pub start : WorldView
@@ -86,3 +90,8 @@ plays_run old new [] [] plays = plays
 plays_run old new [] (n ∷ ns) plays = absurd plays
 plays_run old new (e ∷ es) [] plays = absurd plays
 plays_run old new (e ∷ es) (n ∷ ns) (next, fine, first, rest) = (next, n, first, plays_run next new es ns rest)
+
+pub whole_play : (setup : SetupView) (events : List Event) (notes : List Note) (world : WorldView) (verdict : KeptVerdict) (stop : Option Stop)
+    → IsPlay setup events notes world stop → stop ≡ None → JudgesSo world.history verdict → IsWholePlay setup events notes world verdict
+whole_play setup events notes world verdict stop play ended judged =
+    record { play = subst (IsPlay setup events notes world) ended play; judges = judged }

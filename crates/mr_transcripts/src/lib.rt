@@ -2,6 +2,7 @@
 #![tactic(auto)]
 
 mod check;
+mod least;
 mod play;
 mod transcript;
 

@@ -6,6 +6,7 @@ ghost use Rattle.mr_world.specs.Premises.{premises_of};
 ghost use Rattle.mr_world.specs.Setup.{CanBeMade};
 ghost use Rattle.mr_transcripts.specs.Transcript.{with_outcome, transcript_text, IsTranscript, RefusesTranscript};
 
+use crate::least::has_long_history;
 use crate::play::play_events;
 use mr_configs::PlanError;
 use mr_scripts::{MAX_SCRIPT, Script};
@@ -79,6 +80,9 @@ pub(crate) fn transcript_of(
         None => {}
     }
     let verdict = KeptVerdict::on(alloc, &play.world)?;
+    if has_long_history(&script, play.world.history().entries()) {
+        return Err(PlanError::TooLarge);
+    }
     let text = text_of(alloc, script, &play.notes, &play.world, &verdict)?;
     if text.len() >= MAX_SCRIPT {
         return Err(PlanError::TooLarge);

@@ -1,0 +1,6 @@
+use Rattle.std.proofs.Common.{◌≡◌, ◌-◌, take}
+use Rattle.mr_transcripts.specs.Least.{least_length}
+use Rattle.mr_transcripts.proofs.least.room_beside_history.Given as goal
+
+abbrev pub invariant-loop-entry : goal.invariant-loop-entry
+invariant-loop-entry l = l.left ≡ l.fn.room - least_length (take l.entry-index l.entries)
