@@ -1,5 +1,5 @@
 -- The text of a transcript is no shorter than the blocks in its history.
-use Rattle.std.proofs.Common.{rules, ◌≡◌, ℕ, ◌+◌, ◌<◌, ◌≤◌, Bool, true, false, cond, List, [], ◌∷◌, ◌++◌, length, map, codes, sum_by, Option, Some, None, bytes_eq, refl, sym, ap, ◌∙◌, arith, length-append, true≢false}
+use Rattle.std.proofs.Common.{rules, ◌≡◌, ℕ, ◌+◌, ◌<◌, ◌≤◌, Bool, true, false, cond, List, [], ◌∷◌, ◌++◌, length, map, codes, sum_by, Option, Some, bytes_eq, refl, sym, ap, ◌∙◌, arith, length-append, true≢false}
 use Rattle.std.specs.Prelude.{unwrap_or}
 use Rattle.std.specs.Str.{encode_utf8_all}
 use Rattle.std.specs.Ordering.{nat_cmp, match_ordering}
@@ -9,7 +9,7 @@ use Rattle.std.specs.declared.cmp.Ordering.TheVariants.{Less, Equal, Greater}
 use Rattle.std.proofs.lemmas.Str.{length-le-encodes}
 use Rattle.std.proofs.lemmas.List.Sums.{sum_by-cons}
 use Rattle.json.specs.Print.{escape_byte, escape, quoted}
-use Rattle.serde_json.specs.Data.{Data, null, boolean, number, string, array, object, Items, no_items, item, Members, no_members, member, put}
+use Rattle.serde_json.specs.Data.{Data, null, boolean, number, string, array, object, Members, no_members, member, put}
 use Rattle.serde_json.specs.Find.{get, get_member}
 use Rattle.serde_json.specs.View.{items_of}
 use Rattle.serde_json.specs.Written.{compact_text, items_text, members_text, comma_if}
