@@ -1,92 +1,194 @@
-// Loads a memcached server for bench/compare: some connections, each in a thread, each sending one request after the reply
-// to the last. Every key belongs to one connection, so that connection knows what each reply has to be, byte by byte.
-// Usage: load <host:port> <get|set> <connections> <keys> <bytes> <milliseconds>
-// Prints the requests answered per second. The status is 1 where a reply is wrong or a connection fails.
+// Loads a memcached server for bench/compare, and checks every reply byte by byte.
+// Usage: load <host:port> <keys> <bytes>
+//
+// It sets every key, prints `filled`, and then does what the lines of its input say, each `<work> <connections>
+// <milliseconds>`, of which it prints the requests per second. At the end of the input it asks for every key. The status is
+// 1 where a reply is wrong or a connection fails, and 2 where its words or a line can't be followed.
+//
+// Each connection has a thread, which sends one request after the reply to the last. What counts, by the work:
+//   get     one key, which is there
+//   get10   ten keys in one request, which are all there; that counts as one request
+//   set     one key, which is there: the value is replaced
+//   delete  one key, which is there (DELETED). When a connection has deleted all its keys it asks for each, which has to
+//           be gone, and sets it again, many in one write. Neither the requests nor the time of that count; but what other
+//           connections delete meanwhile has it beside it. With `n` keys for a connection it comes once in `n` deletes, and
+//           for the last time after the end
+// The rate is the sum of the connections' rates, each of which is what it had answered by the seconds that this took.
+//
+// How it is known what a reply has to be: in set and delete each key belongs to one connection (at least as many keys as
+// connections, therefore). In get and get10 nobody writes, so all connections share all keys, each beginning at another
+// one. Fewer than ten keys are asked for again within one get10. Keys are used in an order that jumps about among them and
+// comes to each before it comes to any again; a later work goes on where an earlier one ended.
 use std::env;
 use std::error::Error;
-use std::io::{Read, Write};
+use std::io::{self, Read, Write};
 use std::net::TcpStream;
+use std::ops::Range;
 use std::process::ExitCode;
-use std::sync::atomic::{AtomicBool, Ordering};
-use std::sync::{Arc, Barrier};
+use std::sync::atomic::{AtomicBool, AtomicU64, Ordering};
+use std::sync::Barrier;
 use std::thread;
 use std::time::{Duration, Instant};
 
-// How many requests are sent at once before and after the time that counts.
+// How many requests are sent at once where nothing is counted, and by how many connections.
 const TOGETHER: usize = 64;
+const FILLERS: usize = 4;
+// How many bytes of a text a fault shows.
+const SHOWN: usize = 300;
+// A prime above every number of keys, so that its multiples come to each place once.
+const JUMP: usize = 2_654_435_761;
 
 type Outcome<T> = Result<T, Box<dyn Error + Send + Sync>>;
 
-#[derive(Clone)]
-struct Work {
-    address: String,
-    gets: bool,
+#[derive(Clone, Copy, PartialEq)]
+enum Work {
+    Get,
+    Get10,
+    Set,
+    Delete,
+}
+
+impl Work {
+    fn named(name: &str) -> Option<Work> {
+        match name {
+            "get" => Some(Work::Get),
+            "get10" => Some(Work::Get10),
+            "set" => Some(Work::Set),
+            "delete" => Some(Work::Delete),
+            _ => None,
+        }
+    }
+
+    // How many keys a request has.
+    fn keys(self) -> usize {
+        if self == Work::Get10 { 10 } else { 1 }
+    }
+
+    fn reads(self) -> bool {
+        self == Work::Get || self == Work::Get10
+    }
+}
+
+// What a line of the input wants.
+struct Order {
+    work: Work,
     connections: usize,
-    keys: usize,
-    bytes: usize,
     time: Duration,
 }
 
-struct Client {
+impl Order {
+    fn of(line: &str, keys: usize) -> Option<Order> {
+        let words: Vec<&str> = line.split(' ').collect();
+        let [work, connections, time] = words.as_slice() else { return None };
+        let work = Work::named(work)?;
+        let connections = connections.parse().ok()?;
+        let time = Duration::from_millis(time.parse().ok()?);
+        let sound = connections > 0 && (work.reads() || connections <= keys);
+        sound.then_some(Order { work, connections, time })
+    }
+}
+
+struct Client<'a> {
     stream: TcpStream,
     bytes: usize,
-    // The keys of this connection, and how often each was set.
-    held: Vec<(String, u64)>,
+    // The keys that this connection uses: the number of the first, and of each the turn at which it was set, or 0 where it
+    // is gone. Values differ by that.
+    first: usize,
+    stamps: &'a [AtomicU64],
+    // The keys asked for so far: which comes next.
+    turn: u64,
+    // What counts: the requests answered, and the time that they took.
+    answered: u64,
+    busy: Duration,
     sent: Vec<u8>,
     wanted: Vec<u8>,
     read: Vec<u8>,
 }
 
-impl Client {
-    fn connect(work: &Work, number: usize) -> Outcome<Client> {
-        let stream = TcpStream::connect(&work.address)?;
-        stream.set_nodelay(true)?;
-        stream.set_read_timeout(Some(Duration::from_secs(10)))?;
-        let own = (number..work.keys).step_by(work.connections);
-        let held = own.map(|key| (format!("key-{key:012}"), 0)).collect();
-        Ok(Client { stream, bytes: work.bytes, held, sent: vec![], wanted: vec![], read: vec![0; 65536] })
+impl Client<'_> {
+    fn place(&self, turn: u64) -> usize {
+        let count = self.stamps.len();
+        (turn as usize % count) * JUMP % count
     }
 
-    // A place that jumps about among the keys, so that none is used soon after the one that was set before it.
-    fn place(&self, count: u64) -> usize {
-        (count.wrapping_mul(0x9e37_79b9_7f4a_7c15) >> 11) as usize % self.held.len()
+    fn name(&self, place: usize) -> String {
+        format!("key-{:012}", self.first + place)
     }
 
     // A block that differs from key to key and from set to set.
-    fn push_block(text: &mut Vec<u8>, key: &str, times: u64, bytes: usize) {
+    fn push_block(text: &mut Vec<u8>, key: &str, stamp: u64, bytes: usize) {
         let begin = text.len();
-        let _ = write!(text, "{times:010}{key}");
+        let _ = write!(text, "{stamp:010}{key}");
         text.truncate(begin + bytes);
-        text.resize(begin + bytes, b'a' + (times % 26) as u8);
+        text.resize(begin + bytes, b'a' + (stamp % 26) as u8);
         text.extend_from_slice(b"\r\n");
     }
 
-    fn add_set(&mut self, place: usize) {
-        let (key, times) = &mut self.held[place];
-        *times += 1;
+    fn add_set(&mut self, place: usize, stamp: u64) {
+        let key = self.name(place);
+        self.stamps[place].store(stamp, Ordering::Relaxed);
         let _ = write!(self.sent, "set {key} 0 0 {}\r\n", self.bytes);
-        Self::push_block(&mut self.sent, key, *times, self.bytes);
+        Self::push_block(&mut self.sent, &key, stamp, self.bytes);
         self.wanted.extend_from_slice(b"STORED\r\n");
     }
 
-    fn add_get(&mut self, place: usize) {
-        let (key, times) = &self.held[place];
-        let _ = write!(self.sent, "get {key}\r\n");
-        let _ = write!(self.wanted, "VALUE {key} 0 {}\r\n", self.bytes);
-        Self::push_block(&mut self.wanted, key, *times, self.bytes);
+    fn add_delete(&mut self, place: usize) {
+        let _ = write!(self.sent, "delete {}\r\n", self.name(place));
+        let there = self.stamps[place].swap(0, Ordering::Relaxed) > 0;
+        self.wanted.extend_from_slice(if there { b"DELETED\r\n" } else { b"NOT_FOUND\r\n" });
+    }
+
+    fn add_get(&mut self, places: impl Iterator<Item = usize>) {
+        self.sent.extend_from_slice(b"get");
+        for place in places {
+            let key = self.name(place);
+            let stamp = self.stamps[place].load(Ordering::Relaxed);
+            let _ = write!(self.sent, " {key}");
+            if stamp > 0 {
+                let _ = write!(self.wanted, "VALUE {key} 0 {}\r\n", self.bytes);
+                Self::push_block(&mut self.wanted, &key, stamp, self.bytes);
+            }
+        }
+        self.sent.extend_from_slice(b"\r\n");
         self.wanted.extend_from_slice(b"END\r\n");
+    }
+
+    // Adds the request that is next. Its stamp is later than any before, and never 0.
+    fn add_next(&mut self, work: Work) {
+        let place = self.place(self.turn);
+        match work {
+            Work::Get => self.add_get([place].into_iter()),
+            Work::Get10 => {
+                let places: [usize; 10] = std::array::from_fn(|count| self.place(self.turn + count as u64));
+                self.add_get(places.into_iter());
+            }
+            Work::Set => self.add_set(place, self.turn + 1),
+            Work::Delete => self.add_delete(place),
+        }
+        self.turn += work.keys() as u64;
+    }
+
+    // Tells what was sent, and what came and was wanted from where they differ.
+    fn fault<T>(&self, count: usize) -> Outcome<T> {
+        let got = &self.read[..count];
+        let same = got.iter().zip(&self.wanted).take_while(|(one, other)| one == other).count();
+        let text = |bytes: &[u8]| String::from_utf8_lossy(&bytes[..bytes.len().min(SHOWN)]).escape_debug().to_string();
+        let (sent, got, wanted) = (text(&self.sent), text(&got[same..]), text(&self.wanted[same..]));
+        Err(format!("{sent} got {got} and not {wanted}, behind {same} bytes that are right").into())
     }
 
     // Sends what was added and reads until as much is there as is wanted, or something else.
     fn exchange(&mut self) -> Outcome<()> {
         self.stream.write_all(&self.sent)?;
+        // Room for more than is wanted, so that it is seen.
+        let room = self.read.len().max(self.wanted.len() + 1);
+        self.read.resize(room, 0);
         let mut count = 0;
         while count < self.wanted.len() {
             let more = self.stream.read(&mut self.read[count..])?;
             count += more;
             if more == 0 || !self.wanted.starts_with(&self.read[..count]) {
-                let text = |bytes| String::from_utf8_lossy(bytes).escape_debug().to_string();
-                return Err(format!("{} got {}", text(&self.sent), text(&self.read[..count])).into());
+                return self.fault(count);
             }
         }
         self.sent.clear();
@@ -94,92 +196,177 @@ impl Client {
         Ok(())
     }
 
-    // Sets every key, or asks for every key, some requests at a time.
-    fn all(&mut self, gets: bool) -> Outcome<()> {
-        for place in 0..self.held.len() {
-            if gets { self.add_get(place) } else { self.add_set(place) }
-            if place % TOGETHER == TOGETHER - 1 {
+    // Makes requests for places, many at once.
+    fn together(&mut self, places: impl Iterator<Item = usize>, add: impl Fn(&mut Self, usize)) -> Outcome<()> {
+        for (count, place) in places.enumerate() {
+            add(self, place);
+            if count % TOGETHER == TOGETHER - 1 {
                 self.exchange()?;
             }
         }
         self.exchange()
     }
 
-    fn run(&mut self, gets: bool, stop: &AtomicBool) -> Outcome<u64> {
-        let mut count = 0;
-        while !stop.load(Ordering::Relaxed) {
-            let place = self.place(count);
-            if gets { self.add_get(place) } else { self.add_set(place) }
+    fn fill(&mut self) -> Outcome<()> {
+        self.together(0..self.stamps.len(), |client, place| client.add_set(place, 1))
+    }
+
+    fn ask_all(&mut self) -> Outcome<()> {
+        self.together(0..self.stamps.len(), |client, place| client.add_get([place].into_iter()))
+    }
+
+    // Asks for the keys that were deleted since a turn, and sets them again.
+    fn put_back(&mut self, since: u64) -> Outcome<()> {
+        let places: Vec<usize> = (since..self.turn).map(|turn| self.place(turn)).collect();
+        let stamp = self.turn;
+        self.together(places.into_iter(), |client, place| {
+            client.add_get([place].into_iter());
+            client.add_set(place, stamp);
+        })
+    }
+
+    // Uses each key once, one request after the reply to the last; fewer, but at least one, where it is told to stop.
+    fn pass(&mut self, work: Work, stop: &AtomicBool) -> Outcome<()> {
+        let end = self.turn + self.stamps.len() as u64;
+        let begin = Instant::now();
+        loop {
+            self.add_next(work);
             self.exchange()?;
-            count += 1;
+            self.answered += 1;
+            if self.turn >= end || stop.load(Ordering::Relaxed) {
+                break;
+            }
         }
-        Ok(count)
+        self.busy += begin.elapsed();
+        Ok(())
+    }
+
+    fn run(&mut self, work: Work, stop: &AtomicBool) -> Outcome<()> {
+        loop {
+            let since = self.turn;
+            self.pass(work, stop)?;
+            if work == Work::Delete {
+                self.put_back(since)?;
+            }
+            if stop.load(Ordering::Relaxed) {
+                return Ok(());
+            }
+        }
+    }
+
+    fn rate(&self) -> f64 {
+        self.answered as f64 / self.busy.as_secs_f64()
+    }
+
+    // Ends the connection, on which nothing more may come.
+    fn quit(mut self) -> Outcome<()> {
+        self.sent.extend_from_slice(b"quit\r\n");
+        self.stream.write_all(&self.sent)?;
+        let count = self.stream.read(&mut self.read)?;
+        if count > 0 { self.fault(count) } else { Ok(()) }
     }
 }
 
-// Sets every key, waits for the others, does the work, and asks for every key at the end.
-fn serve_thread(work: &Work, number: usize, ready: &Barrier, stop: &AtomicBool) -> Outcome<u64> {
-    let prepared = Client::connect(work, number).and_then(|mut client| {
-        client.all(false)?;
-        Ok(client)
-    });
-    // Nobody may wait in vain for one that failed.
-    ready.wait();
-    let mut client = prepared?;
-    let count = client.run(work.gets, stop)?;
-    client.all(true)?;
-    client.stream.write_all(b"quit\r\n")?;
-    Ok(count)
+struct Load {
+    address: String,
+    bytes: usize,
+    // Of each key, as a client has it.
+    stamps: Vec<AtomicU64>,
+    turn: u64,
 }
 
-fn measure(work: &Work) -> Outcome<f64> {
-    let ready = Arc::new(Barrier::new(work.connections + 1));
-    let stop = Arc::new(AtomicBool::new(false));
-    let mut threads = vec![];
-    for number in 0..work.connections {
-        let (work, ready, stop) = (work.clone(), ready.clone(), stop.clone());
-        threads.push(thread::spawn(move || serve_thread(&work, number, &ready, &stop)));
+impl Load {
+    fn connect(&self, own: Range<usize>, turn: u64) -> Outcome<Client<'_>> {
+        let stream = TcpStream::connect(&self.address)?;
+        stream.set_nodelay(true)?;
+        stream.set_read_timeout(Some(Duration::from_secs(10)))?;
+        let (first, stamps) = (own.start, &self.stamps[own]);
+        let (sent, wanted, read) = (vec![], vec![], vec![0; 65536]);
+        let (answered, busy) = (0, Duration::ZERO);
+        Ok(Client { stream, bytes: self.bytes, first, stamps, turn, answered, busy, sent, wanted, read })
     }
-    ready.wait();
-    let begin = Instant::now();
-    thread::sleep(work.time);
-    stop.store(true, Ordering::Relaxed);
-    let seconds = begin.elapsed().as_secs_f64();
-    let mut count = 0;
-    for thread in threads {
-        count += thread.join().map_err(|_| "a thread broke off")??;
+
+    // Connections that have each the keys of its own.
+    fn writers(&self, connections: usize) -> Outcome<Vec<Client<'_>>> {
+        let bound = |number| self.stamps.len() * number / connections;
+        (0..connections).map(|number| self.connect(bound(number)..bound(number + 1), self.turn)).collect()
     }
-    Ok(count as f64 / seconds)
+
+    // Connections that have all keys, and begin as far from each other as may be.
+    fn readers(&self, connections: usize) -> Outcome<Vec<Client<'_>>> {
+        let begin = |number| self.turn + (self.stamps.len() * number / connections) as u64;
+        (0..connections).map(|number| self.connect(0..self.stamps.len(), begin(number))).collect()
+    }
+
+    // Lets a few connections do what isn't counted.
+    fn prepare(&self, task: fn(&mut Client) -> Outcome<()>) -> Outcome<()> {
+        let mut clients = self.writers(FILLERS.min(self.stamps.len()))?;
+        thread::scope(|scope| {
+            let threads: Vec<_> = clients.iter_mut().map(|client| scope.spawn(|| task(client))).collect();
+            join(threads)
+        })?;
+        clients.into_iter().try_for_each(Client::quit)
+    }
+
+    fn measure(&mut self, order: &Order) -> Outcome<f64> {
+        let connections = order.connections;
+        let mut clients = if order.work.reads() { self.readers(connections)? } else { self.writers(connections)? };
+        let (ready, stop) = (Barrier::new(connections + 1), AtomicBool::new(false));
+        let run = |client: &mut Client| {
+            ready.wait();
+            client.run(order.work, &stop)
+        };
+        thread::scope(|scope| {
+            let threads: Vec<_> = clients.iter_mut().map(|client| scope.spawn(|| run(client))).collect();
+            ready.wait();
+            thread::sleep(order.time);
+            stop.store(true, Ordering::Relaxed);
+            join(threads)
+        })?;
+        let rate = clients.iter().map(Client::rate).sum();
+        let used: u64 = clients.iter().map(|client| client.answered).sum::<u64>() * order.work.keys() as u64;
+        clients.into_iter().try_for_each(Client::quit)?;
+        self.turn += used;
+        Ok(rate)
+    }
+
+    fn serve(&mut self) -> Outcome<ExitCode> {
+        self.prepare(|client| client.fill())?;
+        println!("filled");
+        for line in io::stdin().lines() {
+            let line = line?;
+            let Some(order) = Order::of(&line, self.stamps.len()) else {
+                eprintln!("load: not followed: {line}");
+                return Ok(ExitCode::from(2));
+            };
+            println!("{:.0}", self.measure(&order)?);
+        }
+        self.prepare(|client| client.ask_all())?;
+        Ok(ExitCode::SUCCESS)
+    }
 }
 
-fn read_words() -> Option<Work> {
+fn join(threads: Vec<thread::ScopedJoinHandle<'_, Outcome<()>>>) -> Outcome<()> {
+    let joined = |thread: thread::ScopedJoinHandle<'_, Outcome<()>>| thread.join().map_err(|_| "a thread broke off")?;
+    threads.into_iter().try_for_each(joined)
+}
+
+fn read_words() -> Option<Load> {
     let words: Vec<String> = env::args().skip(1).collect();
-    let [address, command, connections, keys, bytes, time] = words.as_slice() else { return None };
-    let work = Work {
-        address: address.clone(),
-        gets: command == "get",
-        connections: connections.parse().ok()?,
-        keys: keys.parse().ok()?,
-        bytes: bytes.parse().ok()?,
-        time: Duration::from_millis(time.parse().ok()?),
-    };
-    let sound = (work.gets || command == "set") && work.connections > 0 && work.keys >= work.connections;
-    sound.then_some(work)
+    let [address, keys, bytes] = words.as_slice() else { return None };
+    let keys: usize = keys.parse().ok()?;
+    let stamps: Vec<AtomicU64> = (0..keys).map(|_| AtomicU64::new(0)).collect();
+    let load = Load { address: address.clone(), bytes: bytes.parse().ok()?, stamps, turn: 1 };
+    (0 < keys && keys < JUMP).then_some(load)
 }
 
 fn main() -> ExitCode {
-    let Some(work) = read_words() else {
-        eprintln!("usage: load <host:port> <get|set> <connections> <keys> <bytes> <milliseconds>");
+    let Some(mut load) = read_words() else {
+        eprintln!("usage: load <host:port> <keys> <bytes>");
         return ExitCode::from(2);
     };
-    match measure(&work) {
-        Ok(rate) => {
-            println!("{rate:.0}");
-            ExitCode::SUCCESS
-        }
-        Err(fault) => {
-            eprintln!("load: {fault}");
-            ExitCode::FAILURE
-        }
-    }
+    load.serve().unwrap_or_else(|fault| {
+        eprintln!("load: {fault}");
+        ExitCode::FAILURE
+    })
 }
