@@ -13,7 +13,8 @@
 //           be gone, and sets it again, many in one write. Neither the requests nor the time of that count; but what other
 //           connections delete meanwhile has it beside it. With `n` keys for a connection it comes once in `n` deletes, and
 //           for the last time after the end
-// The rate is the sum of the connections' rates, each of which is what it had answered by the seconds that this took.
+// The rate is what all connections had answered, by the mean of their seconds: from the moment when the first began to the
+// last reply of each, less what putting back took before that.
 //
 // How it is known what a reply has to be: in set and delete each key belongs to one connection (at least as many keys as
 // connections, therefore). In get and get10 nobody writes, so all connections share all keys, each beginning at another
@@ -97,9 +98,11 @@ struct Client<'a> {
     stamps: &'a [AtomicU64],
     // The keys asked for so far: which comes next.
     turn: u64,
-    // What counts: the requests answered, and the time that they took.
+    // What counts: the requests answered, when the first began and the last ended, and what does not count between.
     answered: u64,
-    busy: Duration,
+    began: Instant,
+    ended: Instant,
+    paused: Duration,
     sent: Vec<u8>,
     wanted: Vec<u8>,
     read: Vec<u8>,
@@ -228,34 +231,30 @@ impl Client<'_> {
     // Uses each key once, one request after the reply to the last; fewer, but at least one, where it is told to stop.
     fn pass(&mut self, work: Work, stop: &AtomicBool) -> Outcome<()> {
         let end = self.turn + self.stamps.len() as u64;
-        let begin = Instant::now();
         loop {
             self.add_next(work);
             self.exchange()?;
             self.answered += 1;
             if self.turn >= end || stop.load(Ordering::Relaxed) {
-                break;
+                return Ok(());
             }
         }
-        self.busy += begin.elapsed();
-        Ok(())
     }
 
     fn run(&mut self, work: Work, stop: &AtomicBool) -> Outcome<()> {
+        self.began = Instant::now();
         loop {
             let since = self.turn;
             self.pass(work, stop)?;
+            self.ended = Instant::now();
             if work == Work::Delete {
                 self.put_back(since)?;
             }
             if stop.load(Ordering::Relaxed) {
                 return Ok(());
             }
+            self.paused += self.ended.elapsed();
         }
-    }
-
-    fn rate(&self) -> f64 {
-        self.answered as f64 / self.busy.as_secs_f64()
     }
 
     // Ends the connection, on which nothing more may come.
@@ -282,8 +281,9 @@ impl Load {
         stream.set_read_timeout(Some(Duration::from_secs(10)))?;
         let (first, stamps) = (own.start, &self.stamps[own]);
         let (sent, wanted, read) = (vec![], vec![], vec![0; 65536]);
-        let (answered, busy) = (0, Duration::ZERO);
-        Ok(Client { stream, bytes: self.bytes, first, stamps, turn, answered, busy, sent, wanted, read })
+        let (answered, began, ended, paused) = (0, Instant::now(), Instant::now(), Duration::ZERO);
+        let bytes = self.bytes;
+        Ok(Client { stream, bytes, first, stamps, turn, answered, began, ended, paused, sent, wanted, read })
     }
 
     // Connections that have each the keys of its own.
@@ -323,10 +323,10 @@ impl Load {
             stop.store(true, Ordering::Relaxed);
             join(threads)
         })?;
-        let rate = clients.iter().map(Client::rate).sum();
-        let used: u64 = clients.iter().map(|client| client.answered).sum::<u64>() * order.work.keys() as u64;
+        let answered: u64 = clients.iter().map(|client| client.answered).sum();
+        let rate = answered as f64 / mean_seconds(&clients);
         clients.into_iter().try_for_each(Client::quit)?;
-        self.turn += used;
+        self.turn += answered * order.work.keys() as u64;
         Ok(rate)
     }
 
@@ -344,6 +344,13 @@ impl Load {
         self.prepare(|client| client.ask_all())?;
         Ok(ExitCode::SUCCESS)
     }
+}
+
+// How long a connection worked. One that began later than the first had to wait for its turn, which counts.
+fn mean_seconds(clients: &[Client]) -> f64 {
+    let begin = clients.iter().map(|client| client.began).min();
+    let seconds = |client: &Client| (client.ended - begin.unwrap_or(client.began) - client.paused).as_secs_f64();
+    clients.iter().map(seconds).sum::<f64>() / clients.len() as f64
 }
 
 fn join(threads: Vec<thread::ScopedJoinHandle<'_, Outcome<()>>>) -> Outcome<()> {
