@@ -87,30 +87,48 @@ fn were_dialled<R: Wait + Abort>(rt: &R, net: &Silent<R>, wanted: &[Dial]) {
     is(rt, "dialled", &net.dialled.lock(rt).as_slice(), &wanted);
 }
 
-#[test]
-fn refused_memory_makes_a_carrier_later(rt: HostRuntime) {
-    let net = Silent::new(&rt, rt.alloc());
-    let name = name(&rt, rt.alloc());
+/// Makes a carrier to the node of a name, which loses a leg.
+fn make_one<N: Net + Copy>(rt: &(impl Abort + Env), alloc: Global, net: N, name: &NodeName) {
     let made = at_last!(
-        &rt,
-        SocketCarrier::new(&net, rt.alloc(), &name, TURNS),
+        rt,
+        SocketCarrier::new(net, alloc, name, TURNS),
         Err(AllocError)
     );
-    loses(&rt, rt.alloc(), &mut must(&rt, made));
-    were_dialled(&rt, &net, &[(7001, None)]);
+    loses(rt, alloc, &mut must(rt, made));
+}
+
+/// What a carrier that waits as long as it takes dials.
+fn one_dials<R: Wait + Abort + Env>(rt: &R, alloc: Global) {
+    let net = Silent::new(rt, alloc);
+    make_one(rt, alloc, &net, &name(rt, alloc));
+    were_dialled(rt, &net, &[(7001, None)]);
+}
+
+#[test]
+fn refused_memory_makes_a_carrier_later(rt: HostRuntime) {
+    one_dials(&rt, rt.alloc());
+}
+
+/// Makes a carrier to the node of a name that waits so long at most, which loses a leg.
+fn make_one_within<N: Net + Copy>(rt: &(impl Abort + Env), alloc: Global, net: N, name: &NodeName) {
+    let made = at_last!(
+        rt,
+        SocketCarrier::within(net, alloc, name, TURNS, wait()),
+        Err(AllocError)
+    );
+    loses(rt, alloc, &mut must(rt, made));
+}
+
+/// What a carrier that waits so long at most dials.
+fn one_dials_within<R: Wait + Abort + Env>(rt: &R, alloc: Global) {
+    let net = Silent::new(rt, alloc);
+    make_one_within(rt, alloc, &net, &name(rt, alloc));
+    were_dialled(rt, &net, &[(7001, Some(SECONDS))]);
 }
 
 #[test]
 fn refused_memory_makes_a_carrier_that_waits_so_long_later(rt: HostRuntime) {
-    let net = Silent::new(&rt, rt.alloc());
-    let name = name(&rt, rt.alloc());
-    let made = at_last!(
-        &rt,
-        SocketCarrier::within(&net, rt.alloc(), &name, TURNS, wait()),
-        Err(AllocError)
-    );
-    loses(&rt, rt.alloc(), &mut must(&rt, made));
-    were_dialled(&rt, &net, &[(7001, Some(SECONDS))]);
+    one_dials_within(&rt, rt.alloc());
 }
 
 /// A routing from two nodes to three.
@@ -144,19 +162,28 @@ static DIALLED: [Dial; 5] = [
     (7103, Some(SECONDS)),
 ];
 
-#[test]
-fn refused_memory_makes_the_carriers_of_a_routing_later(rt: HostRuntime) {
-    let net = Silent::new(&rt, rt.alloc());
-    let routing = routing(&rt, rt.alloc());
+/// Makes the carriers to both pools of a routing, each of which loses a leg.
+fn make_all<N: Net + Copy>(rt: &(impl Abort + Env), alloc: Global, net: N, routing: &Routing) {
     let made = at_last!(
-        &rt,
-        node_carriers(&net, rt.alloc(), &routing, TURNS, wait()),
+        rt,
+        node_carriers(net, alloc, routing, TURNS, wait()),
         Err(AllocError)
     );
-    let pools = must(&rt, made);
-    is(&rt, "pools", &pools.len(), &2);
+    let pools = must(rt, made);
+    is(rt, "pools", &pools.len(), &2);
     for (number, (carriers, count)) in pools.into_iter().zip([2, 3]).enumerate() {
-        lose(&rt, rt.alloc(), number, carriers, count);
+        lose(rt, alloc, number, carriers, count);
     }
-    were_dialled(&rt, &net, &DIALLED);
+}
+
+/// What the carriers of a routing dial.
+fn all_dial<R: Wait + Abort + Env>(rt: &R, alloc: Global) {
+    let net = Silent::new(rt, alloc);
+    make_all(rt, alloc, &net, &routing(rt, alloc));
+    were_dialled(rt, &net, &DIALLED);
+}
+
+#[test]
+fn refused_memory_makes_the_carriers_of_a_routing_later(rt: HostRuntime) {
+    all_dial(&rt, rt.alloc());
 }
