@@ -10,7 +10,7 @@ use denote.Ref.{Bor}
 use Rattle.serde_json.specs.Data.{Data}
 use Rattle.mr_configs.specs.Fields.{Text, is_one_of}
 use Rattle.mr_scripts.specs.Homes.{values_name, node_at, are_housed}
-use Rattle.mr_scripts.specs.HomeIndex.{has_name, IsIndexOf}
+use Rattle.mr_scripts.specs.steps.HomeIndex.{has_name, IsIndexOf}
 
 -- what an index has after a name was added
 pub name_added : (first : Text) (old new : BTreeSet (Bor Text)) →

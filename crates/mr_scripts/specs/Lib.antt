@@ -1,6 +1,5 @@
 pub mod EventDraft
 pub mod Events
-pub mod HomeIndex
 pub mod Homes
 pub mod Limits
 pub mod Lists
@@ -13,3 +12,4 @@ pub mod SetupDraft
 pub mod Setups
 pub mod Texts
 pub mod Values
+pub mod steps

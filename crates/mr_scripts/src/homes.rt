@@ -5,7 +5,7 @@ ghost use Rattle.serde_json.specs.View.{view, items_view};
 ghost use Rattle.mr_scripts.specs.Homes.{pool_name_at, servers_at, names_at, pools_at, config_at, values_name, node_at, are_housed, values_have_room};
 ghost use Rattle.mr_configs.specs.Fields.{Text, is_one_of};
 ghost use Rattle.mr_configs.specs.Pools.{names_in};
-ghost use Rattle.mr_scripts.specs.HomeIndex.{has_name, IsIndexOf};
+ghost use Rattle.mr_scripts.specs.steps.HomeIndex.{has_name, IsIndexOf};
 ghost use Rattle.mr_scripts.specs.Setups.{pools_name};
 
 use mr_configs::{is_among, name_pointed_to};

@@ -26,7 +26,7 @@ use Rattle.mr_world.specs.declared.premises.Premises.{Premises}
 use Rattle.mr_shown.specs.Shown.{bytes_json, items_json, item_json, reply_json, entry_json, entries_json, notes_json, premises_json, verdict_json}
 use Rattle.mr_shown.specs.declared.verdict.KeptVerdict.{KeptVerdict}
 use Rattle.mr_scripts.specs.Limits.{most_bytes}
-use Rattle.mr_transcripts.specs.Least.{blocks_of_reply, blocks_of_entry, least_length, HasLongHistory}
+use Rattle.mr_transcripts.specs.steps.Least.{blocks_of_reply, blocks_of_entry, least_length, HasLongHistory}
 use Rattle.mr_transcripts.specs.Transcript.{with_outcome, transcript_text}
 
 either_long : (b : Bool) (xs ys : List ℕ) → 1 ≤ length xs → 1 ≤ length ys → 1 ≤ length (cond b xs ys)

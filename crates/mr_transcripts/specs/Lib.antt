@@ -1,5 +1,5 @@
 pub mod Check
-pub mod Least
 pub mod Play
 pub mod Transcript
 pub mod Transcripts
+pub mod steps

@@ -1,7 +1,7 @@
 //! How long the text of a transcript is at least, as its history tells before any of the text is made.
 ghost use Rattle.std.specs.Prelude.{◌≡◌, ◌-◌, ◌↔◌, IsTrue};
 ghost use Rattle.serde_json.specs.View.{view};
-ghost use Rattle.mr_transcripts.specs.Least.{blocks_length, blocks_of_entry, least_length, HasLongHistory};
+ghost use Rattle.mr_transcripts.specs.steps.Least.{blocks_length, blocks_of_entry, least_length, HasLongHistory};
 
 use mr_history::Entry;
 use mr_scripts::MAX_SCRIPT;

@@ -5,8 +5,6 @@ pub mod WorldView
 pub mod Steps
 pub mod Refusals
 pub mod Setup
-pub mod Nodes
-pub mod Terms
 pub mod Premises
 pub mod Tracked
 pub mod Facts
@@ -15,3 +13,4 @@ pub mod Headline
 pub mod Grounded
 pub mod Network
 pub mod Example
+pub mod steps

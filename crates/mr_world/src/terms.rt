@@ -1,11 +1,11 @@
 //! What a setup says of the premises of its runs.
 ghost use Rattle.std.specs.Prelude.{◌≡◌, ◌↔◌, ◌||◌, ℕ, List, IsTrue, IfOk, OnOk};
 ghost use Rattle.std.specs.List.{list_any};
-ghost use Rattle.mr_world.specs.Setup.{AllAlike, IsNewPoolEmpty, HasNamedNode, least_interval_of};
-ghost use Rattle.mr_world.specs.Terms.{is_in, is_moved_to, is_among};
+ghost use Rattle.mr_world.specs.Setup.{AllAlike, IsNewPoolEmpty, least_interval_of};
+ghost use Rattle.mr_world.specs.steps.Terms.{is_in, is_moved_to, is_among};
 
 use crate::setup::{ProxySetup, Setup};
-use mr_pools::{NodeName, Pool, Routing};
+use mr_pools::{Pool, Routing};
 use std::alloc::{AllocError, Global};
 use std::collections::BTreeSet;
 
@@ -18,13 +18,6 @@ pub(crate) struct Terms {
     pub(crate) new_empty: bool,
     /// The least interval of all proxies in seconds, 0 without proxies.
     pub(crate) least: u64,
-}
-
-/// Whether the pool of that number has a node of this name.
-pub(crate) fn has_node(routing: &Routing, pool: usize, name: &NodeName) -> bool
-    ensures { IsTrue result ↔ HasNamedNode routing.now pool name.now }
-{
-    pool < routing.pools().len() && routing.pool(pool).names().contains(name)
 }
 
 /// A set of names of nodes, in order: whoever writes a script chooses the names.

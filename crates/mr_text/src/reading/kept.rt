@@ -95,11 +95,11 @@ impl KeptBytes {
     fn forget_read(&mut self)
         ensures { self.new ≡ self.old }
     {
-        if self.read == self.bytes.len() {
-            self.bytes.clear();
-        } else if self.read > 0 {
-            drop(self.bytes.drain(..self.read));
+        if self.read > 0 {
+            let left = self.len();
+            self.bytes.as_mut_slice().copy_within(self.read.., 0);
+            self.bytes.truncate(left);
+            self.read = 0;
         }
-        self.read = 0;
     }
 }

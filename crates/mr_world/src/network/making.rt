@@ -5,7 +5,7 @@ ghost use Rattle.mr_proxy.specs.ProxyView.{fresh_proxy};
 ghost use Rattle.mr_proxy.specs.Sound.{IsSound};
 ghost use Rattle.mr_world.specs.declared.error.WorldError.TheVariants.{NoSuchNode, OutOfMemory};
 ghost use Rattle.mr_world.specs.Headline.{IsPlan};
-ghost use Rattle.mr_world.specs.Setup.{CanBeMade, Begins, NamesNode, IsNamed, with_pool, with_routing, nodes_of, hold, held_entry, proxies_from};
+ghost use Rattle.mr_world.specs.Setup.{CanBeMade, Begins, HasNamedNode, NamesNode, IsNamed, with_pool, with_routing, nodes_of, hold, held_entry, proxies_from};
 ghost use Rattle.mr_world.specs.Positions.{node_number};
 ghost use Rattle.mr_clock.specs.Readings.{readings_at_first};
 ghost use Rattle.mr_world.specs.Tracked.{numbers_of};
@@ -15,7 +15,7 @@ use crate::network::Network;
 use crate::nodes::Nodes;
 use crate::numbers::NodeNumbers;
 use crate::setup::{HeldItem, ProxySetup, Setup};
-use crate::terms::{Terms, has_node};
+use crate::terms::Terms;
 use mr_clock::Readings;
 use mr_history::{Author, Entry, History};
 use mr_node::NodeCommand;
@@ -23,6 +23,13 @@ use mr_phases::Schedule;
 use mr_pools::{NodeName, Pool, Routing};
 use mr_proxy::ProxyCore;
 use std::alloc::{AllocError, Global};
+
+/// Whether the pool of that number has a node of this name.
+fn has_node(routing: &Routing, pool: usize, name: &NodeName) -> bool
+    ensures { IsTrue result ↔ HasNamedNode routing.now pool name.now }
+{
+    pool < routing.pools().len() && routing.pool(pool).names().contains(name)
+}
 
 /// Whether a routing has a node of this name.
 fn names_node(routing: &Routing, name: &NodeName) -> bool

@@ -4,7 +4,7 @@ use Rattle.serde_json.specs.Find.{as_str}
 use Rattle.serde_json.specs.View.{view}
 use Rattle.mr_configs.specs.Fields.{Text, is_one_of}
 use Rattle.mr_configs.specs.Pools.{names_in}
-use Rattle.mr_scripts.specs.HomeIndex.{has_name}
+use Rattle.mr_scripts.specs.steps.HomeIndex.{has_name}
 use Rattle.mr_scripts.proofs.HomeIndexLemmas.{name_added, name_moved}
 use Rattle.mr_scripts.proofs.ListLemmas.{turn}
 use Rattle.mr_scripts.proofs.homes.add_names.Goals as goal

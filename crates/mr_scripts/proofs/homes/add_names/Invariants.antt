@@ -2,7 +2,7 @@ use Rattle.std.proofs.Common.{◌≡◌, ◌||◌, map, drop}
 use Rattle.serde_json.specs.View.{view}
 use Rattle.mr_configs.specs.Fields.{Text, is_one_of}
 use Rattle.mr_configs.specs.Pools.{names_in}
-use Rattle.mr_scripts.specs.HomeIndex.{has_name}
+use Rattle.mr_scripts.specs.steps.HomeIndex.{has_name}
 use Rattle.mr_scripts.proofs.homes.add_names.Given as goal
 
 abbrev pub invariant-loop-value : goal.invariant-loop-value

@@ -2,7 +2,7 @@ use Rattle.std.proofs.Common.{◌∙◌, ap, sym}
 use Rattle.std.specs.List.{list_all}
 use Rattle.serde_json.specs.View.{view}
 use Rattle.mr_scripts.specs.Homes.{node_at}
-use Rattle.mr_scripts.specs.HomeIndex.{has_name}
+use Rattle.mr_scripts.specs.steps.HomeIndex.{has_name}
 use Rattle.mr_scripts.proofs.HomeIndexLemmas.{one_indexed}
 use Rattle.mr_scripts.proofs.ListLemmas.{turn}
 use Rattle.mr_scripts.proofs.homes.are_indexed.Goals as goal

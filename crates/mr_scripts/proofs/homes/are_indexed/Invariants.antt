@@ -2,7 +2,7 @@ use Rattle.std.proofs.Common.{◌≡◌, map, drop}
 use Rattle.std.specs.List.{list_all}
 use Rattle.serde_json.specs.View.{view}
 use Rattle.mr_scripts.specs.Homes.{node_at}
-use Rattle.mr_scripts.specs.HomeIndex.{has_name}
+use Rattle.mr_scripts.specs.steps.HomeIndex.{has_name}
 use Rattle.mr_scripts.proofs.homes.are_indexed.Given as goal
 
 abbrev pub invariant-loop-item : goal.invariant-loop-item

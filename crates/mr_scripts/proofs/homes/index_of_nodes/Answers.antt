@@ -2,7 +2,7 @@ use Rattle.std.proofs.Common.{◌≡◌, ◌∙◌, ◌||◌, ap, rules, subst, 
 use Rattle.serde_json.specs.View.{view}
 use Rattle.mr_configs.specs.Fields.{Text}
 use Rattle.mr_scripts.specs.Homes.{config_at, pools_at, values_name}
-use Rattle.mr_scripts.specs.HomeIndex.{has_name}
+use Rattle.mr_scripts.specs.steps.HomeIndex.{has_name}
 use Rattle.mr_scripts.specs.Setups.{pools_name}
 use Rattle.mr_scripts.proofs.HomeIndexLemmas.{proxy_moved, twice, kept}
 use Rattle.mr_scripts.proofs.ListLemmas.{turn}

@@ -1,5 +1,5 @@
 use Rattle.std.proofs.Common.{◌≡◌, ◌-◌, take}
-use Rattle.mr_transcripts.specs.Least.{least_length}
+use Rattle.mr_transcripts.specs.steps.Least.{least_length}
 use Rattle.mr_transcripts.proofs.least.room_beside_history.Given as goal
 
 abbrev pub invariant-loop-entry : goal.invariant-loop-entry
