@@ -4,6 +4,7 @@ pub mod Copied
 pub mod Shapes
 pub mod Values
 pub mod Lines
+pub mod Rooms
 pub mod Scanned
 pub mod Blocks
 pub mod RequestReading

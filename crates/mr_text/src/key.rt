@@ -123,16 +123,19 @@ impl Eq for Key {
     ghost laws = { Prim.search rules };
 }
 
+// The length and then all bytes at once, so that a key of which another begins is fed differently.
 impl Hash for Key {
+    ghost use Rattle.std.specs.Prelude.{[], ◌∷◌, ◌++◌};
     ghost use Rattle.std.specs.Hash as fed;
     ghost use Rattle.std.specs.Cmp.Rules.{comparing, hashing};
     ghost use Rattle.std.proofs.Common.{rules};
 
-    ghost hash_input = { λ k. fed.slice fed.u8 k };
+    ghost hash_input = { λ k. fed.usize (length k) ++ (k ∷ []) };
 
     ghost respects_eq = { Prim.search (hashing, rules) };
 
     fn hash<H: Hasher>(&self, state: &mut H) {
-        self.as_bytes().hash(state);
+        state.write_usize(self.len());
+        state.write(self.as_bytes());
     }
 }

@@ -41,7 +41,7 @@ use Rattle.mr_world.specs.declared.message.Message.{Message}
 use Rattle.mr_world.specs.declared.message.Delivery.{Delivery}
 use Rattle.mr_world.specs.declared.node.Node.{Node}
 use Rattle.mr_world.specs.Lists.{Has}
-use Rattle.mr_world.specs.steps.Nodes.{PerformsAt}
+use Rattle.mr_world.specs.Nodes.{PerformsAt}
 use Rattle.mr_world.specs.Network.{NetworkView, numbers_at, HasNumber, message_by}
 use Rattle.mr_world.specs.Refusals.{refused_past, refused_restart, refused_request, TakesMemory, IsEventRefusal}
 use Rattle.mr_world.specs.Setup.{proxies_from, AllAlike, hold_at, hold}

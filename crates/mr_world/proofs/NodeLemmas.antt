@@ -13,7 +13,7 @@ use Rattle.mr_pools.specs.Routing.{RoutingView, pool_of}
 use Rattle.mr_world.specs.declared.node.Node.{Node}
 use Rattle.mr_world.specs.declared.setup.ProxySetup.{ProxySetup}
 use Rattle.mr_world.specs.Lists.{Has}
-use Rattle.mr_world.specs.steps.Nodes.{KnowsNumbers}
+use Rattle.mr_world.specs.Nodes.{KnowsNumbers}
 use Rattle.mr_world.specs.Positions.{node_number}
 use Rattle.mr_world.specs.Setup.{NamesNode, IsNamed, with_name, with_pool, with_routing, nodes_of, empty_node}
 use Rattle.mr_world.proofs.Lists.{at_there, at_within, at_last, at_none, has_head, has_tail, length_set}

@@ -13,7 +13,7 @@ use Rattle.mr_pools.specs.Routing.{RoutingView}
 use Rattle.mr_world.specs.declared.setup.HeldItem.{HeldItem}
 use Rattle.mr_world.specs.declared.setup.ProxySetup.{ProxySetup}
 use Rattle.mr_world.specs.Setup.{SetupView, MovesTo, IsNewPoolEmpty}
-use Rattle.mr_world.specs.steps.Terms.{is_in, is_moved_to, is_among}
+use Rattle.mr_world.specs.Terms.{is_in, is_moved_to, is_among}
 
 -- a name that is added
 

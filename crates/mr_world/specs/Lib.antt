@@ -5,6 +5,8 @@ pub mod WorldView
 pub mod Steps
 pub mod Refusals
 pub mod Setup
+pub mod Nodes
+pub mod Terms
 pub mod Premises
 pub mod Tracked
 pub mod Facts
@@ -13,4 +15,3 @@ pub mod Headline
 pub mod Grounded
 pub mod Network
 pub mod Example
-pub mod steps

@@ -23,7 +23,7 @@ pub(crate) struct Nodes {
 impl Model for Nodes {
     ghost use Rattle.std.specs.Prelude.{List};
     ghost use Rattle.mr_world.specs.declared.node.Node.{Node};
-    ghost use Rattle.mr_world.specs.steps.Nodes.{KnowsNumbers};
+    ghost use Rattle.mr_world.specs.Nodes.{KnowsNumbers};
 
     ghost Value = { List Node };
 
@@ -44,7 +44,7 @@ fn empty_node(alloc: Global, capacity: usize, name: &NodeName) -> Result<Node, A
 }
 
 impl Nodes {
-    ghost use Rattle.mr_world.specs.steps.Nodes.{PerformsAt, EmptiesAt};
+    ghost use Rattle.mr_world.specs.Nodes.{PerformsAt, EmptiesAt};
 
     /// No node.
     pub(crate) fn new(alloc: Global) -> Nodes

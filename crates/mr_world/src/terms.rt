@@ -2,7 +2,7 @@
 ghost use Rattle.std.specs.Prelude.{◌≡◌, ◌↔◌, ◌||◌, ℕ, List, IsTrue, IfOk, OnOk};
 ghost use Rattle.std.specs.List.{list_any};
 ghost use Rattle.mr_world.specs.Setup.{AllAlike, IsNewPoolEmpty, least_interval_of};
-ghost use Rattle.mr_world.specs.steps.Terms.{is_in, is_moved_to, is_among};
+ghost use Rattle.mr_world.specs.Terms.{is_in, is_moved_to, is_among};
 
 use crate::setup::{ProxySetup, Setup};
 use mr_pools::{Pool, Routing};

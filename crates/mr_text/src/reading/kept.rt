@@ -10,22 +10,25 @@ const MOST_ROOM: usize = MAX_BLOCK + 2;
 
 /// The bytes of a stream that came and weren't read yet.
 ///
-/// Those that were read give their room back all at once, so that no text's being read moves what follows it.
+/// They stand in a room that may be longer, and whose other bytes nobody reads. So those that were read give their room
+/// back all at once, and none is cleared or dropped by itself.
 #[derive(Drop)]
 pub(crate) struct KeptBytes {
-    bytes: Vec<u8>,
-    /// How many of them were read.
-    read: usize,
+    room: Vec<u8>,
+    /// Where in the room they begin.
+    start: usize,
+    /// Where in the room they end.
+    end: usize,
 }
 
 impl Model for KeptBytes {
-    ghost use Rattle.std.specs.Prelude.{ℕ, List, ◌≤◌, drop, vec_len};
+    ghost use Rattle.std.specs.Prelude.{ℕ, List, ◌-◌, ◌≤◌, take, drop, vec_len};
 
     ghost Value = { List ℕ };
 
-    ghost view = { λ k. drop k.read k.bytes.items };
+    ghost view = { λ k. take (k.end - k.start) (drop k.start k.room.items) };
 
-    ghost invariant = { λ k. k.read ≤ vec_len k.bytes };
+    ghost invariant = { λ k. (k.start ≤ k.end) × (k.end ≤ vec_len k.room) };
 }
 
 impl KeptBytes {
@@ -34,8 +37,9 @@ impl KeptBytes {
         ensures { result ≡ [] }
     {
         KeptBytes {
-            bytes: Vec::new(alloc),
-            read: 0,
+            room: Vec::new(alloc),
+            start: 0,
+            end: 0,
         }
     }
 
@@ -43,14 +47,14 @@ impl KeptBytes {
     pub(crate) fn as_slice(&self) -> &[u8]
         ensures { result.now ≡ self.now }
     {
-        &self.bytes[self.read..]
+        &self.room[self.start..self.end]
     }
 
     /// How many bytes weren't read yet.
     pub(crate) fn len(&self) -> usize
         ensures { result ≡ length self.now }
     {
-        self.bytes.len() - self.read
+        self.end - self.start
     }
 
     /// Whether all were read.
@@ -62,7 +66,7 @@ impl KeptBytes {
 
     /// The allocator of the bytes.
     pub(crate) fn allocator(&self) -> Global {
-        *self.bytes.allocator()
+        *self.room.allocator()
     }
 
     /// Marks bytes at the front as read.
@@ -70,7 +74,7 @@ impl KeptBytes {
         requires { count ≤ length self.old }
         ensures { self.new ≡ drop count self.old }
     {
-        self.read += count;
+        self.start += count;
     }
 
     /// Adds bytes at the end, in place of those that were read.
@@ -78,28 +82,40 @@ impl KeptBytes {
         ensures ok { OnOk result (self.new ≡ self.old ++ piece.now) }
         ensures err { OnErr result (self.new ≡ self.old) }
     {
-        self.forget_read();
-        self.bytes.extend_from_slice(piece)?;
+        self.move_to_front();
+        if piece.len() <= self.room.len() - self.end {
+            let end = self.end + piece.len();
+            self.room[self.end..end].copy_from_slice(piece);
+            self.end = end;
+            return Ok(());
+        }
+        self.room.truncate(self.end);
+        self.room.extend_from_slice(piece)?;
+        self.end = self.room.len();
         Ok(())
     }
 
-    /// Gives back the room of the bytes that were read, and what is above the most that is kept.
+    /// Gives back the room that is above the most that is kept.
     pub(crate) fn give_room_back(&mut self)
         ensures { self.new ≡ self.old }
     {
-        self.forget_read();
-        self.bytes.shrink_to(MOST_ROOM);
+        if self.room.capacity() > MOST_ROOM {
+            self.move_to_front();
+            self.room.truncate(self.end);
+            self.room.shrink_to(MOST_ROOM);
+        }
     }
 
     /// Gives the room of the bytes that were read to those to come.
-    fn forget_read(&mut self)
+    fn move_to_front(&mut self)
         ensures { self.new ≡ self.old }
     {
-        if self.read > 0 {
-            let left = self.len();
-            self.bytes.as_mut_slice().copy_within(self.read.., 0);
-            self.bytes.truncate(left);
-            self.read = 0;
+        if self.start > 0 {
+            self.room
+                .as_mut_slice()
+                .copy_within(self.start..self.end, 0);
+            self.end -= self.start;
+            self.start = 0;
         }
     }
 }

@@ -3,7 +3,7 @@ ghost use Rattle.std.specs.Prelude.{◌≡◌, ◌++◌, ◌<◌, ◌≤◌, len
 ghost use Rattle.mr_history.specs.History.{Fits};
 ghost use Rattle.mr_world.specs.declared.event.Event.TheVariants.{Deliver};
 ghost use Rattle.mr_world.specs.Network.{IsReady, DoesEvent};
-ghost use Rattle.mr_world.specs.steps.Nodes.{PerformsAt};
+ghost use Rattle.mr_world.specs.Nodes.{PerformsAt};
 ghost use Rattle.mr_world.specs.Steps.{performed};
 
 use crate::error::WorldError;

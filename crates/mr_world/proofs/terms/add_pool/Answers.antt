@@ -1,6 +1,6 @@
 use Rattle.std.proofs.Common.{◌∙◌, ◌||◌, true, cond, bytes_eq, take, sym, ap}
 use Rattle.std.proofs.lemmas.List.Folds.{list_any_more}
-use Rattle.mr_world.specs.steps.Terms.{is_in, is_among}
+use Rattle.mr_world.specs.Terms.{is_in, is_among}
 use Rattle.mr_world.proofs.TermLemmas.{name_added, or_added}
 use Rattle.mr_world.proofs.terms.add_pool.Goals as goal
 

@@ -1,5 +1,5 @@
 use Rattle.std.proofs.Common.{◌≡◌, ◌||◌, ℕ, List, take}
-use Rattle.mr_world.specs.steps.Terms.{is_in, is_among}
+use Rattle.mr_world.specs.Terms.{is_in, is_among}
 use Rattle.mr_world.proofs.terms.add_pool.Given as goal
 
 -- the names so far are added

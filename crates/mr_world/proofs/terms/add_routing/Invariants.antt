@@ -1,6 +1,6 @@
 use Rattle.std.proofs.Common.{◌≡◌, ◌||◌, ℕ, List, take}
 use Rattle.std.specs.List.{list_any}
-use Rattle.mr_world.specs.steps.Terms.{is_in, is_among}
+use Rattle.mr_world.specs.Terms.{is_in, is_among}
 use Rattle.mr_world.proofs.terms.add_routing.Given as goal
 
 -- the names of the pools so far are added

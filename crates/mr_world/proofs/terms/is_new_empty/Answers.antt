@@ -1,6 +1,6 @@
 use Rattle.std.proofs.Common.{◌≡◌, ◌∙◌, true, false, length, get_or, refl, sym, ap, subst, arith}
 use Rattle.mr_world.specs.declared.setup.HeldItem.{HeldItem}
-use Rattle.mr_world.specs.steps.Terms.{is_among}
+use Rattle.mr_world.specs.Terms.{is_among}
 use Rattle.mr_world.proofs.NetworkLemmas.{each_more}
 use Rattle.mr_world.proofs.TermLemmas.{is_told, empty_if_none, told_if_some}
 use Rattle.mr_world.proofs.terms.is_new_empty.Goals as goal

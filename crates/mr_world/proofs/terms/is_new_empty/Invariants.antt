@@ -1,7 +1,7 @@
 use Rattle.std.proofs.Common.{◌≡◌, ◌<◌, ℕ, false, slice_index_or}
 use Rattle.std.specs.List.{list_any}
 use Rattle.mr_world.specs.declared.setup.HeldItem.{HeldItem}
-use Rattle.mr_world.specs.steps.Terms.{is_moved_to}
+use Rattle.mr_world.specs.Terms.{is_moved_to}
 use Rattle.mr_world.proofs.terms.is_new_empty.Given as goal
 
 -- no proxy moves to a node of the items so far

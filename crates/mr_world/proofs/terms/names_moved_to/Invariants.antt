@@ -1,6 +1,6 @@
 use Rattle.std.proofs.Common.{◌≡◌, ℕ, List, take}
 use Rattle.std.specs.List.{list_any}
-use Rattle.mr_world.specs.steps.Terms.{is_moved_to, is_among}
+use Rattle.mr_world.specs.Terms.{is_moved_to, is_among}
 use Rattle.mr_world.proofs.terms.names_moved_to.Given as goal
 
 -- the names that the proxies so far move to are there

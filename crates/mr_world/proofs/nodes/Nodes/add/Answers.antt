@@ -3,7 +3,7 @@ use Rattle.std.specs.BTreeMap.{get_by_text}
 use Rattle.std.specs.String.{string_bytes}
 use Rattle.std.proofs.lemmas.Map.Text.{btree_map_updates_text}
 use Rattle.mr_world.specs.declared.node.Node.{Node}
-use Rattle.mr_world.specs.steps.Nodes.{KnowsNumbers}
+use Rattle.mr_world.specs.Nodes.{KnowsNumbers}
 use Rattle.mr_world.specs.Positions.{node_number}
 use Rattle.mr_world.proofs.NodeLemmas.{missing, knows_pushed}
 use Rattle.mr_world.proofs.nodes.Nodes.add.Goals as goal

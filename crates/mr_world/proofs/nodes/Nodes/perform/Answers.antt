@@ -1,6 +1,6 @@
 use Rattle.std.proofs.Common.{◌≡◌, ◌∙◌, ◌<◌, Ok, Err, length, slice_set, MatchResult, refl, sym, ap, subst}
 use Rattle.mr_node.specs.Recency.{CacheView, RecencyStep}
-use Rattle.mr_world.specs.steps.Nodes.{PerformsAt}
+use Rattle.mr_world.specs.Nodes.{PerformsAt}
 use Rattle.mr_world.proofs.NetworkLemmas.{set_same}
 use Rattle.mr_world.proofs.NodeLemmas.{knows_written}
 use Rattle.mr_world.proofs.Lists.{at_read}
