@@ -81,10 +81,11 @@ impl FixedBuffer {
         true
     }
 
-    /// Sends what is gathered, in one call, and makes no call where nothing is.
+    /// Sends what is gathered, in one call, and makes no call where nothing is. It stays where the writer failed.
     pub fn send<W: Sink>(&mut self, writer: &mut W) -> Result<(), WriteFault>
         ensures text { Writes self.old (W.told writer.old) result (W.told writer.new) }
         ensures empty { OnOk result (self.new ≡ []) }
+        ensures stays { OnErr result (self.new ≡ self.old) }
         ensures idle { self.old ≡ [] → (writer.new ≡ writer.old) }
         ensures calls { 0 < length self.old → (W.told writer.new).calls ≡ (W.told writer.old).calls + 1 }
     {
