@@ -1,4 +1,8 @@
-"""Builds the program of a checkout without any proof, by the toolchain's command that tries a program."""
+#!/usr/bin/env python3
+"""Builds the program of a checkout without any proof, by the toolchain's command that tries a program.
+
+Usage: tests/live/building.py FILE   writes the program of this checkout to a file, in a minute and a half
+"""
 import glob
 import os
 import pathlib
@@ -6,6 +10,7 @@ import shutil
 import signal
 import socket
 import subprocess
+import sys
 import tempfile
 import time
 
@@ -74,3 +79,12 @@ def end(trying):
     except subprocess.TimeoutExpired:
         trying.kill()
         trying.wait()
+
+
+if __name__ == "__main__":
+    if len(sys.argv) != 2 or sys.argv[1].startswith("-"):
+        sys.exit(__doc__)
+    try:
+        build(pathlib.Path(__file__).resolve().parent.parent.parent, sys.argv[1])
+    except NotBuilt as why:
+        sys.exit(f"not built: {why}")
