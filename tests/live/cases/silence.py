@@ -132,14 +132,14 @@ def a_silent_client_is_ended_after_its_time():
     faults. One that pauses for a shorter time is served on."""
     with Fleet() as fleet:
         block = bytes(range(256)) * 32
-        words = ("--idle-timeout", "1")
+        words = ("--idle-timeout", "2")
         for service in (fleet.node(*words, clients=3), fleet.proxy(fleet.config(fleet.nodes(1)), *words, clients=3)):
             cutting, greedy, pausing = service.client(), service.client(little_room=True), service.client()
             pausing.ask(set_of("k", block), STORED)
             cutting.send(b"set k 0 0 30\r\nten bytes.")
             greedy.send(get_of("k") * 200)
             for _ in range(4):
-                time.sleep(0.6)
+                time.sleep(0.7)
                 pausing.ask(get_of("k"), hits(("k", block)))
             cutting.expect_end()
             pausing.quit()
