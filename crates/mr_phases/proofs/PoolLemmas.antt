@@ -1,10 +1,10 @@
 -- What is read and deleted at a reading is counted by the bounds that the reading has reached.
-use Rattle.std.proofs.Common.{◌≡◌, ℕ, ◌+◌, ◌*◌, ◌<◌, ◌≤◌, ◌⊎◌, Bool, true, false, List, [], ◌∷◌, map, if◌then◌else◌, nat_lt, refl, ◌∙◌, sym, subst, inl, inr, arith, ltb-true, ltb-false, lt-ltb}
+use Rattle.std.proofs.Common.{◌≡◌, ℕ, zero, suc, ◌+◌, ◌*◌, ◌<◌, ◌≤◌, ◌⊎◌, Bool, true, false, List, [], ◌∷◌, slice_get, Some, map, if◌then◌else◌, nat_lt, refl, ◌∙◌, sym, subst, inl, inr, arith, ltb-true, ltb-false, lt-ltb}
 use Rattle.std.proofs.Math.Nat.{min-le_left, min-le_right}
 use Rattle.std.specs.List.{Contains}
 use Rattle.mr_phases.specs.declared.phase_name.PhaseName.{PhaseName}
 use Rattle.mr_phases.specs.declared.phase_name.PhaseName.TheVariants.{OldOnly, BothReadOld, BothReadNew, NewOnly}
-use Rattle.mr_phases.specs.Schedule.{Hop, phase_in, Standing, standing_from, standing_of, first_start, first_interval, least_from, least_interval, IsChainFrom, IsChain}
+use Rattle.mr_phases.specs.Schedule.{Hop, phase_in, Standing, standing_from, standing_of, least_from, least_interval, IsChainFrom, IsChain}
 use Rattle.mr_phases.specs.Sides.{read_side_of, delete_sides_of}
 use Rattle.mr_phases.specs.Pools.{pool_number, read_pool, delete_pools, SomeFrom}
 use Rattle.mr_phases.proofs.Members.{contains_first, contains_second, contains_same, contained_in_one, contained_in_two}
@@ -51,6 +51,15 @@ reached_past x t h = reached_by_past x t (nat_lt t x) refl h
 reached_below : (x t : ℕ) → t < x → reached x t ≡ 0
 unfolding reached
 reached_below x t h = reached_by_below x t (nat_lt t x) refl h
+
+reached_by_most : (a : Bool) → reached_by a ≤ 1
+unfolding reached_by
+reached_by_most true = omega arith
+reached_by_most false = omega arith
+
+reached_most : (x t : ℕ) → reached x t ≤ 1
+unfolding reached
+reached_most x t = reached_by_most (nat_lt t x)
 
 -- how many hops have begun, are half over, are over
 begun : List Hop → ℕ → ℕ
@@ -264,23 +273,53 @@ deletes_up_lem hops t u pool chain up has =
       from = elim (at_t.only pool has) [ inl e ↦ omega arith | inr e ↦ omega arith ];
     }
 
-standing_early : (h : Hop) (hs : List Hop) (t : ℕ) → IsChainFrom h hs → t < h.start + h.interval → standing_from 0 h hs t ≡ record { hop = 0; phase = phase_in h t }
-standing_early h [] t chain early = refl
-standing_early h (g ∷ gs) t chain early = let d = chain.0 in let below = lt-ltb t g.start (omega arith) in rw below refl
+-- before a hop's start no later one has begun; before its middle none later is half over
+begun_before : (h : Hop) (hs : List Hop) (t number : ℕ) (hop : Hop) → IsChainFrom h hs → slice_get (h ∷ hs) number ≡ Some hop → t < hop.start
+    → begun (h ∷ hs) t ≤ number
+unfolding begun
+begun_before h hs t zero hop chain there early =
+    let same : h ≡ hop = cc in
+    let none = (none_begun h hs t chain (subst (λ (f : Hop). t < f.start) (sym same) early)).no_begin in
+    omega arith
+begun_before h [] t (suc number) hop chain there early = cc
+begun_before h (g ∷ gs) t (suc number) hop chain there early =
+    let rest = begun_before g gs t number hop chain.1 there early in
+    let one = reached_most h.start t in
+    omega arith
 
-pub deletes_old_lem : (hops : List Hop) (t : ℕ) → IsChain hops → t < first_start hops → delete_pools hops t ≡ 0 ∷ []
-deletes_old_lem [] t chain early = refl
-deletes_old_lem (h ∷ hs) t chain early =
-    let stands = standing_early h hs t chain (omega arith) in
-    let below = lt-ltb t h.start early in
-    let first : pools_deleted (record { hop = 0; phase = phase_in h t }) ≡ 0 ∷ [] = rw below refl in
-    subst (λ (s : Standing). pools_deleted s ≡ 0 ∷ []) (sym stands) first
+half_over_before : (h : Hop) (hs : List Hop) (t number : ℕ) (hop : Hop) → IsChainFrom h hs → slice_get (h ∷ hs) number ≡ Some hop
+    → t < hop.start + hop.interval → half_over (h ∷ hs) t ≤ number
+unfolding half_over
+half_over_before h [] t zero hop chain there early =
+    let same : h ≡ hop = cc in
+    let own = reached_below (h.start + h.interval) t (subst (λ (f : Hop). t < f.start + f.interval) (sym same) early) in
+    omega arith
+half_over_before h (g ∷ gs) t zero hop chain there early =
+    let same : h ≡ hop = cc in
+    let below : t < h.start + h.interval = subst (λ (f : Hop). t < f.start + f.interval) (sym same) early in
+    let own = reached_below (h.start + h.interval) t below in
+    let after = chain.0 in
+    let none = (none_begun g gs t chain.1 (omega arith)).no_middle in
+    omega arith
+half_over_before h [] t (suc number) hop chain there early = cc
+half_over_before h (g ∷ gs) t (suc number) hop chain there early =
+    let rest = half_over_before g gs t number hop chain.1 there early in
+    let one = reached_most (h.start + h.interval) t in
+    omega arith
 
-pub reads_old_lem : (hops : List Hop) (t : ℕ) → IsChain hops → t < first_start hops + first_interval hops → read_pool hops t ≡ 0
-reads_old_lem [] t chain early = refl
-reads_old_lem (h ∷ hs) t chain early =
-    let stands = standing_early h hs t chain early in
-    let one = (counts_one 0 h t).reads in
-    let none = reached_below (h.start + h.interval) t early in
-    let first : pool_read (record { hop = 0; phase = phase_in h t }) ≡ 0 = omega arith in
-    subst (λ (s : Standing). pool_read s ≡ 0) (sym stands) first
+pub deletes_stay_lem : (hops : List Hop) (t number pool : ℕ) (hop : Hop) → IsChain hops → slice_get hops number ≡ Some hop
+    → t < hop.start → Contains (delete_pools hops t) pool → pool ≤ number
+deletes_stay_lem [] t number pool hop chain there early has = cc
+deletes_stay_lem (h ∷ hs) t number pool hop chain there early has =
+    let at_t = counts (h ∷ hs) t chain in
+    let order = at_t.order in
+    let most = begun_before h hs t number hop chain there early in
+    elim (at_t.only pool has) [ inl e ↦ omega arith | inr e ↦ omega arith ]
+
+pub reads_stay_lem : (hops : List Hop) (t number : ℕ) (hop : Hop) → IsChain hops → slice_get hops number ≡ Some hop
+    → t < hop.start + hop.interval → read_pool hops t ≤ number
+reads_stay_lem [] t number hop chain there early = cc
+reads_stay_lem (h ∷ hs) t number hop chain there early =
+    let reads = (counts (h ∷ hs) t chain).reads in
+    let most = half_over_before h hs t number hop chain there early in
+    omega arith

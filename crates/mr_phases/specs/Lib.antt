@@ -1,3 +1,5 @@
+pub mod Fields
+pub mod Filled
 pub mod InForce
 pub mod Judged
 pub mod PhaseText

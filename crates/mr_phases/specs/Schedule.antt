@@ -1,12 +1,13 @@
 -- Migrations in a row: hop j moves from pool j to pool j + 1. One migration is a list of one hop.
-use Rattle.std.specs.Prelude.{ℕ, ◌+◌, ◌*◌, ◌^◌, ◌<◌, ◌≤◌, List, [], ◌∷◌, length, min, nat_lt, if◌then◌else◌, All}
+use Rattle.std.specs.Prelude.{ℕ, ◌+◌, ◌*◌, ◌^◌, ◌<◌, ◌≤◌, List, [], ◌∷◌, length, min, nat_lt, if◌then◌else◌, All, Option, None, Some, slice_get}
 use Rattle.mr_phases.specs.declared.phase_name.PhaseName.{PhaseName}
 use Rattle.mr_phases.specs.declared.phase_name.PhaseName.TheVariants.{OldOnly, BothReadOld, BothReadNew, NewOnly}
-
 -- one migration: its first second, and how long each of its two middle phases lasts
-pub record Hop : Type 0 where
-  pub start : ℕ
-  pub interval : ℕ
+pub use Rattle.mr_phases.specs.declared.hop.Hop.{Hop}
+
+-- the most migrations in a row
+abbrev pub most_hops : ℕ
+most_hops = 4
 
 abbrev pub one_hop : ℕ → ℕ → List Hop
 one_hop start interval = record { start = start; interval = interval } ∷ []
@@ -49,6 +50,22 @@ hop_of hops t = (standing_of hops t).hop
 abbrev pub phase_of : List Hop → ℕ → PhaseName
 phase_of hops t = (standing_of hops t).phase
 
+-- of the hop that is there, or 0
+abbrev pub start_in : Option Hop → ℕ
+start_in None = 0
+start_in (Some h) = h.start
+
+abbrev pub interval_in : Option Hop → ℕ
+interval_in None = 0
+interval_in (Some h) = h.interval
+
+-- the start and the interval of the hop of this number, both 0 past the last
+abbrev pub start_at : List Hop → ℕ → ℕ
+start_at hops number = start_in (slice_get hops number)
+
+abbrev pub interval_at : List Hop → ℕ → ℕ
+interval_at hops number = interval_in (slice_get hops number)
+
 abbrev pub first_start : List Hop → ℕ
 first_start [] = 0
 first_start (h ∷ hs) = h.start
@@ -66,6 +83,15 @@ abbrev pub least_interval : List Hop → ℕ
 least_interval [] = 0
 least_interval (h ∷ hs) = least_from h hs
 
+abbrev pub end_from : Hop → List Hop → ℕ
+end_from h [] = h.start + 2 * h.interval
+end_from h (g ∷ gs) = end_from g gs
+
+-- the end of the last hop: from there on its new pool is alone
+abbrev pub chain_end : List Hop → ℕ
+chain_end [] = 0
+chain_end (h ∷ hs) = end_from h hs
+
 abbrev pub IsChainFrom : Hop → List Hop → Type 0
 IsChainFrom h [] = Unit {0}
 IsChainFrom h (g ∷ gs) = (h.start + 2 * h.interval ≤ g.start) × IsChainFrom g gs
@@ -75,9 +101,10 @@ abbrev pub IsChain : List Hop → Type 0
 IsChain [] = Unit {0}
 IsChain (h ∷ hs) = IsChainFrom h hs
 
--- what every schedule keeps: at least one hop, one after the other, each of a second or more, all ended within a u64
+-- what every schedule keeps: one to four hops, one after the other, each of a second or more, all ended within a u64
 pub record IsSchedule (hops : List Hop) : Type 0 where
   pub begins : 0 < length hops
+  pub few : length hops ≤ most_hops
   pub chain : IsChain hops
   pub lasts : All (λ h. 0 < h.interval) hops
   pub fits : All (λ h. h.start + 2 * h.interval < 2 ^ 64) hops

@@ -1,7 +1,7 @@
-//! A reading judged: the one of the four phases in which it stands.
-ghost use Rattle.std.specs.Prelude.{◌≡◌, ◌≤◌, ◌↔◌, IsOk, IfOk, IfErr};
+//! A reading judged: the one of the four phases in which it stands, of the migration in force.
+ghost use Rattle.std.specs.Prelude.{◌≡◌, ◌<◌, ◌≤◌, ◌↔◌, length, IsOk, IfOk, IfErr};
 ghost use Rattle.mr_phases.specs.Sides.{read_side_of, sides_at, sides_in};
-ghost use Rattle.mr_phases.specs.Schedule.{phase_of, IsSchedule};
+ghost use Rattle.mr_phases.specs.Schedule.{hop_of, phase_of, IsSchedule};
 ghost use Rattle.mr_phases.specs.Judged.{name_of, reading_of, hops_of, IsJudgement};
 
 use crate::phase::{BothReadNew, BothReadOld, NewOnly, OldOnly, Phase};
@@ -11,10 +11,11 @@ use crate::schedule::Schedule;
 use crate::side::{RequestKind, Side};
 use crate::sides::Sides;
 
-/// A reading in the one of the four phases in which it stands.
+/// A reading in the one of the four phases in which it stands, of the hop in force: the last that has begun, or the
+/// first where none has. Once a hop is over, the phase is its last until the next one begins.
 #[derive(Debug, Drop)]
 pub enum Judged {
-    /// Before the start.
+    /// Before the start, which only the first hop is in force at.
     OldOnly(Phase<OldOnly>),
     /// From the start, for one interval.
     BothReadOld(Phase<BothReadOld>),
@@ -24,7 +25,8 @@ pub enum Judged {
     NewOnly(Phase<NewOnly>),
 }
 
-/// The phase of a schedule in which a reading stands, in seconds since the epoch.
+/// The phase of a schedule in which a reading stands, in seconds since the epoch: that of the hop in force. Each bound
+/// belongs to the later phase, and a hop's start to that hop.
 pub fn judge(schedule: Schedule, now: u64) -> Judged
     ensures judgement { IsJudgement schedule now result }
     ensures valid { IsSchedule schedule }
@@ -82,6 +84,15 @@ impl Judged {
         self.plain().schedule
     }
 
+    /// The number of the hop in force: of the last that has begun, or 0 where none has.
+    pub fn hop(&self) -> u32
+        ensures hop { result ≡ hop_of (hops_of self.now) (reading_of self.now) }
+        ensures within { result < length (hops_of self.now) }
+    {
+        let plain = self.plain();
+        plain.schedule.hop_at(plain.reading)
+    }
+
     /// The side of gets and sets.
     pub fn read_side(&self) -> Side
         ensures { result ≡ read_side_of (phase_of (hops_of self.now) (reading_of self.now)) }
@@ -96,7 +107,7 @@ impl Judged {
         self.plain().sides(kind)
     }
 
-    /// The judgement at a later reading. An earlier one hands the same value back as the error.
+    /// The judgement at a later reading, which may be in a later hop. An earlier one hands the same value back as the error.
     pub fn later(self, now: u64) -> Result<Judged, Judged>
         ensures accepted { IsOk result ↔ (reading_of self ≤ now) }
         ensures judgement { IfOk result (IsJudgement (hops_of self) now) }

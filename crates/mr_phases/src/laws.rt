@@ -1,10 +1,17 @@
 //! The laws by which a fleet whose clocks differ by at most the least interval keeps its deletes. They hold of
 //! every chain of migrations, and speak of pools, numbered from 0 in the order of the migrations.
-ghost use Rattle.std.specs.Prelude.{◌≡◌, ℕ, ◌+◌, ◌<◌, ◌≤◌, ◌↔◌, List, [], ◌∷◌, length, Contains};
+ghost use Rattle.std.specs.Prelude.{◌≡◌, ℕ, ◌+◌, ◌<◌, ◌≤◌, ◌↔◌, List, length, Some, slice_get, Contains};
 ghost use Rattle.mr_phases.specs.declared.phase_name.PhaseName.{PhaseName};
-ghost use Rattle.mr_phases.specs.Schedule.{Hop, phase_in, StandsIn, hop_of, phase_of, IsChain, least_interval, first_start, first_interval};
+ghost use Rattle.mr_phases.specs.Schedule.{Hop, most_hops, phase_in, StandsIn, hop_of, phase_of, IsChain, least_interval};
 ghost use Rattle.mr_phases.specs.InForce.{StandsAt};
 ghost use Rattle.mr_phases.specs.Pools.{read_pool, delete_pools, SomeFrom};
+
+use crate::schedule::MAX_HOPS;
+
+/// The public limit is that of the definitions.
+pub fn limits()
+    ensures { MAX_HOPS ≡ most_hops }
+{}
 
 /// The pool that one clock reads is among those that another clock deletes from.
 pub fn overlap()
@@ -37,14 +44,19 @@ pub fn phase_in_force()
         → ((hop_of hops t ≡ number) × (phase_of hops t ≡ phase)) ↔ StandsAt hops t number phase }
 {}
 
-/// Before the first start a delete goes to the first pool alone.
-pub fn deletes_old_before_start()
-    ensures { (hops : List Hop) (t : ℕ) → IsChain hops → t < first_start hops
-        → delete_pools hops t ≡ 0 ∷ [] }
+/// Before a migration's start no delete goes to its new pool or to one after that.
+pub fn deletes_stay_before_start()
+    ensures { (hops : List Hop) (t number pool : ℕ) (hop : Hop) → IsChain hops → slice_get hops number ≡ Some hop
+        → t < hop.start → Contains (delete_pools hops t) pool → pool ≤ number }
 {}
 
-/// Before the middle of the first migration gets and sets go to the first pool.
-pub fn reads_old_before_middle()
-    ensures { (hops : List Hop) (t : ℕ) → IsChain hops → t < first_start hops + first_interval hops
-        → read_pool hops t ≡ 0 }
+/// Before a migration's middle gets and sets go to its old pool or to one before that.
+pub fn reads_stay_before_middle()
+    ensures { (hops : List Hop) (t number : ℕ) (hop : Hop) → IsChain hops → slice_get hops number ≡ Some hop
+        → t < hop.start + hop.interval → read_pool hops t ≤ number }
+{}
+
+/// The migration in force is one of the schedule's.
+pub fn hop_within()
+    ensures { (hops : List Hop) (t : ℕ) → 0 < length hops → hop_of hops t < length hops }
 {}

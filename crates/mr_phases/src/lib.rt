@@ -3,6 +3,7 @@
 #![tactic(auto)]
 
 mod error;
+mod hop;
 mod judged;
 pub mod laws;
 mod phase;
@@ -16,6 +17,6 @@ pub use error::ScheduleError;
 pub use judged::{Judged, judge};
 pub use phase::{BothReadNew, BothReadOld, NewOnly, OldOnly, Phase, PhaseKind};
 pub use phase_name::PhaseName;
-pub use schedule::Schedule;
+pub use schedule::{MAX_HOPS, Schedule};
 pub use side::{RequestKind, Side};
 pub use sides::{OneSide, SideCount, Sides, TwoSides};

@@ -1,8 +1,8 @@
 //! The four phases as types, and a reading that stands in one.
-ghost use Rattle.std.specs.Prelude.{◌≡◌, ℕ};
+ghost use Rattle.std.specs.Prelude.{◌≡◌, ℕ, ◌<◌, length};
 ghost use Rattle.mr_phases.specs.declared.phase_name.PhaseName.{PhaseName};
 ghost use Rattle.mr_phases.specs.Sides.{read_side_of, delete_sides_of, sides_at, sides_in};
-ghost use Rattle.mr_phases.specs.Schedule.{phase_of};
+ghost use Rattle.mr_phases.specs.Schedule.{hop_of, phase_of};
 ghost use Rattle.mr_phases.specs.Reading.{Reading};
 
 use crate::phase_name::PhaseName;
@@ -133,7 +133,7 @@ impl PhaseKind for NewOnly {
     }
 }
 
-/// A schedule and a reading that stands in the phase P of it.
+/// A schedule and a reading that stands in the phase P of the hop in force.
 #[derive(Debug, Drop)]
 pub struct Phase<P: PhaseKind> {
     schedule: Schedule,
@@ -205,6 +205,14 @@ impl<P: PhaseKind> Phase<P> {
         ensures { result ≡ self.now.hops }
     {
         self.schedule
+    }
+
+    /// The number of the hop in force: of the last that has begun, or 0 where none has.
+    pub fn hop(&self) -> u32
+        ensures hop { result ≡ hop_of self.now.hops self.now.reading }
+        ensures within { result < length self.now.hops }
+    {
+        self.schedule.hop_at(self.reading)
     }
 
     /// The side of gets and sets.
