@@ -2,8 +2,11 @@
 use Rattle.std.specs.Prelude.{ℕ, ◌+◌, ◌*◌, ◌^◌, ◌<◌, ◌≤◌, List, [], ◌∷◌, length, min, nat_lt, if◌then◌else◌, All, Option, None, Some, slice_get}
 use Rattle.mr_phases.specs.declared.phase_name.PhaseName.{PhaseName}
 use Rattle.mr_phases.specs.declared.phase_name.PhaseName.TheVariants.{OldOnly, BothReadOld, BothReadNew, NewOnly}
--- one migration: its first second, and how long each of its two middle phases lasts
-pub use Rattle.mr_phases.specs.declared.hop.Hop.{Hop}
+use Rattle.mr_phases.specs.declared.hop.Hop as declared
+
+-- one migration: its start, the first second, and its interval, how long each of its two middle phases lasts
+abbrev pub Hop : Type 0
+Hop = declared.Hop
 
 -- the most migrations in a row
 abbrev pub most_hops : ℕ

@@ -12,16 +12,16 @@ use crate::side::{RequestKind, Side};
 use crate::sides::Sides;
 
 /// A reading in the one of the four phases in which it stands, of the hop in force: the last that has begun, or the
-/// first where none has. Once a hop is over, the phase is its last until the next one begins.
+/// first where none has.
 #[derive(Debug, Drop)]
 pub enum Judged {
-    /// Before the start, which only the first hop is in force at.
+    /// Before the start of the first hop.
     OldOnly(Phase<OldOnly>),
-    /// From the start, for one interval.
+    /// From a hop's start on, for one interval.
     BothReadOld(Phase<BothReadOld>),
     /// After that, for another interval.
     BothReadNew(Phase<BothReadNew>),
-    /// From the end on.
+    /// From a hop's end on, until the next one starts.
     NewOnly(Phase<NewOnly>),
 }
 
@@ -107,7 +107,8 @@ impl Judged {
         self.plain().sides(kind)
     }
 
-    /// The judgement at a later reading, which may be in a later hop. An earlier one hands the same value back as the error.
+    /// The judgement at a later reading, which may be in a later hop. An earlier one hands the same value back as the
+    /// error.
     pub fn later(self, now: u64) -> Result<Judged, Judged>
         ensures accepted { IsOk result ↔ (reading_of self ≤ now) }
         ensures judgement { IfOk result (IsJudgement (hops_of self) now) }

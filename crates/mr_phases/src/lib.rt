@@ -1,4 +1,4 @@
-//! When a migration reads and deletes where: a schedule, the four phases as types, and the laws that tie
+//! When a chain of migrations reads and deletes where: a schedule, the four phases as types, and the laws that tie
 //! the readings of two clocks.
 #![tactic(auto)]
 

@@ -71,9 +71,11 @@ impl Schedule {
         ensures too_many_hops { IsErrOf result (ScheduleError.TooManyHops, self)
             ↔ ((0 < interval) × (start + 2 * interval < 2 ^ 64) × (length self ≡ most_hops)) }
         ensures too_soon { IsErrOf result (ScheduleError.TooSoon, self)
-            ↔ ((0 < interval) × (start + 2 * interval < 2 ^ 64) × (length self < most_hops) × (start < chain_end self)) }
+            ↔ ((0 < interval) × (start + 2 * interval < 2 ^ 64) × (length self < most_hops)
+            × (start < chain_end self)) }
         ensures accepted { IsOk result
-            ↔ ((0 < interval) × (start + 2 * interval < 2 ^ 64) × (length self < most_hops) × (chain_end self ≤ start)) }
+            ↔ ((0 < interval) × (start + 2 * interval < 2 ^ 64) × (length self < most_hops)
+            × (chain_end self ≤ start)) }
         ensures hops { IfOk result (λ longer. longer ≡ self ++ one_hop start interval) }
         ensures valid { IsSchedule self }
     {
@@ -128,8 +130,9 @@ impl Schedule {
         ensures least { result ≡ least_interval self.now }
         ensures valid { IsSchedule self.now }
     {
-        let hops = self.as_slice().iter();
-        hops.fold(self.interval(0), |least, hop| least.min(hop.interval))
+        let hops = self.as_slice();
+        hops.iter()
+            .fold(self.interval(0), |least, hop| least.min(hop.interval))
     }
 
     /// An equal schedule.

@@ -5,6 +5,6 @@ use Rattle.mr_phases.proofs.schedule.Schedule.least_interval.Goals as goal
 
 pub returns-clause-least : goal.returns-clause-least
 returns-clause-least c =
-    let ran : c.fold.result ≡ fold (λ least (hop : Hop). min least hop.interval) c.interval.result c.as_slice.result.now = search rules in
-    let least = least_folded c.args.self.now c.as_slice.ensures.valid.begins in
+    let ran : c.fold.result ≡ fold (λ least (hop : Hop). min least hop.interval) c.interval.result c.as_slice-hops.result.now = search rules in
+    let least = least_folded c.args.self.now c.as_slice-hops.ensures.valid.begins in
     cc
