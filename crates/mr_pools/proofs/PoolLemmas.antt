@@ -1,6 +1,7 @@
 -- What one more name does to names that are distinct so far, or apart so far.
-use Rattle.std.proofs.Common.{◌≡◌, ℕ, ◌+◌, ◌<◌, List, Contains, length, take, slice_index_or, arith, sym, ◌∙◌, ap, subst, inl, inr, length-take}
-use Rattle.std.proofs.lemmas.List.{get_or-take, get_or_default}
+use Rattle.std.proofs.Common.{◌≡◌, ℕ, ◌+◌, ◌<◌, ◌≤◌, List, All, Contains, length, take, slice_index_or, arith, sym, ◌∙◌, ap, subst, inl, inr, length-take}
+use Rattle.std.proofs.lemmas.List.{get_or-take, get_or_default, take_all, take_more}
+use Rattle.std.proofs.lemmas.List.Elements.{All-push}
 use Rattle.std.proofs.lemmas.Bool.{cases_lt}
 use Rattle.mr_pools.specs.Pool.{AreApart}
 
@@ -39,3 +40,20 @@ pub not_apart : (old new : List (List ℕ)) (i : ℕ) (name : List ℕ) → i < 
     → Contains new name → AreApart old new → ⊥
 not_apart old new i name in_range is has apart =
     let P : List ℕ → Type 0 = λ n. Contains new n in apart i name in_range (subst P is has)
+
+-- one more pool that has none of the pool's names
+pub stand_more : (pools : List (List (List ℕ))) (i : ℕ) (earlier pool : List (List ℕ)) → i < length pools
+    → earlier ≡ slice_index_or pools i earlier → AreApart earlier pool
+    → All (λ p. AreApart p pool) (take i pools) → All (λ p. AreApart p pool) (take (i + 1) pools)
+stand_more pools i earlier pool in_range is apart before =
+    rw (take_more pools i earlier in_range)
+    (All-push (λ p. AreApart p pool) (take i pools) _ before (subst (λ p. AreApart p pool) is apart))
+
+pub not_stand : (pools : List (List (List ℕ))) (i : ℕ) (earlier pool : List (List ℕ)) → i < length pools
+    → earlier ≡ slice_index_or pools i earlier → ¬ AreApart earlier pool → ¬ All (λ p. AreApart p pool) pools
+not_stand pools i earlier pool in_range is shares all =
+    shares (subst (λ p. AreApart p pool) (sym is) (all i earlier in_range))
+
+pub stand_all : (pools : List (List (List ℕ))) (n : ℕ) (pool : List (List ℕ)) → length pools ≤ n
+    → All (λ p. AreApart p pool) (take n pools) → All (λ p. AreApart p pool) pools
+stand_all pools n pool whole all = subst (λ ps. All (λ p. AreApart p pool) ps) (take_all n pools whole) all

@@ -5,4 +5,5 @@ pub mod Names
 pub mod NodeName
 pub mod Pool
 pub mod PoolError
+pub mod Pools
 pub mod Routing

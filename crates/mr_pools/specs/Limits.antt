@@ -8,3 +8,7 @@ longest_name = 255
 -- the most nodes of one pool
 abbrev pub most_nodes : ℕ
 most_nodes = 1024
+
+-- the most pools of one routing
+abbrev pub most_pools : ℕ
+most_pools = 5

@@ -2,7 +2,7 @@
 use Rattle.std.specs.Prelude.{◌≡◌, ◌≢◌, ℕ, ◌<◌, ◌≤◌, List, [], length, All, AllPairs, Contains, Result, Ok, Err}
 use Rattle.mr_pools.specs.Limits.{most_nodes}
 use Rattle.mr_pools.specs.declared.error.PoolError.{PoolError}
-use Rattle.mr_pools.specs.declared.error.PoolError.TheVariants.{EmptyPool, TooManyNodes, BadName, RepeatedName, SharedName, OutOfMemory}
+use Rattle.mr_pools.specs.declared.error.PoolError.TheVariants.{EmptyPool, TooManyNodes, BadName, RepeatedName, SharedName, OutOfMemory, TooManyPools}
 
 -- no two places hold the same name
 abbrev pub AreDistinct : List (List ℕ) → Type 0
@@ -26,3 +26,4 @@ IsPoolOf names (Err RepeatedName) = (1 ≤ length names) × (length names ≤ mo
 IsPoolOf names (Err BadName) = ⊥
 IsPoolOf names (Err SharedName) = ⊥
 IsPoolOf names (Err OutOfMemory) = ⊥
+IsPoolOf names (Err TooManyPools) = ⊥

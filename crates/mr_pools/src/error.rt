@@ -19,12 +19,15 @@ pub enum PoolError {
     /// A pool names one node twice.
     #[error("a node is named twice in one pool")]
     RepeatedName,
-    /// A node stands in both pools of a routing.
-    #[error("a node is named in both the old and the new pool")]
+    /// A node stands in two pools of a routing.
+    #[error("a node is named in two pools of a routing")]
     SharedName,
     /// Memory was refused.
     #[error("out of memory")]
     OutOfMemory,
+    /// A routing has more than five pools.
+    #[error("a routing has more than 5 pools")]
+    TooManyPools,
 }
 
 impl PoolError {
@@ -41,6 +44,7 @@ impl PoolError {
             PoolError::RepeatedName => 4,
             PoolError::SharedName => 5,
             PoolError::OutOfMemory => 6,
+            PoolError::TooManyPools => 7,
         }
     }
 }

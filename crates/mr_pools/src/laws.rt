@@ -1,15 +1,16 @@
 //! What holds of every routing by its definition, and which numbers the limits are.
 ghost use Rattle.std.specs.Prelude.{◌≡◌, ◌≢◌, ℕ};
-ghost use Rattle.mr_pools.specs.Limits.{longest_name, most_nodes};
+ghost use Rattle.mr_pools.specs.Limits.{longest_name, most_nodes, most_pools};
 ghost use Rattle.mr_pools.specs.Names.{name_at, HasNode};
 ghost use Rattle.mr_pools.specs.Routing.{RoutingView, IsRouting};
 
-use crate::limits::{MAX_NAME, MAX_NODES};
+use crate::limits::{MAX_NAME, MAX_NODES, MAX_POOLS};
 
 /// The public limits are those of the definitions.
 pub fn limits()
     ensures name { MAX_NAME ≡ longest_name }
     ensures nodes { MAX_NODES ≡ most_nodes }
+    ensures pools { MAX_POOLS ≡ most_pools }
 {}
 
 /// No name of one pool stands in another pool of the routing.

@@ -1,33 +1,65 @@
-//! The routing of a migration: its pools by number, and the hash.
-ghost use Rattle.std.specs.Prelude.{◌≡◌, ◌<◌, ◌↔◌, length, slice_get, Some, IsTrue, IfOk};
+//! The routing of migrations in a row: their pools by number, and the hash.
+ghost use Rattle.std.specs.Prelude.{◌≡◌, ◌+◌, ◌<◌, ◌↔◌, length, slice_get, Some, All, IsTrue, IfOk};
+ghost use Rattle.mr_pools.specs.Pool.{AreApart};
 
 use crate::error::PoolError;
 use crate::hash::NamedHash;
+use crate::limits::MAX_POOLS;
+use crate::name::NodeName;
 use crate::pool::{Pool, are_apart};
+use crate::pools::Pools;
 use mr_text::Key;
 use std::alloc::AllocError;
 use std::marker::Model;
 
-/// The pools of a migration, from the old one to the new one, and the hash that places keys in them. No node
-/// stands in two of the pools.
+/// The pools of up to four migrations in a row, and the hash that places keys in them. Hop 0 goes from pool 0 to
+/// pool 1, hop 1 on to pool 2, and so on. No node stands in two of the pools.
 #[derive(Debug, Drop)]
 pub struct Routing {
-    pools: [Pool; 2],
+    pools: Pools,
     hash: NamedHash,
 }
 
 impl Model for Routing {
     ghost use Rattle.mr_pools.specs.Routing.{RoutingView, IsRouting};
+    ghost use Rattle.mr_pools.specs.Pools.{pools_in};
 
     ghost Value = { RoutingView };
 
-    ghost view = { λ r. record { pools = r.pools; hash = r.hash } };
+    ghost view = { λ r. record { pools = pools_in r.pools; hash = r.hash } };
 
-    ghost invariant = { λ r. IsRouting (record { pools = r.pools; hash = r.hash }) };
+    ghost invariant = { λ r. IsRouting (record { pools = pools_in r.pools; hash = r.hash }) };
+}
+
+/// Whether none of the names stands in one of the pools.
+fn stand_apart(pools: &[Pool], names: &[NodeName]) -> bool
+    ensures { IsTrue result ↔ All (λ earlier. AreApart earlier names.now) pools.now }
+{
+    for earlier in pools {
+        if !are_apart(earlier.names(), names) {
+            return false;
+        }
+    }
+    true
+}
+
+/// Whether both have the same pools in the same order.
+fn are_same(ours: &[Pool], theirs: &[Pool]) -> bool
+    ensures { IsTrue result ↔ (ours.now ≡ theirs.now) }
+{
+    if ours.len() != theirs.len() {
+        return false;
+    }
+    for (number, pool) in ours.iter().enumerate() {
+        if !pool.same_as(&theirs[number]) {
+            return false;
+        }
+    }
+    true
 }
 
 impl Routing {
-    ghost use Rattle.mr_pools.specs.Routing.{IsRoutingOf, IsRouting, pool_of, place_of};
+    ghost use Rattle.mr_pools.specs.Routing.{IsRoutingOf, IsLonger, IsRouting, pool_of, place_of};
 
     /// The routing from the old pool to the new one. SharedName where a node stands in both.
     pub fn new(old: Pool, new: Pool, hash: NamedHash) -> Result<Routing, PoolError>
@@ -37,28 +69,56 @@ impl Routing {
             return Err(PoolError::SharedName);
         }
         Ok(Routing {
-            pools: [old, new],
+            pools: Pools::Two([old, new]),
             hash,
         })
     }
 
-    /// The pool that is left.
-    pub fn old_pool(&self) -> &Pool
-        ensures pool { result.now ≡ pool_of self.now 0 }
-        ensures routing { IsRouting self.now }
+    /// The routing that goes on to one more pool, by one more migration. Refusals, in this order: TooManyPools where
+    /// five pools are there, SharedName where a node of the pool stands in an earlier one. A refusal hands both back.
+    pub fn then(self, pool: Pool) -> Result<Routing, (PoolError, Routing, Pool)>
+        ensures { IsLonger self pool result }
     {
-        &self.pools[0]
+        if self.pools().len() == MAX_POOLS {
+            return Err((PoolError::TooManyPools, self, pool));
+        }
+        if !stand_apart(self.pools(), pool.names()) {
+            return Err((PoolError::SharedName, self, pool));
+        }
+        let hash = self.hash;
+        Ok(Routing {
+            pools: self.pools.then(pool),
+            hash,
+        })
     }
 
-    /// The pool that takes over.
-    pub fn new_pool(&self) -> &Pool
-        ensures pool { result.now ≡ pool_of self.now 1 }
+    /// How many migrations there are, 1 to 4: one less than the pools.
+    pub fn hops(&self) -> u32
+        ensures hops { result + 1 ≡ length self.now.pools }
         ensures routing { IsRouting self.now }
     {
-        &self.pools[1]
+        self.pools().len() as u32 - 1
     }
 
-    /// The pools, from the one that is left to the one that takes over last: a pool's number is its index here.
+    /// The pool that a hop leaves.
+    pub fn old_pool(&self, hop: u32) -> &Pool
+        requires { hop + 1 < length self.now.pools }
+        ensures pool { result.now ≡ pool_of self.now hop }
+        ensures routing { IsRouting self.now }
+    {
+        self.pool(hop as usize)
+    }
+
+    /// The pool that a hop goes to.
+    pub fn new_pool(&self, hop: u32) -> &Pool
+        requires { hop + 1 < length self.now.pools }
+        ensures pool { result.now ≡ pool_of self.now (hop + 1) }
+        ensures routing { IsRouting self.now }
+    {
+        self.pool(hop as usize + 1)
+    }
+
+    /// The pools, from the one that is left first to the one that takes over last: a pool's number is its index here.
     pub fn pools(&self) -> &[Pool]
         ensures pools { result.now ≡ self.now.pools }
         ensures routing { IsRouting self.now }
@@ -66,7 +126,7 @@ impl Routing {
         self.pools.as_slice()
     }
 
-    /// The pool of a number: 0 is the old one.
+    /// The pool of a number: 0 is the one that is left first.
     pub fn pool(&self, number: usize) -> &Pool
         requires { number < length self.now.pools }
         ensures there { slice_get self.now.pools number ≡ Some result.now }
@@ -98,7 +158,7 @@ impl Routing {
         ensures { IfOk result (λ routing. routing ≡ self.now) }
     {
         Ok(Routing {
-            pools: [self.old_pool().copy()?, self.new_pool().copy()?],
+            pools: self.pools.copy()?,
             hash: self.hash,
         })
     }
@@ -107,8 +167,6 @@ impl Routing {
     pub fn same_as(&self, other: &Routing) -> bool
         ensures { IsTrue result ↔ (self.now ≡ other.now) }
     {
-        self.old_pool().same_as(other.old_pool())
-            && self.new_pool().same_as(other.new_pool())
-            && self.hash == other.hash
+        are_same(self.pools(), other.pools()) && self.hash == other.hash
     }
 }
