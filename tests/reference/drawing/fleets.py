@@ -212,8 +212,8 @@ class Fleet:
             self.bring_to(min(bound + self.source.choice((-1, 0, 0, 1, 50)), GREATEST))
 
     def bring_to(self, aim):
-        """Each clock is brought to a reading, the last one first, so that no two are further apart than a least interval if they
-        weren't before. It takes so many steps at the most."""
+        """Each clock is brought to a reading, in turn the one that is furthest from it, so that no two are further apart than a least
+        interval if they weren't before. Where that would take many steps, only the first of them are made."""
         readings = self.world.readings
         least = min(hop.interval for hop in self.hops(0))
         for _ in range(6 * len(readings)):
