@@ -4,7 +4,7 @@ It is written from the documents and not from the program's code, so that a mist
 `tests/run` draws cases, lets the program answer each, and compares that with what stands here. The modules, lowest first:
 
     refusals, json_text, fields     what is refused; JSON; what is read from its values
-    text, phases, pools, configs    requests; when and where they go; configurations
+    text, phases, pools, configs    requests; when and where they go, along chains of migrations; configurations
     nodes, proxies, worlds          a cache, a proxy, a fleet of them event by event
     history                         what happened in a fleet, and its judge
     scripts, transcripts            what a fleet is made of and what happens to it; what came of that, and its check

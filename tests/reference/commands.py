@@ -66,7 +66,7 @@ def plan(words, files, stdin):
     if not isinstance(request, text.Quit):
         _, legs = Proxy(0, config, 1).issue(at, request)
     lines = [f"leg {place} {leg.side} {leg.node}" for place, leg in enumerate(legs)]
-    return 0, encoded([f"phase {config.schedule.phase(at)} at {at}", *lines])
+    return 0, encoded([f"phase {standing_text(config.schedule, at)} at {at}", *lines])
 
 
 def timeline(words, files, _):
@@ -83,19 +83,38 @@ def readings_of(word):
     return [int(member) for member in members]
 
 
+def standing_text(schedule, reading):
+    """The phase of a reading, and of which hop it is where there is more than one."""
+    hop, phase = schedule.standing(reading)
+    return f"{phase} of hop {hop}" if len(schedule.hops) > 1 else phase
+
+
 def span_lines(schedule):
-    firsts = [0, *schedule.bounds()]
-    spans = [f"{phase} {first} {behind - 1}" for phase, first, behind in zip(PHASES, firsts, firsts[1:])]
-    if schedule.start == 0:
-        spans[0] = f"{PHASES[0]} none"
-    return [*spans, f"{PHASES[-1]} {firsts[-1]}"]
+    """The phases of each hop in order. Before the first start there is an old-only, which is the first hop's; the new-only of a
+    hop lasts until the next one starts."""
+    lines = []
+    for number, hop in enumerate(schedule.hops):
+        followers = [then.start for then in schedule.hops[number + 1:]]
+        bounds = [*([0] if number == 0 else []), *hop.bounds(), *followers[:1]]
+        phases = PHASES if number == 0 else PHASES[1:]
+        before = f"hop {number} " if len(schedule.hops) > 1 else ""
+        lines += [f"{before}{phase} {span}" for phase, span in zip(phases, spans(bounds, not followers))]
+    return lines
+
+
+def spans(bounds, is_open):
+    """The first and the last reading from each bound on to before the next one, or `none`; from the last bound on, if that is open,
+    only the first."""
+    told = ["none" if first == behind else f"{first} {behind - 1}" for first, behind in zip(bounds, bounds[1:])]
+    return [*told, str(bounds[-1])] if is_open else told
 
 
 def advice_lines(schedule, readings):
-    lines = [f"reading {place} {reading} {schedule.phase(reading)}" for place, reading in enumerate(readings)]
+    lines = [f"reading {place} {reading} {standing_text(schedule, reading)}" for place, reading in enumerate(readings)]
     apart = spread(readings)
-    told = "ok" if apart <= schedule.interval else "too far"
-    return [*lines, f"spread {apart} allowed {schedule.interval} {told}"]
+    allowed = schedule.least_interval()
+    told = "ok" if apart <= allowed else "too far"
+    return [*lines, f"spread {apart} allowed {allowed} {told}"]
 
 
 def run(words, files, stdin):

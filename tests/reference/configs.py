@@ -1,11 +1,11 @@
-"""Configurations: which pools a migration joins, when, and by which hash. Written from docs/FORMATS.md, "Configurations".
+"""Configurations: which pools migrations join, when, and by which hash. Written from docs/FORMATS.md, "Configurations".
 
 The checks stand in the order of that page.
 """
-from typing import NamedTuple
+from typing import List, NamedTuple
 
 from . import fields, json_text, refusals
-from .phases import Schedule
+from .phases import MOST_HOPS, Hop, Schedule
 from .pools import HASHES, Routing, are_pool
 
 POINTER = "PoolRoute|"
@@ -18,6 +18,12 @@ class Config(NamedTuple):
     schedule: Schedule
 
 
+class Chain(NamedTuple):
+    """What a route says: the pools in order, and the hops from each to the next."""
+    pools: List[tuple]
+    hops: List[Hop]
+
+
 def read_config(data):
     fields.check_size(data)
     return config_of(json_text.read(data))
@@ -26,15 +32,17 @@ def read_config(data):
 def config_of(value):
     fields.check_object(value, ("pools", "route"), ("hash",))
     pools = pools_of(value["pools"])
-    old, new, schedule = route_of(value["route"], pools)
+    chain = route_of(value["route"], pools, MOST_HOPS)
+    schedule = Schedule(tuple(chain.hops))
     if not schedule.is_possible():
         raise refusals.plan("BadSchedule")
     name = value.get("hash", USUAL_HASH)
     if type(name) is not str or name not in HASHES:
         raise refusals.plan("BadHash")
-    if set(old) & set(new):
+    routing = Routing(tuple(chain.pools), name)
+    if not routing.is_apart():
         raise refusals.plan("BadPool")
-    return Config(Routing(old, new, name), schedule)
+    return Config(routing, schedule)
 
 
 def pools_of(value):
@@ -51,13 +59,23 @@ def pool_of(value):
     return tuple(names)
 
 
-def route_of(value, pools):
-    if type(value) is not dict or value.get("type") != "MigrateRoute":
+def route_of(value, pools, most):
+    """The chain of a route that may hold as many objects as `most` says, itself the first of them."""
+    if most == 0 or type(value) is not dict or value.get("type") != "MigrateRoute":
         raise refusals.plan("BadRoute")
     fields.check_keys(value, ("type", "from", "to", "start_time"), ("interval",))
-    old, new = pool_behind(value["from"], pools), pool_behind(value["to"], pools)
+    before = chain_before(value["from"], pools, most - 1)
+    new = pool_behind(value["to"], pools)
     start = fields.number(value["start_time"])
-    return old, new, Schedule(start, fields.number(value.get("interval", USUAL_INTERVAL)))
+    hop = Hop(start, fields.number(value.get("interval", USUAL_INTERVAL)))
+    return Chain([*before.pools, new], [*before.hops, hop])
+
+
+def chain_before(value, pools, most):
+    """What a route goes on from: a pool, or where another route has come to."""
+    if type(value) is dict:
+        return route_of(value, pools, most)
+    return Chain([pool_behind(value, pools)], [])
 
 
 def pool_behind(value, pools):

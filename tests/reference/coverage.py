@@ -1,16 +1,19 @@
 """What drawn cases come to, counted, so that a generator that no longer comes to a line is noticed: on that line the reference
 would agree with any program.
 """
+import json
 import re
 
 from .history import ACKNOWLEDGES
-from .phases import PHASES
+from .phases import MOST_HOPS, PHASES
 from .refusals import NUMBERS
+from .scripts import setup_of
 from .transcripts import DIFFERENCES
 
 # What reads a configuration is one kind of command, whichever it is.
 READS = {"plan": "configuration", "timeline": "configuration", "run": "script", "check": "transcript"}
 
+PREMISES = ("same", "new_empty", "forward", "near")
 PLAN_REFUSALS = list(NUMBERS["plan"])
 CONFIG_REFUSALS = PLAN_REFUSALS[: PLAN_REFUSALS.index("BadHash") + 1]
 SCRIPT_REFUSALS = [name for name in PLAN_REFUSALS if name != "EventRefused"]
@@ -52,27 +55,49 @@ def fault_kind(command, line):
 
 def kinds_of_plan(output):
     first, *legs = output.decode().splitlines()
-    yield f"plan: {first.split(' ')[1]}"
+    yield f"plan: {re.fullmatch('phase (.*) at [0-9]+', first)[1]}"
     yield f"plan: {min(len(legs), 3)} legs"
 
 
 def kinds_of_timeline(output):
     for line in output.decode().splitlines():
-        first, *_, last = line.split(" ")
-        if first in ("reading", "spread"):
-            yield f"timeline: {first} {last}"
-        elif last == "none":
-            yield f"timeline: {first} none"
+        words = line.split(" ")
+        if words[0] == "reading":
+            yield f"timeline: reading {' '.join(words[3:])}"
+        elif words[0] == "spread":
+            yield f"timeline: spread {words[-1]}"
+        elif words[-1] == "none":
+            yield f"timeline: {words[-2]} none"
 
 
 def kinds_of_transcript(output):
     verdict = "safe" if output.endswith(b'"verdict":"safe"}\n') else "stale"
     yield f"run: {verdict}"
+    yield from kinds_of_hops(json.loads(output))
     for name, mark in PLAY_MARKS.items():
         if mark in output:
             yield f"run: {name}"
     if PLAY_MARKS["a hit"] in output:
         yield f"run: {verdict} with a hit"
+
+
+def kinds_of_hops(transcript):
+    """In how many hops requests were asked, by the clocks of their proxies; and where one premise alone is false and a hit is stale,
+    in which hop its get was."""
+    proxies = setup_of(transcript["setup"]).proxies
+    readings = [proxy.reading for proxy in proxies]
+    hops = {}
+    for event, note in zip(transcript["events"], transcript["notes"]):
+        if event["do"] == "clock":
+            readings[event["proxy"]] = event["reading"]
+        elif event["do"] == "client":
+            proxy = event["proxy"]
+            hops[tuple(note["issued"])] = proxies[proxy].config.schedule.standing(readings[proxy]).hop
+    yield f"run: requests in {len(set(hops.values()))} hops"
+    broken = [name for name, holds in transcript["premises"].items() if not holds]
+    if "stale" in transcript["verdict"] and len(broken) == 1:
+        hop = hops[tuple(transcript["verdict"]["stale"]["get"])]
+        yield f"run: stale in hop {hop} where {broken[0]} alone is false"
 
 
 def kinds_of_check(output):
@@ -99,8 +124,10 @@ CHECK_LINES = [
     "check: not accepted: event N refused",
     "check: not accepted: premise false",
     *(f"check: not accepted: {difference}" for difference in DIFFERENCES),
-    *(f"check: {premise} {holds}" for premise in ("same", "new_empty", "forward", "near") for holds in ("true", "false")),
+    *(f"check: {premise} {holds}" for premise in PREMISES for holds in ("true", "false")),
 ]
+PLAY_LINES = ["run: safe", "run: safe with a hit", "run: stale", *(f"run: {name}" for name in PLAY_MARKS)]
+STANDINGS = [PHASES[0] + " of hop 0", *(f"{phase} of hop {hop}" for hop in range(MOST_HOPS) for phase in PHASES[1:])]
 OFTEN_REFUSED = ("NotJson", "WrongKind", "MissingKey", "UnknownKey", "BadPool", "BadRoute", "BadEvent")
 # What two thousand cases of each sort come to.
 EXPECTED = {
@@ -117,10 +144,22 @@ EXPECTED = {
         "timeline: spread ok",
         "timeline: spread far",
         f"timeline: {PHASES[0]} none",
-        "run: safe",
-        "run: safe with a hit",
-        "run: stale",
-        *(f"run: {name}" for name in PLAY_MARKS),
+        *PLAY_LINES,
+        *CHECK_LINES,
+    ],
+    "chain": [
+        *CONFIG_LINES,
+        *(f"{what}: {line_of('plan', name)}" for what in ("script", "transcript") for name in SCRIPT_REFUSALS),
+        f"script: {line_of('plan', 'EventRefused')}",
+        *(f"plan: {standing}" for standing in STANDINGS),
+        *(f"timeline: reading {standing}" for standing in STANDINGS),
+        "timeline: spread ok",
+        "timeline: spread far",
+        f"timeline: {PHASES[0]} none",
+        f"timeline: {PHASES[-1]} none",
+        *PLAY_LINES,
+        *(f"run: requests in {count} hops" for count in (1, 2, 3)),
+        *(f"run: stale in hop {hop} where {premise} alone is false" for hop in range(MOST_HOPS) for premise in PREMISES),
         *CHECK_LINES,
     ],
     "transcript": [*(f"transcript: {line_of('plan', name)}" for name in OFTEN_REFUSED), *CHECK_LINES],

@@ -30,11 +30,19 @@ HASHES = {"sum": sum_hash, "fnv1a32": fnv1a32}
 
 
 class Routing(NamedTuple):
-    """The nodes of both pools by name, in order, and the name of the hash."""
-    old: Tuple[str, ...]
-    new: Tuple[str, ...]
+    """The nodes of each pool by name, in order, and the name of the hash."""
+    pools: Tuple[Tuple[str, ...], ...]
     hash: str
 
-    def node(self, side, key):
-        pool = self.old if side == "old" else self.new
+    def nodes(self):
+        """The nodes of all pools, the first pool's first."""
+        return [name for pool in self.pools for name in pool]
+
+    def is_apart(self):
+        """Whether no node stands in two pools."""
+        return len(set(self.nodes())) == len(self.nodes())
+
+    def node(self, number, key):
+        """The node of a key in the pool of a number."""
+        pool = self.pools[number]
         return pool[HASHES[self.hash](key) % len(pool)]

@@ -6,7 +6,7 @@ from typing import NamedTuple
 
 from . import text
 from .nodes import Look, Reply
-from .phases import DELETE_SIDES, READ_SIDE
+from .phases import DELETE_SIDES, READ_SIDE, pool_number
 
 LOST = Reply("lost")
 BADNESS = {"hit": 0, "miss": 0, "stored": 0, "deleted": 0, "not_found": 1, "lost": 2}
@@ -69,18 +69,19 @@ class Proxy:
         self.last_reading = max(reading, self.last_reading)
         op = self.number, self.incarnation, self.next_number
         self.next_number += 1
-        legs = self.legs_of(request, self.config.schedule.phase(self.last_reading))
+        legs = self.legs_of(request, self.config.schedule.standing(self.last_reading))
         self.pending[op] = Pending(request, legs)
         return op, legs
 
-    def legs_of(self, request, phase):
+    def legs_of(self, request, standing):
+        hop, phase = standing
         if isinstance(request, text.Delete):
-            return [self.leg(side, request) for side in DELETE_SIDES[phase]]
+            return [self.leg(hop, side, request) for side in DELETE_SIDES[phase]]
         commands = map(Look, request.keys) if isinstance(request, text.Get) else [request]
-        return [self.leg(READ_SIDE[phase], command) for command in commands]
+        return [self.leg(hop, READ_SIDE[phase], command) for command in commands]
 
-    def leg(self, side, command):
-        return Leg(side, self.config.routing.node(side, command.key), command)
+    def leg(self, hop, side, command):
+        return Leg(side, self.config.routing.node(pool_number(hop, side), command.key), command)
 
     def take(self, op, place, reply):
         """What comes of a reply: `stranger` where no open leg awaits it, `waiting` for others, or the answer to the request."""

@@ -89,7 +89,7 @@ def setup_of(value):
     config = config_of(value["config"])
     held = [held_item(item) for item in fields.array(value["held"])]
     proxies = [proxy_setup(proxy, config) for proxy in fields.array(value["proxies"])]
-    nodes = {name for proxy in proxies for pool in proxy.config.routing[:2] for name in pool}
+    nodes = {name for proxy in proxies for name in proxy.config.routing.nodes()}
     if any(item.node not in nodes for item in held) or proxies and capacity == 0:
         raise refusals.plan("BadSetup")
     return Setup(capacity, held, proxies)

@@ -27,7 +27,7 @@ class World:
         self.setup = setup
         self.readings = [proxy.reading for proxy in setup.proxies]
         self.proxies = [Proxy(number, it.config, it.room) for number, it in enumerate(setup.proxies)]
-        self.nodes = {name: Node(setup.capacity) for it in setup.proxies for pool in it.config.routing[:2] for name in pool}
+        self.nodes = {name: Node(setup.capacity) for it in setup.proxies for name in it.config.routing.nodes()}
         self.messages = []
         self.deliveries = []
         self.history = []
@@ -97,8 +97,8 @@ class World:
     def premises(self):
         """The four premises of the headline, of the setup and of the events so far."""
         configs = [proxy.config for proxy in self.setup.proxies]
-        new_nodes = {name for config in configs for name in config.routing.new}
-        least = min((config.schedule.interval for config in configs), default=0)
+        new_nodes = {name for config in configs for pool in config.routing.pools[1:] for name in pool}
+        least = min((config.schedule.least_interval() for config in configs), default=0)
         return {
             "same": all(config == configs[0] for config in configs),
             "new_empty": not any(item.node in new_nodes for item in self.setup.held),

@@ -8,11 +8,11 @@ import functools
 import itertools
 import json
 import pathlib
-import random
 from typing import List, NamedTuple
 
 from . import configs, fleets
 from .every_change import Place, changed, changes_at, places
+from .sources import Source
 from .spelling import compact, spelled
 
 EXAMPLES = pathlib.Path(__file__).resolve().parents[3] / "examples"
@@ -26,7 +26,7 @@ class Original(NamedTuple):
 
 
 def altered(source, originals, index):
-    """The name of the change that comes at an index, and the bytes of the text that it was made in."""
+    """The name of the change that comes at an index, the bytes of the text that it was made in, and the value that this said."""
     turn, of_text = divmod(index, len(originals))
     original = originals[of_text]
     rounds, at = divmod(turn, len(original.places))
@@ -35,19 +35,19 @@ def altered(source, originals, index):
     change = changes[(at + rounds) % len(changes)]
     value = changed(source, original.value, place, change)
     text = spelled(source, value) if source.random() < 0.2 else compact(value).encode()
-    return f"{change.__name__} at {place} of {original.name}", text
+    return f"{change.__name__} at {place} of {original.name}", text, original.value
 
 
 @functools.lru_cache(maxsize=None)
 def transcripts(seed):
-    drawn = [(f"play {place}", fleets.drawn_fleet(random.Random(f"{seed} play {place}")).transcript()) for place in range(DRAWN)]
+    drawn = [(f"play {place}", fleets.drawn_fleet(Source(f"{seed} play {place}")).transcript()) for place in range(DRAWN)]
     return originals(seed, examples("*.transcript.json") + drawn)
 
 
 @functools.lru_cache(maxsize=None)
 def configurations(seed):
-    drawn = [(f"fleet {place}", configs.valid_config(random.Random(f"{seed} fleet {place}"))) for place in range(DRAWN)]
-    return originals(seed, examples("fleet.json") + drawn)
+    drawn = [(f"fleet {place}", configs.valid_config(Source(f"{seed} fleet {place}"))) for place in range(DRAWN)]
+    return originals(seed, examples("fleet.json") + examples("chain.json") + drawn)
 
 
 def examples(pattern):
@@ -55,7 +55,7 @@ def examples(pattern):
 
 
 def originals(seed, named):
-    return [Original(name, value, mixed(random.Random(f"{seed} places {name}"), places(value))) for name, value in named]
+    return [Original(name, value, mixed(Source(f"{seed} places {name}"), places(value))) for name, value in named]
 
 
 def mixed(source, found):

@@ -1,13 +1,22 @@
 """Configurations: valid ones, and what is wrong with others."""
+import copy
+import itertools
+
+from ..configs import POINTER, USUAL_INTERVAL, read_config
+from ..phases import GREATEST, MOST_HOPS, Hop
 from .alterations import OTHER_KINDS, alter, altered_bytes, pick
 from .spelling import Raw, compact, nested, spelled, twice
 
-GREATEST = 2**64 - 1
 TOO_LARGE = b" " * (16_777_216 + 1)
 # Also shortly before as many seconds as an exptime may count, and before the end of time.
 STARTS = (0, 1, 1000, 1000, 2_591_950, 1_700_000_000, GREATEST - 200, GREATEST - 7200)
 INTERVALS = (1, 2, 100, 100, 3600)
-POOL_NAMES = (("old", "new"), ("old", "new"), ("a", "b"), ("", "|"), ("\u00e9\u4e2d", "PoolRoute|"), ("new", "old"), ("Z", "a"))
+PAUSES = (0, 0, 0, 1, 2, 100)  # between two hops
+USUAL_HOPS = (Hop(1000, 100),)
+# As many as the longest chain goes through, in order.
+POOL_NAMES = (*[("old", "new", "third", "fourth", "last")] * 2, ("a", "b", "c", "d", "e"), ("", "|", "||", " ", "PoolRoute|"),
+              ("\u00e9\u4e2d", "PoolRoute", "\U0001f600", "servers", "from"), ("new", "old", "c", "b", "a"),
+              ("Z", "a", "A", "z", "_"))
 UNUSED = (*[{"servers": ["9001", "9002"]}] * 6, {"servers": ["7001"]}, {"servers": [str(number) for number in range(1024)]})
 NOT_NUMBERS = (None, True, "1000", [1000], {}, -1, Raw("1000.0"), Raw("1e3"), Raw("-0"), Raw("18446744073709551616"), Raw("0.5"))
 BAD_NAMES = ("", "a,b", "a b", "\u00e9", "x" * 256, "\n", "\u007f", "7001\u0000", "\U0001f600")
@@ -37,62 +46,119 @@ def names(source, count):
 
 
 def migration(source, most_nodes=4):
-    """A small configuration by one of the usual schedules."""
-    sizes = source.randint(1, most_nodes), source.randint(1, most_nodes)
-    nodes = names(source, sum(sizes))
-    old, new = source.choice(POOL_NAMES)
-    start = source.choice(STARTS)
+    """A small configuration by one of the usual schedules, of as many hops as the source has it."""
+    hops = drawn_hops(source, source.choice(source.hops))
+    pools = source.choice(POOL_NAMES)[:len(hops) + 1]
+    sizes = [source.randint(1, most_nodes) for _ in pools]
+    nodes = iter(names(source, sum(sizes)))
+    route = POINTER + pools[0]
+    for name, hop in zip(pools[1:], hops):
+        route = route_by(hop, route, POINTER + name)
     return {
         "hash": source.choice(("sum", "fnv1a32")),
-        "pools": {old: {"servers": nodes[:sizes[0]]}, new: {"servers": nodes[sizes[0]:]}},
-        "route": {"type": "MigrateRoute", "from": f"PoolRoute|{old}", "to": f"PoolRoute|{new}",
-                  "start_time": start, "interval": min(source.choice(INTERVALS), (GREATEST - start) // 2)},
+        "pools": {name: {"servers": list(itertools.islice(nodes, size))} for name, size in zip(pools, sizes)},
+        "route": route,
     }
 
 
-def reading_about(source, start, interval):
-    """A reading about one of the bounds of a migration."""
-    bound = start + source.randrange(3) * interval
+def route_by(hop, old, new):
+    return {"type": "MigrateRoute", "from": old, "to": new, "start_time": hop.start, "interval": hop.interval}
+
+
+def drawn_hops(source, count):
+    """So many hops in a row, mostly of one interval, each no sooner than the one before has ended."""
+    found = []
+    start, usual = source.choice(STARTS), source.choice(INTERVALS)
+    for left in range(count, 0, -1):
+        interval = usual if source.random() < 0.7 else source.choice(INTERVALS)
+        hop = Hop(start, min(interval, (GREATEST - start) // (2 * left)))
+        found.append(hop)
+        start = hop.end() + min(source.choice(PAUSES), GREATEST - hop.end() - 2 * (left - 1))
+    return found
+
+
+def reading_about(source, hops):
+    """A reading about one of the bounds of some migrations."""
+    bound = source.choice(source.choice(hops).bounds())
     return min(max(bound + source.choice((-101, -1, 0, 0, 1, 50)), 0), GREATEST)
 
 
-def span_of(config):
-    """The start and the interval of a valid configuration."""
-    interval = config["route"].get("interval", 3600)
-    return config["route"]["start_time"], interval if isinstance(interval, int) else 50
+def hops_of(config):
+    """The hops of a valid configuration."""
+    return read_config(compact(config).encode()).schedule.hops
+
+
+def places_of_routes(config):
+    """Where the routes of a configuration stand, that of the first hop first: in which object, and behind which key."""
+    places = []
+    within, key = config, "route"
+    while isinstance(within[key], dict):
+        places.insert(0, (within, key))
+        within, key = within[key], "from"
+    return places
+
+
+def routes_of(config):
+    return [within[key] for within, key in places_of_routes(config)]
+
+
+def some_route(source, config):
+    return source.choice(routes_of(config))
+
+
+def ends_of(config):
+    """Where the pools of a route are named, the first pool first: in which object, and behind which key."""
+    routes = routes_of(config)
+    return [(routes[0], "from"), *((route, "to") for route in routes)]
+
+
+def end_of(route):
+    """When the hop of a route is over."""
+    return route["start_time"] + 2 * route.get("interval", USUAL_INTERVAL)
 
 
 def valid_config(source):
     """A configuration that is accepted, at some limit of what may stand in it now and then."""
     config = migration(source)
-    route = config["route"]
     for change in source.sample(VALID_CHANGES, source.randrange(3)):
-        change(source, config, route)
+        change(source, config)
     return config
 
 
-def has_no_hash(_, config, __):
+def has_no_hash(_, config):
     config.pop("hash", None)
 
 
-def has_no_interval(_, __, route):
-    route.pop("interval", None)
-    route["start_time"] = min(route["start_time"], GREATEST - 7200)
+def has_no_interval(_, config):
+    """The last hop has no interval, nor has another that is as long as one without."""
+    *others, last = routes_of(config)
+    latest = GREATEST - 2 * USUAL_INTERVAL
+    if not others:
+        last["start_time"] = min(last["start_time"], latest)
+    if last["start_time"] <= latest:
+        for route in (last, *(route for route in others if route.get("interval") == USUAL_INTERVAL)):
+            route.pop("interval", None)
 
 
-def is_over_at_the_end(source, _, route):
-    interval = route["interval"] = source.choice((1, 100, 3600, 2**62, 2**63 - 1))
-    route["start_time"] = GREATEST - 2 * interval - source.choice((0, 0, 1))
+def is_over_at_the_end(source, config):
+    *others, last = routes_of(config)
+    interval = source.choice((1, 100, 3600, 2**62, 2**63 - 1))
+    start = GREATEST - 2 * interval - source.choice((0, 0, 1))
+    if not others or end_of(others[-1]) <= start:
+        last.update(start_time=start, interval=interval)
 
 
-def has_a_further_pool(source, config, _):
+def has_a_further_pool(source, config):
     config["pools"][source.choice(("unused", "0", "\u00ff"))] = pick(source, UNUSED)
 
 
-def has_keys_twice(_, config, route):
+def has_keys_twice(_, config):
+    *others, last = routes_of(config)
     config["hash"] = twice("hash", "md5", "sum")
-    route["interval"] = twice("interval", None, 50)
-    route["start_time"] = 500
+    if not others:
+        last["start_time"] = 500
+    if last["start_time"] <= GREATEST - 100:
+        last["interval"] = twice("interval", None, 50)
 
 
 VALID_CHANGES = (has_no_hash, has_no_interval, is_over_at_the_end, has_a_further_pool, has_keys_twice)
@@ -127,8 +193,8 @@ def broken(source, config, fault):
         return config
 
 
-def altered_config(source):
-    config = valid_config(source)
+def altered_text(source, config):
+    """The bytes of a configuration that is changed in one place, which may leave it as good as before."""
     if source.random() < 0.3:
         return altered_bytes(source, spelled(source, config))
     alter(source, config)
@@ -152,26 +218,27 @@ def is_of_another_kind(source, config):
         others = None, {}, "7001", 7001, [7001], ["7001", None], [["7001"]], ["7001", True]
         some_pool(source, config)["servers"] = source.choice(others)
     else:
-        config["route"][source.choice(("start_time", "interval"))] = pick(source, NOT_NUMBERS)
+        some_route(source, config)[source.choice(("start_time", "interval"))] = pick(source, NOT_NUMBERS)
     return config
 
 
 def has_an_unknown_key(source, config):
-    within = source.choice((config, config["route"], some_pool(source, config)))
+    within = source.choice((config, some_route(source, config), some_pool(source, config)))
     key = source.choice(("Hash", "weights", "protocol", "", "servers ", "\u00e9", "format"))
     within[key] = pick(source, (*OTHER_KINDS, nested(123), nested(124), nested(125), nested(126), nested(127)))
 
 
 def lacks_a_key(source, config):
+    route = some_route(source, config)
     within, key = source.choice((
-        (config, "pools"), (config, "route"), (some_pool(source, config), "servers"), (config["route"], "from"),
-        (config["route"], "to"), (config["route"], "start_time")))
+        (config, "pools"), (config, "route"), (some_pool(source, config), "servers"), (route, "from"), (route, "to"),
+        (route, "start_time")))
     del within[key]
 
 
 def has_a_bad_pool(source, config):
     pool = some_pool(source, config)
-    shape = source.randrange(5)
+    shape = source.randrange(6)
     if shape == 0:
         pool["servers"].insert(source.randrange(len(pool["servers"]) + 1), source.choice(BAD_NAMES))
     elif shape == 1:
@@ -181,7 +248,7 @@ def has_a_bad_pool(source, config):
     elif shape == 3:
         pool["servers"] += pool["servers"][:1]
     else:
-        first, second, *_ = config["pools"].values()
+        first, second = source.sample(list(config["pools"].values()), 2)
         second["servers"].append(first["servers"][0])
 
 
@@ -200,26 +267,49 @@ def has_bad_pools(source, config):
 
 
 def has_a_bad_route(source, config):
-    route = config["route"]
-    shape = source.randrange(4)
+    within, place = source.choice(places_of_routes(config))
+    route = within[place]
+    shape = source.randrange(5)
     if shape == 0:
-        config["route"] = source.choice((None, [], "MigrateRoute", 1, [route], {}))
+        within[place] = source.choice((None, [], "MigrateRoute", 1, [route], {}))
     elif shape == 1:
         route["type"] = source.choice(("PrefixSelectorRoute", "migrateroute", "MigrateRoute ", None, 1, ["MigrateRoute"]))
     elif shape == 2:
         route.pop("type")
+    elif shape == 3:
+        route["to"] = pick(source, (route, config["route"]["from"], {**route, "from": route["to"]}))
     else:
         key = source.choice(("from", "to"))
         others = "old", "PoolRoute|", "PoolRoute|none", "poolroute|old", "PoolRoute", "", None, 1, {}, dict(route), [route[key]]
         route[key] = source.choice(others)
 
 
-def points_to_one_pool_twice(_, config):
-    config["route"]["to"] = config["route"]["from"]
+def has_too_many_routes(source, config):
+    """A route from a route, and so on: the fifth may be none."""
+    pointers = [within[key] for within, key in ends_of(config)]
+    fifth = routes_of(config)[0]
+    count = source.choice((MOST_HOPS + 1, MOST_HOPS + 1, MOST_HOPS + 2, 60))
+    while len(routes_of(config)) < count:
+        config["route"] = route_by(Hop(end_of(config["route"]), 1), config["route"], source.choice(pointers))
+    change = source.randrange(4)
+    if change == 0:
+        fifth["weights"] = []
+    elif change == 1:
+        del fifth[source.choice(list(fifth))]
+    elif change == 2:
+        fifth[source.choice(list(fifth))] = None
+
+
+def points_to_one_pool_twice(source, config):
+    (within, key), (other, its_key) = source.sample(ends_of(config), 2)
+    within[key] = copy.deepcopy(other[its_key])
 
 
 def has_a_bad_schedule(source, config):
-    route = config["route"]
+    *before, route = routes_of(config)[:source.randint(1, len(routes_of(config)))]
+    if before and source.random() < 0.6:
+        route["start_time"] = max(end_of(before[-1]) - source.choice((1, 1, 2, before[-1]["interval"], 2**64)), 0)
+        return
     interval = source.choice((0, 0, 1, 100, 2**63, GREATEST, 2**63 - 1))
     route["interval"] = interval
     if interval in (1, 100, 2**63 - 1):
@@ -234,5 +324,5 @@ def has_a_bad_hash(source, config):
 
 
 # What no other JSON has; a configuration within a script is mostly broken in one of these ways.
-FAULTS_OF_ITS_OWN = (has_a_bad_pool, has_a_bad_route, has_a_bad_schedule, has_a_bad_hash)
+FAULTS_OF_ITS_OWN = (has_a_bad_pool, has_a_bad_route, has_too_many_routes, has_a_bad_schedule, has_a_bad_hash)
 FAULTS = (is_of_another_kind, has_an_unknown_key, lacks_a_key, has_bad_pools, points_to_one_pool_twice, *FAULTS_OF_ITS_OWN)

@@ -4,11 +4,12 @@ A script is drawn event by event beside a fleet that plays it, so that what an e
 """
 from ..history import judge
 from ..nodes import moment_of
+from ..phases import GREATEST
 from ..scripts import event_of, setup_of
 from ..transcripts import Play
 from ..worlds import World
-from .configs import GREATEST, migration, reading_about
-from .setups import DATA, FLAGS, KEYS, drawn_setup
+from .configs import migration, reading_about
+from .setups import DATA, FLAGS, KEYS, Odds, drawn_setup
 
 EXPTIMES = (0, 1, 2, 100, 2592000, 2592001, -1, 2**63 - 1, -(2**63))
 MOMENTS = (0, 1, 2592000, 2592001, GREATEST - 1, GREATEST)
@@ -200,25 +201,74 @@ class Fleet:
     def set_clock(self):
         """A clock shows any reading about the bounds of its schedule, forth or back."""
         proxy = self.some_proxy()
-        schedule = self.world.setup.proxies[proxy].config.schedule
-        self.happen(do="clock", proxy=proxy, reading=reading_about(self.source, *schedule))
+        self.happen(do="clock", proxy=proxy, reading=reading_about(self.source, self.hops(proxy)))
+
+    def go_on(self, bounds=1):
+        """Time goes on everywhere to about the next bound of a schedule, or over so many."""
+        readings = self.world.readings
+        hops = self.hops(self.some_proxy())
+        ahead = [bound for hop in hops for bound in hop.bounds() if bound > max(readings)]
+        for bound in ahead[bounds - 1:bounds] or ahead[-1:]:
+            self.bring_to(min(bound + self.source.choice((-1, 0, 0, 1, 50)), GREATEST))
+
+    def bring_to(self, aim):
+        """Each clock is brought to a reading, in turn the one that is furthest from it, so that no two are further apart than a least
+        interval if they weren't before. Where that would take many steps, only the first of them are made."""
+        readings = self.world.readings
+        least = min(hop.interval for hop in self.hops(0))
+        for _ in range(6 * len(readings)):
+            is_late = min(readings) < aim
+            proxy = readings.index(min(readings) if is_late else max(readings))
+            if readings[proxy] == aim:
+                return
+            others = readings[:proxy] + readings[proxy + 1:] or [aim]
+            reading = min(aim, min(others) + least) if is_late else max(aim, max(others) - least)
+            self.happen(do="clock", proxy=proxy, reading=reading)
+
+    def outlive(self):
+        """A key that some node may hold is deleted, and asked for when time has gone on."""
+        key = self.source.choice([item["key"] for item in self.setup["held"]] or self.keys)
+        self.complete(self.some_proxy(), self.delete(key))
+        self.go_on(self.source.choice((1, 2, 3)))
+        self.complete(self.some_proxy(), self.get(key))
+
+    def go_back(self):
+        """A key is set, deleted when time has gone on, and asked for through a restarted proxy when all clocks were set back."""
+        key = self.source.choice(self.keys)
+        proxy = self.some_proxy()
+        reading = self.world.readings[proxy]
+        self.complete(proxy, {**self.set(key), "exptime": 0})
+        self.go_on(self.source.choice((2, 3)))
+        self.complete(self.some_proxy(), self.delete(key))
+        self.bring_to(reading)
+        self.happen(do="proxy_restart", proxy=proxy)
+        self.complete(proxy, self.get(key))
+
+    def hops(self, proxy):
+        return self.world.setup.proxies[proxy].config.schedule.hops
 
 
 # How often each of these comes, by how a fleet fares.
-STEADY = {Fleet.do_wholly: 5, Fleet.look_again: 2, Fleet.bring_back: 1, Fleet.let_expire: 1, Fleet.move_clocks: 1}
+STEADY = {Fleet.do_wholly: 5, Fleet.look_again: 2, Fleet.bring_back: 1, Fleet.let_expire: 1, Fleet.move_clocks: 1,
+          Fleet.go_on: 1}
 LOSSY = {Fleet.do_wholly: 3, Fleet.look_again: 2, Fleet.do_part: 3, Fleet.deliver_some: 4, Fleet.return_some: 4,
          Fleet.lose_one: 1, Fleet.set_meanwhile: 1, Fleet.give_up_some: 1, Fleet.restart_node: 1, Fleet.restart_proxy: 1,
-         Fleet.move_clocks: 1}
+         Fleet.move_clocks: 1, Fleet.go_on: 1}
 WILD = {**LOSSY, Fleet.bring_back: 6, Fleet.set_meanwhile: 2, Fleet.set_clock: 3}
-TELLING = {Fleet.bring_back: 3, Fleet.set_meanwhile: 2, Fleet.do_wholly: 1, Fleet.set_clock: 1}
+TELLING = {Fleet.bring_back: 3, Fleet.set_meanwhile: 2, Fleet.do_wholly: 1, Fleet.set_clock: 1, Fleet.go_on: 1}
+CROSSING = {Fleet.go_on: 2, Fleet.outlive: 2, Fleet.go_back: 1, Fleet.bring_back: 2, Fleet.do_wholly: 1}
 CROWDED = {Fleet.fill_up: 1, Fleet.do_wholly: 1, Fleet.let_expire: 1}
-FARES = (STEADY, STEADY, LOSSY, LOSSY, WILD, WILD, TELLING, TELLING, TELLING, CROWDED)
+USUAL = Odds()
+FAR = Odds(near=0.2)
+ODD = Odds(own=0.4, any_pool=0.6)
+FARES = (*[(STEADY, USUAL)] * 2, *[(LOSSY, USUAL)] * 2, *[(WILD, FAR)] * 2, *[(TELLING, FAR)] * 3, *[(CROSSING, ODD)] * 2,
+         (CROWDED, USUAL))
 
 
 def drawn_fleet(source):
     """A fleet to which 5 to 60 events or a few more have happened."""
-    fare = source.choice(FARES)
-    fleet = Fleet(source, drawn_setup(source, fare not in (WILD, TELLING), fare is CROWDED))
+    fare, odds = source.choice(FARES)
+    fleet = Fleet(source, drawn_setup(source, odds, fare is CROWDED))
     count = source.choice((5, 15, 30, 45, 60))
     actions, weights = list(fare), list(fare.values())
     while len(fleet.events) < count:

@@ -1,5 +1,5 @@
 """What a fleet's script may end with: an event that is refused, or one of the greatest size."""
-from .configs import GREATEST
+from ..phases import GREATEST
 
 SMALL_ROOM = 4
 
