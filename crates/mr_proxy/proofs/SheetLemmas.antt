@@ -79,49 +79,43 @@ target_in sides (command ∷ commands) k target e =
     ]
 
 -- the sheet of a place is that of the target there
-record IsSheetIn (routing : RoutingView) (op : OpId) (first : ℕ) (targets : List Target) (k : ℕ) (sheet : LegSheet) : Type 0 where
+record IsSheetIn (routing : RoutingView) (hop : ℕ) (op : OpId) (first : ℕ) (targets : List Target) (k : ℕ) (sheet : LegSheet) : Type 0 where
   target : Target
   there : slice_get targets k ≡ Some target
-  is : sheet ≡ sheet_at routing op (first + k) target
+  is : sheet ≡ sheet_at routing hop op (first + k) target
 
-sheet_in : (routing : RoutingView) (op : OpId) (first : ℕ) (targets : List Target) (k : ℕ) (sheet : LegSheet)
-    → slice_get (sheets_from routing op first targets) k ≡ Some sheet → IsSheetIn routing op first targets k sheet
-sheet_in routing op first [] k sheet e = cc
-sheet_in routing op first (target ∷ targets) zero sheet e =
-    let same : sheet_at routing op first target ≡ sheet = cc in
+sheet_in : (routing : RoutingView) (hop : ℕ) (op : OpId) (first : ℕ) (targets : List Target) (k : ℕ) (sheet : LegSheet)
+    → slice_get (sheets_from routing hop op first targets) k ≡ Some sheet → IsSheetIn routing hop op first targets k sheet
+sheet_in routing hop op first [] k sheet e = cc
+sheet_in routing hop op first (target ∷ targets) zero sheet e =
+    let same : sheet_at routing hop op first target ≡ sheet = cc in
     let none : first ≡ first + 0 = omega arith in
-    record { target = target; there = refl; is = sym same ∙ ap (λ n. sheet_at routing op n target) none }
-sheet_in routing op first (target ∷ targets) (suc k) sheet e =
-    let h = sheet_in routing op (first + 1) targets k sheet e in
+    record { target = target; there = refl; is = sym same ∙ ap (λ n. sheet_at routing hop op n target) none }
+sheet_in routing hop op first (target ∷ targets) (suc k) sheet e =
+    let h = sheet_in routing hop op (first + 1) targets k sheet e in
     let next : first + 1 + k ≡ first + suc k = omega arith in
-    record { target = h.target; there = h.there; is = h.is ∙ ap (λ n. sheet_at routing op n h.target) next }
+    record { target = h.target; there = h.there; is = h.is ∙ ap (λ n. sheet_at routing hop op n h.target) next }
 
-sheet_for : (routing : RoutingView) (op : OpId) (first : ℕ) (targets : List Target) (k : ℕ) (target : Target)
-    → slice_get targets k ≡ Some target → slice_get (sheets_from routing op first targets) k ≡ Some (sheet_at routing op (first + k) target)
-sheet_for routing op first [] k target e = cc
-sheet_for routing op first (t ∷ targets) zero target e =
+sheet_for : (routing : RoutingView) (hop : ℕ) (op : OpId) (first : ℕ) (targets : List Target) (k : ℕ) (target : Target)
+    → slice_get targets k ≡ Some target → slice_get (sheets_from routing hop op first targets) k ≡ Some (sheet_at routing hop op (first + k) target)
+sheet_for routing hop op first [] k target e = cc
+sheet_for routing hop op first (t ∷ targets) zero target e =
     let same : t ≡ target = cc in
     let none : first ≡ first + 0 = omega arith in
-    ap (λ u. Some (sheet_at routing op first u)) same ∙ ap (λ n. Some (sheet_at routing op n target)) none
-sheet_for routing op first (t ∷ targets) (suc k) target e =
+    ap (λ u. Some (sheet_at routing hop op first u)) same ∙ ap (λ n. Some (sheet_at routing hop op n target)) none
+sheet_for routing hop op first (t ∷ targets) (suc k) target e =
     let next : first + 1 + k ≡ first + suc k = omega arith in
-    sheet_for routing op (first + 1) targets k target e ∙ ap (λ n. Some (sheet_at routing op n target)) next
+    sheet_for routing hop op (first + 1) targets k target e ∙ ap (λ n. Some (sheet_at routing hop op n target)) next
 
 pub sheets_say_lem : (routing : RoutingView) (hops : List Hop) (op : OpId) (u : ℕ) (q : Request) (place : ℕ) (sheet : LegSheet)
     → slice_get (sheets_by routing hops op u q) place ≡ Some sheet → IsSheetOf routing hops op u q place sheet
 sheets_say_lem routing hops op u q place sheet e =
     let sides = sides_at hops (kind_of q) u in
-    let h = sheet_in routing op 0 (targets_of sides (commands_of q)) place sheet e in
+    let h = sheet_in routing (hop_of hops u) op 0 (targets_of sides (commands_of q)) place sheet e in
     let t = target_in sides (commands_of q) place h.target h.there in
     let zero_first : 0 + place ≡ place = omega arith in
-    subst (IsSheetOf routing hops op u q place) (sym (h.is ∙ ap (λ n. sheet_at routing op n h.target) zero_first))
-    (record { named = refl; node = refl; side = contains sides h.target.side t.side; command = contains (commands_of q) h.target.command t.command })
-
--- with one hop the pools are those of the hop 0
-first_hop : (hops : List Hop) (u : ℕ) (side : Side) → length hops ≡ 1 → pool_number (hop_of hops u) side ≡ pool_number 0 side
-first_hop [] u side one = cc
-first_hop (h ∷ []) u side one = refl
-first_hop (h ∷ g ∷ gs) u side one = absurd (omega arith)
+    subst (IsSheetOf routing hops op u q place) (sym (h.is ∙ ap (λ n. sheet_at routing (hop_of hops u) op n h.target) zero_first))
+    (record { named = refl; hop = refl; node = refl; side = contains sides h.target.side t.side; command = contains (commands_of q) h.target.command t.command })
 
 pub only : {X : Type 0} (y x : X) → Contains (y ∷ []) x → x ≡ y
 only y x h = only_at y x h.0 h.1 h.2
@@ -133,33 +127,32 @@ only y x h = only_at y x h.0 h.1 h.2
 mapped_in : {X Y : Type 0} (f : X → Y) (xs : List X) (x : X) → Contains xs x → Contains (map f xs) (f x)
 mapped_in f xs x h = let there = has xs x h in contains (map f xs) (f x) (record { place = there.place; there = get_map f xs there.place x there.there })
 
-read_side_goes : (hops : List Hop) (u : ℕ) (side : Side) → length hops ≡ 1 → Contains (read_side_of (phase_of hops u) ∷ []) side
-    → pool_number 0 side ≡ read_pool hops u
-read_side_goes hops u side one s = sym (first_hop hops u side one) ∙ ap (pool_number (hop_of hops u)) (only (read_side_of (phase_of hops u)) side s)
+read_side_goes : (hops : List Hop) (u : ℕ) (side : Side) → Contains (read_side_of (phase_of hops u) ∷ []) side
+    → pool_number (hop_of hops u) side ≡ read_pool hops u
+read_side_goes hops u side s = ap (pool_number (hop_of hops u)) (only (read_side_of (phase_of hops u)) side s)
 
-goes : (hops : List Hop) (u : ℕ) (q : Request) (side : Side) (command : NodeCommand) → length hops ≡ 1
-    → Contains (sides_at hops (kind_of q) u) side → Contains (commands_of q) command → GoesBy hops u (pool_number 0 side) command
-goes hops u (request.Get keys) side command one s c =
+goes : (hops : List Hop) (u : ℕ) (q : Request) (side : Side) (command : NodeCommand) → Contains (sides_at hops (kind_of q) u) side
+    → Contains (commands_of q) command → GoesBy hops u (pool_number (hop_of hops u) side) command
+goes hops u (request.Get keys) side command s c =
     let h = has (map Get keys) command c in
     let m = mapped Get keys h.place command h.there in
-    subst (GoesBy hops u (pool_number 0 side)) (sym m.is) (read_side_goes hops u side one s)
-goes hops u (request.Set key flags exptime block noreply) side command one s c =
-    subst (GoesBy hops u (pool_number 0 side)) (sym (only (Set key flags exptime block) command c)) (read_side_goes hops u side one s)
-goes hops u (request.Delete key noreply) side command one s c =
-    subst (GoesBy hops u (pool_number 0 side)) (sym (only (Delete key) command c))
-    (subst (Contains (delete_pools hops u)) (first_hop hops u side one)
-    (mapped_in (pool_number (hop_of hops u)) (delete_sides_of (phase_of hops u)) side s))
-goes hops u request.Quit side command one s c = let below = c.1 in absurd (omega arith)
+    subst (GoesBy hops u (pool_number (hop_of hops u) side)) (sym m.is) (read_side_goes hops u side s)
+goes hops u (request.Set key flags exptime block noreply) side command s c =
+    subst (GoesBy hops u (pool_number (hop_of hops u) side)) (sym (only (Set key flags exptime block) command c)) (read_side_goes hops u side s)
+goes hops u (request.Delete key noreply) side command s c =
+    subst (GoesBy hops u (pool_number (hop_of hops u) side)) (sym (only (Delete key) command c))
+    (mapped_in (pool_number (hop_of hops u)) (delete_sides_of (phase_of hops u)) side s)
+goes hops u request.Quit side command s c = let below = c.1 in absurd (omega arith)
 
 pub pools_by_reading_lem : (routing : RoutingView) (hops : List Hop) (op : OpId) (u : ℕ) (q : Request) (place : ℕ) (sheet : LegSheet)
-    → length hops ≡ 1 → slice_get (sheets_by routing hops op u q) place ≡ Some sheet → GoesBy hops u (pool_at sheet) sheet.command
-pools_by_reading_lem routing hops op u q place sheet one e =
+    → slice_get (sheets_by routing hops op u q) place ≡ Some sheet → GoesBy hops u (pool_at sheet) sheet.command
+pools_by_reading_lem routing hops op u q place sheet e =
     let h = sheets_say_lem routing hops op u q place sheet e in
-    goes hops u q sheet.side sheet.command one h.side h.command
+    subst (λ hop. GoesBy hops u (pool_number hop sheet.side) sheet.command) (sym h.hop) (goes hops u q sheet.side sheet.command h.side h.command)
 
 pub delete_goes_lem : (routing : RoutingView) (hops : List Hop) (op : OpId) (u : ℕ) (key : List ℕ) (noreply : Bool) (pool : ℕ)
-    → length hops ≡ 1 → Contains (delete_pools hops u) pool → DeletesIn (sheets_by routing hops op u (request.Delete key noreply)) op pool key
-delete_goes_lem routing hops op u key noreply pool one c =
+    → Contains (delete_pools hops u) pool → DeletesIn (sheets_by routing hops op u (request.Delete key noreply)) op pool key
+delete_goes_lem routing hops op u key noreply pool c =
     let sides = delete_sides_of (phase_of hops u) in
     let h = has (delete_pools hops u) pool c in
     let m = mapped (pool_number (hop_of hops u)) sides h.place pool h.there in
@@ -167,10 +160,10 @@ delete_goes_lem routing hops op u key noreply pool one c =
     let target = get_left (map to sides) [] h.place (to m.from) (get_map to sides h.place m.from m.there) in
     record {
       place = h.place;
-      sheet = sheet_at routing op (0 + h.place) (to m.from);
-      there = sheet_for routing op 0 (targets_of sides (Delete key ∷ [])) h.place (to m.from) target;
+      sheet = sheet_at routing (hop_of hops u) op (0 + h.place) (to m.from);
+      there = sheet_for routing (hop_of hops u) op 0 (targets_of sides (Delete key ∷ [])) h.place (to m.from) target;
       same_op = refl;
-      same_pool = sym (first_hop hops u m.from one) ∙ sym m.is;
+      same_pool = sym m.is;
       command = refl;
     }
 
@@ -187,6 +180,6 @@ pub gets_ask_in_order_lem : (routing : RoutingView) (hops : List Hop) (op : OpId
     → slice_get (sheets_by routing hops op u (request.Get keys)) place ≡ Some sheet → AsksFor keys place sheet
 gets_ask_in_order_lem routing hops op u keys place sheet e =
     let side = read_side_of (phase_of hops u) in
-    let h = sheet_in routing op 0 (targets_of (side ∷ []) (map Get keys)) place sheet e in
+    let h = sheet_in routing (hop_of hops u) op 0 (targets_of (side ∷ []) (map Get keys)) place sheet e in
     let (key, there, is) = target_of_get side keys place h.target h.there in
     record { key = key; there = there; command = ap (λ (s : LegSheet). s.command) h.is ∙ is }

@@ -18,7 +18,7 @@ use Rattle.mr_join.specs.declared.leg_reply.LegReply.TheVariants.{Hit, Miss, Sto
 use Rattle.mr_join.specs.Join.{joined_reply, AreHits, IsHitOf, Acknowledges, HasSucceeded}
 use Rattle.mr_phases.specs.declared.phase_name.PhaseName.{PhaseName}
 use Rattle.mr_phases.specs.declared.phase_name.PhaseName.TheVariants.{OldOnly, BothReadOld, BothReadNew, NewOnly}
-use Rattle.mr_phases.specs.Schedule.{Hop, IsSchedule, phase_of}
+use Rattle.mr_phases.specs.Schedule.{Hop, IsSchedule, phase_of, hop_of}
 use Rattle.mr_phases.specs.Sides.{delete_sides_of}
 use Rattle.mr_phases.specs.Pools.{pool_number}
 use Rattle.mr_phases.specs.declared.side.Side.{Side}
@@ -38,7 +38,7 @@ use Rattle.mr_proxy.specs.Answer.{AnswerView, answer_of, reply_of}
 use Rattle.mr_proxy.specs.ProxyView.{ProxyView, fresh_proxy}
 use Rattle.mr_proxy.specs.Issue.{next_op, used_reading, sheets_of, pending_of, after_issue}
 use Rattle.mr_proxy.specs.Transitions.{place_of_op, pending_with, settled, taken_by, taken_of, left_by, given_up_in, given_up_of}
-use Rattle.mr_proxy.specs.Sheets.{pool_at, IsPlaced, sheets_by, sheets_from, targets_of}
+use Rattle.mr_proxy.specs.Sheets.{pool_at, HaveAsManyHops, HasHop, IsPlaced, sheets_by, sheets_from, targets_of}
 use Rattle.mr_proxy.specs.Whole.{IsCommandAt, IsLegAt, IsOfItsKind, IsWholeAnswer}
 use Rattle.mr_proxy.specs.Sound.{HasLegs, ProxyStep, sheet_of, IsSoundPending, IsSoundAnswer, IsSound, HasFound, WasDeleted}
 use Rattle.mr_proxy.specs.Sound.ProxyStep.{issues, takes, gives_up, restarts}
@@ -57,6 +57,7 @@ removed p n within s =
     record {
       routing = s.routing;
       schedule = s.schedule;
+      hops = s.hops;
       pendings = All-append (IsSoundPending q) (take n p.outstanding) (drop (suc n) p.outstanding)
           (All-take (IsSoundPending q) n p.outstanding all) (All-drop (IsSoundPending q) (suc n) p.outstanding all);
       in_order = all_pairs_remove (λ (a b : PendingView). a.op.number < b.op.number) p.outstanding n within s.in_order;
@@ -86,6 +87,7 @@ written p n old new got same sound s =
     record {
       routing = s.routing;
       schedule = s.schedule;
+      hops = s.hops;
       pendings = All-set (IsSoundPending q) p.outstanding n new (same_pending p list new sound) all;
       in_order = λ i j d before within.
           let first = number_written p.outstanding n old new i d got same in
@@ -222,19 +224,19 @@ leave_sound : (p : ProxyView) (n : ℕ) (o : Option PendingView) → slice_get p
 leave_sound p n None got s = s
 leave_sound p n (Some pending) got s = removed p n (slice_get_within p.outstanding n pending got) s
 
-delete_waits : (routing : RoutingView) (op : OpId) (command : NodeCommand) (phase : PhaseName)
-    → not (list_any is_open (map open_slot (sheets_from routing op 0 (targets_of (delete_sides_of phase) (command ∷ []))))) ≡ false
-delete_waits routing op command OldOnly = refl
-delete_waits routing op command BothReadOld = refl
-delete_waits routing op command BothReadNew = refl
-delete_waits routing op command NewOnly = refl
+delete_waits : (routing : RoutingView) (hop : ℕ) (op : OpId) (command : NodeCommand) (phase : PhaseName)
+    → not (list_any is_open (map open_slot (sheets_from routing hop op 0 (targets_of (delete_sides_of phase) (command ∷ []))))) ≡ false
+delete_waits routing hop op command OldOnly = refl
+delete_waits routing hop op command BothReadOld = refl
+delete_waits routing hop op command BothReadNew = refl
+delete_waits routing hop op command NewOnly = refl
 
 issued_waits : (p : ProxyView) (t : ℕ) (q : Request) → HasLegs q → is_complete (pending_of p t q) ≡ false
 issued_waits p t (request.Get []) legs = absurd (omega arith)
 issued_waits p t (request.Get (key ∷ keys)) legs = refl
 issued_waits p t (request.Set key flags exptime block noreply) legs = refl
 issued_waits p t (request.Delete key noreply) legs =
-    delete_waits p.routing (next_op p) (Delete key) (phase_of p.schedule (used_reading p.last t))
+    delete_waits p.routing (hop_of p.schedule (used_reading p.last t)) (next_op p) (Delete key) (phase_of p.schedule (used_reading p.last t))
 issued_waits p t request.Quit legs = absurd legs
 
 sheets_opened : (sheets : List LegSheet) → map sheet_of (map open_slot sheets) ≡ sheets
@@ -262,6 +264,7 @@ issue_sound p t q legs s =
     record {
       routing = s.routing;
       schedule = s.schedule;
+      hops = s.hops;
       pendings = All-push (IsSoundPending new) p.outstanding (pending_of p t q)
           (All-weaker (IsSoundPending p) (IsSoundPending new) (older_pending p t q) p.outstanding s.pendings) sound;
       in_order = all_pairs_push (λ (a b : PendingView). a.op.number < b.op.number) p.outstanding (pending_of p t q) s.in_order
@@ -273,7 +276,7 @@ steps_keep_sound_lem old new s (issues t q legs accepted) = issue_sound old t q 
 steps_keep_sound_lem old new s (takes id reply) = take_sound old (place_of_op old.outstanding id.op) id.place reply (pending_with old.outstanding id.op) refl s
 steps_keep_sound_lem old new s (gives_up op) = leave_sound old (place_of_op old.outstanding op) (pending_with old.outstanding op) refl s
 steps_keep_sound_lem old new s restarts =
-    record { routing = s.routing; schedule = s.schedule; pendings = λ k d below. absurd (omega arith); in_order = λ i j d before below. absurd (omega arith) }
+    record { routing = s.routing; schedule = s.schedule; hops = s.hops; pendings = λ k d below. absurd (omega arith); in_order = λ i j d before below. absurd (omega arith) }
 
 none_open : (b : Bool) → not b ≡ true → false ≡ b
 none_open true e = cc
@@ -400,9 +403,9 @@ acknowledged_by_legs_lem all answer key noreply s asked a k d below =
 
 -- a fresh proxy is sound where its routing and its schedule are
 pub fresh_sound : (number incarnation : ℕ) (routing : RoutingView) (hops : List Hop) (room : ℕ) → IsRouting routing → IsSchedule hops
-    → IsSound (fresh_proxy number incarnation routing hops room)
-fresh_sound number incarnation routing hops room apart phases =
-    record { routing = apart; schedule = phases; pendings = λ k d below. absurd (omega arith); in_order = λ i j d before below. absurd (omega arith) }
+    → HaveAsManyHops routing hops → IsSound (fresh_proxy number incarnation routing hops room)
+fresh_sound number incarnation routing hops room apart phases many =
+    record { routing = apart; schedule = phases; hops = many; pendings = λ k d below. absurd (omega arith); in_order = λ i j d before below. absurd (omega arith) }
 
 opened_some : (sheets : List LegSheet) → not (list_any is_open (map open_slot sheets)) ≡ false → 1 ≤ length sheets
 opened_some [] e = cc
@@ -412,19 +415,19 @@ opened_some (sheet ∷ sheets) e = omega arith
 pub issued_some : (p : ProxyView) (t : ℕ) (q : Request) → HasLegs q → 1 ≤ length (sheets_of p t q)
 issued_some p t q legs = opened_some (sheets_of p t q) (issued_waits p t q legs)
 
-pool_there : (routing : RoutingView) (side : Side) → IsRouting routing → pool_number 0 side < length routing.pools
-pool_there routing Old r = let pairs = r.migrates in omega arith
-pool_there routing New r = let pairs = r.migrates in omega arith
+pool_there : (routing : RoutingView) (hop : ℕ) (side : Side) → HasHop routing hop → pool_number hop side < length routing.pools
+pool_there routing hop Old there = omega arith
+pool_there routing hop New there = there
 
 -- each node of a request's sheets is one of its pool
 pub nodes_within : (routing : RoutingView) (hops : List Hop) (op : OpId) (u : ℕ) (q : Request) → IsRouting routing
-    → All (IsPlaced routing) (sheets_by routing hops op u q)
-nodes_within routing hops op u q r k d below =
+    → HasHop routing (hop_of hops u) → All (IsPlaced routing) (sheets_by routing hops op u q)
+nodes_within routing hops op u q r has k d below =
     let sheets = sheets_by routing hops op u q in
     let sheet = get_or sheets k d in
     let says = sheets_say_lem routing hops op u q k sheet (slice_get-get_or sheets k d below) in
     let node = says.node in
-    let there = pool_there routing sheet.side r in
+    let there = pool_there routing sheet.hop sheet.side (subst (HasHop routing) (sym says.hop) has) in
     let sized = r.sized (pool_at sheet) there in
     let some = sized.not_empty in
     let least = mod_below (spot_by routing.hash (key_of_command sheet.command)) (length (pool_of routing (pool_at sheet))) (omega arith) in

@@ -20,7 +20,8 @@ use Rattle.mr_proxy.specs.Answer.{answer_of}
 use Rattle.mr_proxy.specs.ProxyView.{ProxyView}
 use Rattle.mr_proxy.specs.Issue.{next_op, used_reading, sheets_of, after_issue}
 use Rattle.mr_proxy.specs.Transitions.{place_of_op, pending_with, noted_by, settled as settled_by, after_take, taken_by, taken_of, left_by, after_give_up, given_up_in, given_up_of}
-use Rattle.mr_proxy.specs.Sheets.{IsPlaced}
+use Rattle.mr_phases.specs.Schedule.{hop_of}
+use Rattle.mr_proxy.specs.Sheets.{IsPlaced, HasHop}
 use Rattle.mr_proxy.specs.Sound.{HasLegs, IsSound, IsSoundAnswer}
 use Rattle.mr_proxy.specs.Sound.ProxyStep.{takes}
 use Rattle.mr_proxy.specs.steps.Outstanding.{settled_at, list_settled, settled_as}
@@ -133,8 +134,8 @@ pub issued_legs : (now : ProxyView) (t : ℕ) (q : Request) (sheets : List LegSh
 issued_legs now t q sheets is legs goes = subst (λ (l : List LegSheet). 1 ≤ length l) (sym is) (issued_some now t q (legs goes))
 
 pub issued_nodes : (p now : ProxyView) (t : ℕ) (q : Request) (sheets : List LegSheet) → p ≡ now → sheets ≡ sheets_of now t q → IsSound p
-    → All (IsPlaced now.routing) sheets
-issued_nodes p now t q sheets same is s =
+    → HasHop now.routing (hop_of now.schedule (used_reading now.last t)) → All (IsPlaced now.routing) sheets
+issued_nodes p now t q sheets same is s has =
     let sound = subst IsSound same s in
     subst (All (IsPlaced now.routing)) (sym is)
-    (nodes_within now.routing now.schedule (next_op now) (used_reading now.last t) q sound.routing)
+    (nodes_within now.routing now.schedule (next_op now) (used_reading now.last t) q sound.routing has)

@@ -1,5 +1,5 @@
 -- What nodes are told for a request that is judged by a reading: one sheet for each key and each side.
-use Rattle.std.specs.Prelude.{◌≡◌, ℕ, ◌+◌, List, [], ◌∷◌, map, Some, slice_get, Contains}
+use Rattle.std.specs.Prelude.{◌≡◌, ℕ, ◌+◌, ◌<◌, List, [], ◌∷◌, length, map, Some, slice_get, Contains}
 use Rattle.std.specs.List.{flat_map}
 use Rattle.mr_text.specs.declared.request.Request.{Request}
 use Rattle.mr_text.specs.declared.request.Request.TheVariants as request
@@ -7,7 +7,7 @@ use Rattle.mr_history.specs.declared.op_id.OpId.{OpId}
 use Rattle.mr_phases.specs.declared.side.Side.{Side}
 use Rattle.mr_phases.specs.declared.side.RequestKind.{RequestKind}
 use Rattle.mr_phases.specs.declared.side.RequestKind.TheVariants as kind
-use Rattle.mr_phases.specs.Schedule.{Hop}
+use Rattle.mr_phases.specs.Schedule.{Hop, hop_of}
 use Rattle.mr_phases.specs.Sides.{sides_at}
 use Rattle.mr_phases.specs.Pools.{pool_number, read_pool, delete_pools}
 use Rattle.mr_pools.specs.Names.{name_at, HasNode}
@@ -17,9 +17,17 @@ use Rattle.mr_node.specs.declared.command.NodeCommand.{NodeCommand}
 use Rattle.mr_node.specs.declared.command.NodeCommand.TheVariants.{Get, Set, Delete}
 use Rattle.mr_proxy.specs.declared.sheet.LegSheet.{LegSheet}
 
--- the pool whose node is told: 0 is the old one. A migration has one hop, and until sheets name theirs it is said here
+-- a routing and a schedule of one chain of migrations: one pool more than hops
+abbrev pub HaveAsManyHops : RoutingView → List Hop → Type 0
+HaveAsManyHops routing hops = length routing.pools ≡ length hops + 1
+
+-- the routing has both pools of this hop
+abbrev pub HasHop : RoutingView → ℕ → Type 0
+HasHop routing hop = hop + 1 < length routing.pools
+
+-- the pool whose node is told, counted from 0 in the order of the migrations
 abbrev pub pool_at : LegSheet → ℕ
-pool_at sheet = pool_number 0 sheet.side
+pool_at sheet = pool_number sheet.hop sheet.side
 
 -- the routing has the node that is told
 abbrev pub IsPlaced : RoutingView → LegSheet → Type 0
@@ -60,24 +68,25 @@ pub record Target : Type 0 where
 abbrev pub targets_of : List Side → List NodeCommand → List Target
 targets_of sides commands = flat_map (λ command. map (λ side. record { side = side; command = command }) sides) commands
 
--- the sheet of the leg of a place
-abbrev pub sheet_at : RoutingView → OpId → ℕ → Target → LegSheet
-sheet_at routing op place target =
-    placed routing (record { id = record { op = op; place = place }; side = target.side; node = 0; command = target.command })
+-- the sheet of the leg of a place, in a hop
+abbrev pub sheet_at : RoutingView → ℕ → OpId → ℕ → Target → LegSheet
+sheet_at routing hop op place target =
+    placed routing (record { id = record { op = op; place = place }; hop = hop; side = target.side; node = 0; command = target.command })
 
--- the sheets of legs from a place on
-abbrev pub sheets_from : RoutingView → OpId → ℕ → List Target → List LegSheet
-sheets_from routing op place [] = []
-sheets_from routing op place (target ∷ targets) = sheet_at routing op place target ∷ sheets_from routing op (place + 1) targets
+-- the sheets of legs from a place on, all in one hop
+abbrev pub sheets_from : RoutingView → ℕ → OpId → ℕ → List Target → List LegSheet
+sheets_from routing hop op place [] = []
+sheets_from routing hop op place (target ∷ targets) = sheet_at routing hop op place target ∷ sheets_from routing hop op (place + 1) targets
 
--- the sheets of a request that is judged by this reading, in order of place
+-- the sheets of a request that is judged by this reading, in order of place: those of the hop in force
 abbrev pub sheets_by : RoutingView → List Hop → OpId → ℕ → Request → List LegSheet
 sheets_by routing hops op u request =
-    sheets_from routing op 0 (targets_of (sides_at hops (kind_of request) u) (commands_of request))
+    sheets_from routing (hop_of hops u) op 0 (targets_of (sides_at hops (kind_of request) u) (commands_of request))
 
--- the sheet of a place: a command of the request, to a side that the reading gives, at the key's node there
+-- the sheet of a place: a command of the request, to a side that the reading gives in the hop in force, at the key's node there
 pub record IsSheetOf (routing : RoutingView) (hops : List Hop) (op : OpId) (u : ℕ) (request : Request) (place : ℕ) (sheet : LegSheet) : Type 0 where
   pub named : sheet.id ≡ record { op = op; place = place }
+  pub hop : sheet.hop ≡ hop_of hops u
   pub node : sheet.node ≡ node_by_key routing sheet
   pub side : Contains (sides_at hops (kind_of request) u) sheet.side
   pub command : Contains (commands_of request) sheet.command

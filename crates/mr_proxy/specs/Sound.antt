@@ -15,7 +15,7 @@ use Rattle.mr_proxy.specs.declared.slot.Slot.{Slot}
 use Rattle.mr_proxy.specs.Pending.{PendingView, is_complete}
 use Rattle.mr_proxy.specs.Answer.{AnswerView}
 use Rattle.mr_proxy.specs.Whole.{IsOfItsKind, IsWholeAnswer}
-use Rattle.mr_proxy.specs.Sheets.{sheets_by}
+use Rattle.mr_proxy.specs.Sheets.{sheets_by, HaveAsManyHops}
 use Rattle.mr_proxy.specs.ProxyView.{ProxyView}
 use Rattle.mr_proxy.specs.Issue.{refusal_of, after_issue}
 use Rattle.mr_proxy.specs.Transitions.{after_take, after_give_up, after_restart}
@@ -47,11 +47,12 @@ pub record IsSoundPending (p : ProxyView) (pending : PendingView) : Type 0 where
   pub kinds : All IsOfItsKind pending.slots
   pub waits : is_complete pending ≡ false
 
--- no node stands in two pools, the phases follow one another, the requests under way are sound, and they stand in
--- order of their numbers
+-- no node stands in two pools, the phases follow one another, each hop has its two pools, the requests under way are
+-- sound, and they stand in order of their numbers
 pub record IsSound (p : ProxyView) : Type 0 where
   pub routing : IsRouting p.routing
   pub schedule : IsSchedule p.schedule
+  pub hops : HaveAsManyHops p.routing p.schedule
   pub pendings : All (IsSoundPending p) p.outstanding
   pub in_order : AllPairs (λ earlier later. earlier.op.number < later.op.number) p.outstanding
 

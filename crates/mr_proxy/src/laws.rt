@@ -19,30 +19,30 @@ ghost use Rattle.mr_proxy.specs.Answer.{AnswerView, reply_of};
 ghost use Rattle.mr_proxy.specs.ProxyView.{ProxyView, fresh_proxy};
 ghost use Rattle.mr_proxy.specs.Issue.{next_op, sheets_of, after_issue};
 ghost use Rattle.mr_proxy.specs.Transitions.{open_legs_of, noted_by, taken_of, after_take, given_up_of, after_give_up};
-ghost use Rattle.mr_proxy.specs.Sheets.{pool_at, sheets_by, IsSheetOf, GoesBy, DeletesIn, AsksFor};
+ghost use Rattle.mr_proxy.specs.Sheets.{pool_at, sheets_by, HaveAsManyHops, IsSheetOf, GoesBy, DeletesIn, AsksFor};
 ghost use Rattle.mr_proxy.specs.Whole.{IsWholeAnswer};
 ghost use Rattle.mr_proxy.specs.Sound.{ProxyStep, IsSound, IsSoundAnswer, WasGivenOut, HasFound, WasDeleted};
 
 use mr_join::laws::{acknowledged_by_all, items_are_hits};
 
-/// The sheet of each place is a command of the request, to a side that the reading gives.
+/// The sheet of each place is a command of the request, to a side that the reading gives in the hop in force.
 pub fn sheets_say()
     ensures { (routing : RoutingView) (hops : List Hop) (op : OpId)
         (u : ℕ) (request : Request) (place : ℕ) (sheet : LegSheet)
         → slice_get (sheets_by routing hops op u request) place ≡ Some sheet → IsSheetOf routing hops op u request place sheet }
 {}
 
-/// The pool of each sheet is one that the reading gives for the sheet's command. The schedule has one hop.
+/// The pool of each sheet is one that the reading gives for the sheet's command.
 pub fn pools_by_reading()
     ensures { (routing : RoutingView) (hops : List Hop) (op : OpId)
         (u : ℕ) (request : Request) (place : ℕ) (sheet : LegSheet)
-        → length hops ≡ 1 → slice_get (sheets_by routing hops op u request) place ≡ Some sheet → GoesBy hops u (pool_at sheet) sheet.command }
+        → slice_get (sheets_by routing hops op u request) place ≡ Some sheet → GoesBy hops u (pool_at sheet) sheet.command }
 {}
 
-/// A delete has a leg in each pool that its reading deletes from. The schedule has one hop.
+/// A delete has a leg in each pool that its reading deletes from.
 pub fn delete_goes()
     ensures { (routing : RoutingView) (hops : List Hop) (op : OpId) (u : ℕ) (key : List ℕ) (noreply : Bool) (pool : ℕ)
-        → length hops ≡ 1 → Contains (delete_pools hops u) pool
+        → Contains (delete_pools hops u) pool
         → DeletesIn (sheets_by routing hops op u (Delete key noreply)) op pool key }
 {}
 
@@ -56,7 +56,7 @@ pub fn gets_ask_in_order()
 /// A fresh proxy is sound.
 pub fn fresh_is_sound()
     ensures { (number incarnation : ℕ) (routing : RoutingView) (hops : List Hop) (room : ℕ)
-        → IsRouting routing → IsSchedule hops
+        → IsRouting routing → IsSchedule hops → HaveAsManyHops routing hops
         → IsSound (fresh_proxy number incarnation routing hops room) }
 {}
 

@@ -4,7 +4,8 @@ ghost use Rattle.mr_phases.specs.Sides.{sides_in};
 ghost use Rattle.mr_node.specs.declared.command.NodeCommand.TheVariants.{Get, Set, Delete};
 ghost use Rattle.mr_proxy.specs.Slots.{open_slot};
 ghost use Rattle.mr_proxy.specs.Sound.{HasLegs};
-ghost use Rattle.mr_proxy.specs.Sheets.{sheet_at, sheets_from, sheets_by, targets_of};
+ghost use Rattle.mr_phases.specs.Schedule.{hop_of};
+ghost use Rattle.mr_proxy.specs.Sheets.{sheet_at, sheets_from, sheets_by, targets_of, HasHop, HaveAsManyHops};
 
 use crate::leg::Leg;
 use crate::sheet::{LegId, LegSheet};
@@ -69,18 +70,20 @@ impl LegsDraft {
     fn add(
         &mut self,
         routing: &Routing,
+        hop: u32,
         op: OpId,
         side: Side,
         command: NodeCommand,
     ) -> Result<(), AllocError>
-        requires { length self.old < 2 ^ 32 }
+        requires room { length self.old < 2 ^ 32 }
+        requires hop { HasHop routing.now hop }
         ensures { OnOk result (self.new ≡ self.old
-            ++ sheet_at routing.now op (length self.old) (record { side = side; command = command }) ∷ []) }
+            ++ sheet_at routing.now hop op (length self.old) (record { side = side; command = command }) ∷ []) }
     {
         self.legs.reserve(1)?;
         self.slots.reserve(1)?;
         let place = self.legs.len() as u32;
-        let sheet = LegSheet::for_leg(routing, LegId { op, place }, side, command);
+        let sheet = LegSheet::for_leg(routing, hop, LegId { op, place }, side, command);
         let leg = Leg::of(sheet.copy()?);
         self.legs.push_reserved(leg);
         self.slots.push_reserved(Slot::open(sheet));
@@ -92,17 +95,19 @@ impl LegsDraft {
     fn of_gets(
         alloc: Global,
         routing: &Routing,
+        hop: u32,
         op: OpId,
         side: Side,
         keys: &[Key],
     ) -> Result<LegsDraft, AllocError>
-        requires { length keys.now < 2 ^ 32 }
+        requires room { length keys.now < 2 ^ 32 }
+        requires hop { HasHop routing.now hop }
         ensures { IfOk result
-            (λ draft. draft ≡ sheets_from routing.now op 0 (targets_of (side ∷ []) (map Get keys.now))) }
+            (λ draft. draft ≡ sheets_from routing.now hop op 0 (targets_of (side ∷ []) (map Get keys.now))) }
     {
         let mut draft = LegsDraft::new(alloc, keys.len())?;
         for key in keys {
-            draft.add(routing, op, side, NodeCommand::Get(key.copy()?))?;
+            draft.add(routing, hop, op, side, NodeCommand::Get(key.copy()?))?;
         }
         Ok(draft)
     }
@@ -111,14 +116,16 @@ impl LegsDraft {
     fn of_one(
         alloc: Global,
         routing: &Routing,
+        hop: u32,
         op: OpId,
         side: Side,
         command: NodeCommand,
     ) -> Result<LegsDraft, AllocError>
-        ensures { IfOk result (λ draft. draft ≡ sheets_from routing.now op 0 (targets_of (side ∷ []) (command ∷ []))) }
+        requires { HasHop routing.now hop }
+        ensures { IfOk result (λ draft. draft ≡ sheets_from routing.now hop op 0 (targets_of (side ∷ []) (command ∷ []))) }
     {
         let mut draft = LegsDraft::new(alloc, 1)?;
-        draft.add(routing, op, side, command)?;
+        draft.add(routing, hop, op, side, command)?;
         Ok(draft)
     }
 
@@ -127,17 +134,19 @@ impl LegsDraft {
     fn of_deletes(
         alloc: Global,
         routing: &Routing,
+        hop: u32,
         op: OpId,
         sides: &[Side],
         key: &Key,
     ) -> Result<LegsDraft, AllocError>
-        requires { length sides.now < 2 ^ 32 }
+        requires room { length sides.now < 2 ^ 32 }
+        requires hop { HasHop routing.now hop }
         ensures { IfOk result
-            (λ draft. draft ≡ sheets_from routing.now op 0 (targets_of sides.now (Delete key.now ∷ []))) }
+            (λ draft. draft ≡ sheets_from routing.now hop op 0 (targets_of sides.now (Delete key.now ∷ []))) }
     {
         let mut draft = LegsDraft::new(alloc, sides.len())?;
         for side in sides {
-            draft.add(routing, op, *side, NodeCommand::Delete(key.copy()?))?;
+            draft.add(routing, hop, op, *side, NodeCommand::Delete(key.copy()?))?;
         }
         Ok(draft)
     }
@@ -152,13 +161,16 @@ impl LegsDraft {
         reading: u64,
         request: &Request,
     ) -> Result<LegsDraft, AllocError>
+        requires { HaveAsManyHops routing.now schedule }
         ensures sheets { IfOk result (λ draft. draft ≡ sheets_by routing.now schedule op reading request.now) }
+        ensures hop { HasHop routing.now (hop_of schedule reading) }
         ensures legs { OnOk result (request.now ≢ Request.Quit → HasLegs request.now) }
     {
         let judged = judge(schedule, reading);
+        let hop = judged.hop();
         match request {
             Request::Get { keys } => {
-                LegsDraft::of_gets(alloc, routing, op, judged.read_side(), keys.as_slice())
+                LegsDraft::of_gets(alloc, routing, hop, op, judged.read_side(), keys.as_slice())
             }
             Request::Set {
                 key,
@@ -168,11 +180,11 @@ impl LegsDraft {
                 noreply: _,
             } => {
                 let command = set_command(key, *flags, *exptime, block)?;
-                LegsDraft::of_one(alloc, routing, op, judged.read_side(), command)
+                LegsDraft::of_one(alloc, routing, hop, op, judged.read_side(), command)
             }
             Request::Delete { key, noreply: _ } => {
                 let sides = judged.sides(RequestKind::Delete);
-                LegsDraft::of_deletes(alloc, routing, op, sides.as_slice(), key)
+                LegsDraft::of_deletes(alloc, routing, hop, op, sides.as_slice(), key)
             }
             Request::Quit => LegsDraft::new(alloc, 0),
         }

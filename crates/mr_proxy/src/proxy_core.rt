@@ -70,7 +70,7 @@ fn are_sound(routing: &Routing, schedule: &Schedule)
     ensures schedule { IsSchedule schedule.now }
 {
     let _hash = routing.hash();
-    let _start = schedule.start();
+    let _hops = schedule.hops();
 }
 
 impl ProxyCore {
@@ -78,10 +78,11 @@ impl ProxyCore {
     ghost use Rattle.mr_proxy.specs.Issue.{next_op, used_reading, sheets_of, refusal_of, IsRefusal, after_issue};
     ghost use Rattle.mr_proxy.specs.Transitions.{open_sheet, open_legs_of, taken_of, after_take, given_up_of, after_give_up, after_restart};
     ghost use Rattle.mr_proxy.specs.Answer.{AnswerView};
-    ghost use Rattle.mr_proxy.specs.Sheets.{IsPlaced};
+    ghost use Rattle.mr_proxy.specs.Sheets.{IsPlaced, HaveAsManyHops};
     ghost use Rattle.mr_proxy.specs.Sound.{IsSound, IsSoundAnswer};
 
-    /// A proxy that accepted no request yet. It takes no memory before the first one.
+    /// A proxy that accepted no request yet. It takes no memory before the first one. Its routing has one pool more than
+    /// its schedule has hops.
     pub fn new(
         alloc: Global,
         number: u32,
@@ -90,6 +91,7 @@ impl ProxyCore {
         schedule: Schedule,
         room: u64,
     ) -> ProxyCore
+        requires { HaveAsManyHops routing schedule }
         ensures { result ≡ fresh_proxy number incarnation routing schedule room }
     {
         are_sound(&routing, &schedule);

@@ -8,9 +8,6 @@ use mr_phases::Side;
 use mr_pools::{NodeName, Routing};
 use std::alloc::AllocError;
 
-/// The hop of each leg: a migration has one.
-const HOP: u32 = 0;
-
 /// The name of a leg.
 #[derive(Clone, Copy, Debug, PartialEq, Eq)]
 pub struct LegId {
@@ -25,7 +22,9 @@ pub struct LegId {
 pub struct LegSheet {
     /// The leg's name.
     pub id: LegId,
-    /// The side whose pool has the node.
+    /// The migration that was in force, counted from 0.
+    pub hop: u32,
+    /// The side of that migration whose pool has the node.
     pub side: Side,
     /// The node's index in that pool.
     pub node: u32,
@@ -34,33 +33,37 @@ pub struct LegSheet {
 }
 
 impl LegSheet {
-    ghost use Rattle.mr_proxy.specs.Sheets.{pool_at, placed, node_name, IsPlaced};
+    ghost use Rattle.mr_proxy.specs.Sheets.{pool_at, placed, node_name, IsPlaced, HasHop};
 
-    /// The sheet of a leg to the node, in that side's pool, that keeps the command's key.
+    /// The sheet of a leg to the node, in that side's pool of the hop, that keeps the command's key.
     pub(crate) fn for_leg(
         routing: &Routing,
+        hop: u32,
         id: LegId,
         side: Side,
         command: NodeCommand,
     ) -> LegSheet
-        ensures { result ≡ placed routing.now (record { id = id; side = side; node = 0; command = command }) }
+        requires { HasHop routing.now hop }
+        ensures { result
+            ≡ placed routing.now (record { id = id; hop = hop; side = side; node = 0; command = command }) }
     {
         let hash = routing.hash();
-        let pool = routing.pool(side.pool_number(HOP));
+        let pool = routing.pool(side.pool_number(hop));
         let node = pool.pick(&hash, command.key()) as u32;
         LegSheet {
             id,
+            hop,
             side,
             node,
             command,
         }
     }
 
-    /// The number of the pool that has the node: 0 is the old one.
+    /// The number of the pool that has the node, counted from 0 in the order of the migrations.
     pub fn pool_number(&self) -> usize
         ensures { result ≡ pool_at self.now }
     {
-        self.side.pool_number(HOP)
+        self.side.pool_number(self.hop)
     }
 
     /// The name of the node; None where the routing has no such node.
@@ -78,6 +81,7 @@ impl LegSheet {
         ensures { IsTrue result ↔ (self.now ≡ other.now) }
     {
         self.id == other.id
+            && self.hop == other.hop
             && self.side == other.side
             && self.node == other.node
             && self.command.same_as(&other.command)
@@ -89,6 +93,7 @@ impl LegSheet {
     {
         Ok(LegSheet {
             id: self.id,
+            hop: self.hop,
             side: self.side,
             node: self.node,
             command: self.command.copy()?,

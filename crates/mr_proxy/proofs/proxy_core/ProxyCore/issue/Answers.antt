@@ -16,4 +16,4 @@ returns-clause-has_leg c =
 
 pub returns-clause-nodes : goal.returns-clause-nodes
 returns-clause-nodes c =
-    issued_nodes (the_view c.self.inside) c.args.self.now c.args.reading c.args.request c.into_parts-slots.result.1.items c.self.view_is (search rules) c.self.invariant
+    issued_nodes (the_view c.self.inside) c.args.self.now c.args.reading c.args.request c.into_parts-slots.result.1.items c.self.view_is (search rules) c.self.invariant (search rules)
