@@ -37,6 +37,7 @@ use Rattle.mr_world.specs.Grounded.{IsGrounded}
 use Rattle.mr_world.specs.Lists.{Has}
 use Rattle.mr_world.specs.Positions.{node_number}
 use Rattle.mr_world.specs.Steps.{performed, Delivers}
+use Rattle.mr_world.specs.Tracked.{LegsShareHops}
 use Rattle.mr_world.specs.WorldView.{WorldView}
 use Rattle.mr_world.proofs.Lists.{at_within, at_one, at_last, at_new, at_set, has_one, has_none}
 use Rattle.mr_world.proofs.FactLemmas.{answered_after}
@@ -77,25 +78,18 @@ hit_was_there old (Delete key) flags block new s = absurd s
 -- pools
 
 -- two sides of one hop are neighbours
-sides_close : (a b : Side) → pool_number 0 a ≤ pool_number 0 b + 1
-sides_close Old Old = omega arith
-sides_close Old New = omega arith
-sides_close New Old = omega arith
-sides_close New New = omega arith
+sides_close : (hop : ℕ) (a b : Side) → pool_number hop a ≤ pool_number hop b + 1
+sides_close hop Old Old = omega arith
+sides_close hop Old New = omega arith
+sides_close hop New Old = omega arith
+sides_close hop New New = omega arith
 
-pools_close : (a b : LegSheet) → pool_at a ≤ pool_at b + 1
-pools_close a b = sides_close a.side b.side
+pools_close : (a b : LegSheet) → a.hop ≡ b.hop → pool_at a ≤ pool_at b + 1
+pools_close a b same = subst (λ hop. pool_number hop a.side ≤ pool_at b + 1) (sym same) (sides_close b.hop a.side b.side)
 
 -- of two pools of which one is no later and one no earlier than a third, and that are neighbours, one is the third
 between : (up from pool : ℕ) → up ≤ pool → pool ≤ from → from ≤ up + 1 → (up ≡ pool) ⊎ (from ≡ pool)
 between up from pool a b c = grind arith
-
-below_two : (a : Side) → pool_number 0 a < 2
-below_two Old = omega arith
-below_two New = omega arith
-
-pub has_pool : (routing : RoutingView) (sheet : LegSheet) → IsRouting routing → pool_at sheet < length routing.pools
-has_pool routing sheet r = let below = below_two sheet.side in let two = r.migrates in omega arith
 
 -- the node that keeps a key in a pool is there
 pub has_home : (routing : RoutingView) (pool : ℕ) (key : List ℕ) → IsRouting routing → pool < length routing.pools → HasNode routing pool (place_of routing.hash (pool_of routing pool) key)
@@ -124,10 +118,11 @@ module _ (L : GroundLaws) where
       g.sets_later op d item item pool place issue item.key noreply s stored issued
 
   -- what a get finds is fresh for it
-  found : (routing : RoutingView) (hops : List Hop) (w : WorldView) (m : Message) (item : Item) → IsGrounded routing hops w → IsWellFormed w.history → IsFaithfulWorld w
+  found : (routing : RoutingView) (hops : List Hop) (w : WorldView) (m : Message) (item : Item) → IsGrounded routing hops w → LegsShareHops w.sent → IsWellFormed w.history
+      → IsFaithfulWorld w
       → Has w.sent m → m.sheet.command ≡ Get item.key → IsHeld w.sent w.history (pool_at m.sheet) item
       → (was : WasIssued w.history m.sheet.id.op) × IsFreshHit w.history item was.place (length w.history)
-  found routing hops w m item g formed f has is held =
+  found routing hops w m item g share formed f has is held =
       let get = g.gets_later m item.key has is in (
         get.was,
         record {
@@ -147,7 +142,8 @@ module _ (L : GroundLaws) where
               elim (held_after routing hops w item d ack.noreply start held.place held.by (pool_at m.sheet) g ack.issued held.stored up held.source) [
                 | inl after ↦ after
                 | inr from ↦
-                    elim (between (pool_at up.message.sheet) (pool_at from.message.sheet) (pool_at m.sheet) up.pool from.pool (pools_close from.message.sheet up.message.sheet)) [
+                    let alike = share from.message up.message from.has up.has (from.same_op ∙ sym up.same_op) in
+                    elim (between (pool_at up.message.sheet) (pool_at from.message.sheet) (pool_at m.sheet) up.pool from.pool (pools_close from.message.sheet up.message.sheet alike)) [
                       | inl e ↦ reached up.message up.has up.same_op e
                       | inr e ↦ reached from.message from.has from.same_op e
                     ]
@@ -156,16 +152,18 @@ module _ (L : GroundLaws) where
       )
 
 -- an item that is held elsewhere, or under another key than a delete's, stays as it was
-other_held : (S : List Message) (H : List Entry) (m : Message) (c : NodeCommand) (pool : ℕ) (item : Item) → IsHeld S H pool item
+other_held : (S : List Message) (H : List Entry) (m : Message) (c : NodeCommand) (pool : ℕ) (item : Item) → LegsShareHops S → Has S m → IsHeld S H pool item
     → ((key : List ℕ) → c ≡ Delete key → pool ≡ pool_at m.sheet → item.key ≡ key → ⊥) → IsHeld S (H ++ performed m.sheet c) pool item
-other_held S H m (Get key) pool item h apart = held_grows h (λ k there at new. has_none new)
-other_held S H m (Set key flags exptime block) pool item h apart = held_grows h (λ k there at new. let e = has_one new in cc)
-other_held S H m (Delete key) pool item h apart =
+other_held S H m (Get key) pool item share mine h apart = held_grows h (λ k there at new. has_none new)
+other_held S H m (Set key flags exptime block) pool item share mine h apart = held_grows h (λ k there at new. let e = has_one new in cc)
+other_held S H m (Delete key) pool item share mine h apart =
     held_grows h (λ k there at new.
     let e = has_one new in
+    let op : k.sheet.id.op ≡ m.sheet.id.op = cc in
     let side : k.sheet.side ≡ m.sheet.side = cc in
     let same : item.key ≡ key = cc in
-    apart key refl (sym at ∙ ap (pool_number 0) side) same)
+    let hop = share k m there mine op in
+    apart key refl (sym at ∙ ap (λ (s : Side). pool_number k.sheet.hop s) side ∙ ap (λ hop. pool_number hop m.sheet.side) hop) same)
 
 -- what a set leaves at its place
 set_held : (S : List Message) (H : List Entry) (m : Message) (key : List ℕ) (flags : ℕ) (exptime : ℤ) (block : List ℕ) → Has S m → m.sheet.command ≡ Set key flags exptime block
@@ -179,13 +177,13 @@ set_held S H m key flags exptime block has is = record {
 }
 
 -- an item of a node that performed a command
-left_held : (S : List Message) (H : List Entry) (m : Message) (old new : Contents) (reply : LegReply) (c : NodeCommand) → Has S m → m.sheet.command ≡ c
+left_held : (S : List Message) (H : List Entry) (m : Message) (old new : Contents) (reply : LegReply) (c : NodeCommand) → LegsShareHops S → Has S m → m.sheet.command ≡ c
     → CacheStep old c reply new → (pool : ℕ) (key : List ℕ) (datum : Datum) → pool ≡ pool_at m.sheet → Holds new key datum
     → (Holds old key datum → IsHeld S H pool (record { key = key; flags = datum.flags; block = datum.block }))
     → IsHeld S (H ++ performed m.sheet c) pool (record { key = key; flags = datum.flags; block = datum.block })
-left_held S H m old new reply (Get asked) has is step pool key datum here holds before =
-    other_held S H m (Get asked) pool _ (before (after_get old asked reply new key datum step holds)) (λ k e. cc)
-left_held S H m old new reply (Set set flags exptime block) has is step pool key datum here holds before =
+left_held S H m old new reply (Get asked) share has is step pool key datum here holds before =
+    other_held S H m (Get asked) pool _ share has (before (after_get old asked reply new key datum step holds)) (λ k e. cc)
+left_held S H m old new reply (Set set flags exptime block) share has is step pool key datum here holds before =
     elim (after_set old set flags exptime block reply new key datum step holds) [
       | inl same ↦
           let held = set_held S H m set flags exptime block has is in
@@ -194,18 +192,18 @@ left_held S H m old new reply (Set set flags exptime block) has is step pool key
           ∙ ap (λ (d : Datum). record { key = key; flags = d.flags; block = d.block }) (sym (same.1)) in
           subst (λ p. IsHeld S (H ++ performed m.sheet (Set set flags exptime block)) p (record { key = key; flags = datum.flags; block = datum.block })) (sym here)
           (subst (IsHeld S (H ++ performed m.sheet (Set set flags exptime block)) (pool_at m.sheet)) item held)
-      | inr other ↦ other_held S H m (Set set flags exptime block) pool _ (before (other.1)) (λ k e. cc)
+      | inr other ↦ other_held S H m (Set set flags exptime block) pool _ share has (before (other.1)) (λ k e. cc)
     ]
-left_held S H m old new reply (Delete gone) has is step pool key datum here holds before =
+left_held S H m old new reply (Delete gone) share has is step pool key datum here holds before =
     let kept = after_delete old gone reply new key datum step holds in
-    other_held S H m (Delete gone) pool _ (before (kept.1)) (λ k e at same. kept.0 (let d : gone ≡ k = cc in same ∙ sym d))
+    other_held S H m (Delete gone) pool _ share has (before (kept.1)) (λ k e at same. kept.0 (let d : gone ≡ k = cc in same ∙ sym d))
 
 module _ (L : GroundLaws) where
   pub delivers_grounded : (routing : RoutingView) (hops : List Hop) (w : WorldView) (n now : ℕ) (note : Note) (new : WorldView) → Delivers w n now note new
-      → IsWellFormed w.history → IsWellFormed new.history → IsFaithfulWorld w
+      → LegsShareHops w.sent → IsWellFormed w.history → IsWellFormed new.history → IsFaithfulWorld w
       → ((number index : ℕ) → HasNode routing number index → node_number w.nodes (name_at routing number index) < length w.nodes)
       → IsGrounded routing hops w → IsGrounded routing hops new
-  delivers_grounded routing hops w n now note new step formed formed' f named g =
+  delivers_grounded routing hops w n now note new step share formed formed' f named g =
       let m = step.message in
       let S = w.sent in
       let H = w.history in
@@ -218,10 +216,11 @@ module _ (L : GroundLaws) where
       let quiet : IssuesNothing K = no_issue_performed m.sheet m.sheet.command in
       let cached = L.cache step.node.cache step.left now m.sheet.command step.reply step.step in
       let home = λ (pool : ℕ) (key : List ℕ). number_written w.nodes m.node step.node written (name_at routing pool (place_of routing.hash (pool_of routing pool) key)) step.there.gets refl in
-      let mine = has_pool routing m.sheet g.plan.sound in
+      let mine = g.pools m has in
       subst (IsGrounded routing hops) (sym step.becomes) (record {
         plan = g.plan;
         least = g.least;
+        pools = g.pools;
         goes = λ k there. g.goes k there ∙ sym (home (pool_at k.sheet) (key_of_command k.sheet.command));
         reached = g.reached;
         reach_down = down_quiet hops g.reach_down quiet;
@@ -232,11 +231,11 @@ module _ (L : GroundLaws) where
             elim (at_set w.nodes m.node written at') [
               | inl here ↦
                   let same : pool ≡ pool_at m.sheet = homes_apart L w.nodes routing pool (pool_at m.sheet) key (key_of_command m.sheet.command) g.plan.sound named below mine (here.0 ∙ g.goes m has) in
-                  left_held S H m (contents_of step.node.cache.items) (contents_of step.left.items) step.reply m.sheet.command has refl cached pool key datum same
+                  left_held S H m (contents_of step.node.cache.items) (contents_of step.left.items) step.reply m.sheet.command share has refl cached pool key datum same
                   (subst (λ (x : Node). Holds (contents_of x.cache.items) key datum) (here.1) holds)
                   (λ before. g.held pool step.node key datum below (subst (λ k. At w.nodes k step.node) (sym (here.0)) step.there) before)
               | inr there ↦
-                  other_held S H m m.sheet.command pool _ (g.held pool node key datum below (there.1) holds)
+                  other_held S H m m.sheet.command pool _ share has (g.held pool node key datum below (there.1) holds)
                   (λ k is same equal. there.0 (
                   ap (λ x. home_of w.nodes routing x key) same ∙ ap (home_of w.nodes routing (pool_at m.sheet)) (equal ∙ sym (ap key_of_command is)) ∙ sym (g.goes m has)
                   ))
@@ -252,7 +251,7 @@ module _ (L : GroundLaws) where
                   (subst (λ r. CacheStep (contents_of step.node.cache.items) m.sheet.command r (contents_of step.left.items)) reply cached) in
                   let held = g.held (pool_at m.sheet) step.node (key_of_command m.sheet.command) (record { flags = flags; block = block }) mine
                   (subst (λ i. At w.nodes i step.node) (g.goes m has) step.there) (hit.1) in
-                  let got = found L routing hops w m (record { key = key_of_command m.sheet.command; flags = flags; block = block }) g formed f has (hit.0) held in
+                  let got = found L routing hops w m (record { key = key_of_command m.sheet.command; flags = flags; block = block }) g share formed f has (hit.0) held in
                   let below = at_within (got.0).issued.there in
                   subst (λ (x : Message). (was : WasIssued (H ++ K) x.sheet.id.op)
                   × IsFreshHit (H ++ K) (record { key = key_of_command x.sheet.command; flags = flags; block = block }) was.place (length (H ++ K))) (sym same)

@@ -37,10 +37,10 @@ use Rattle.mr_world.specs.Setup.{SetupView, proxies_from, nodes_at_first, held_e
 use Rattle.mr_world.specs.Steps.{WorldStep, WorldRun, Issues, Delivers, Returns, message_of, performed, answered_by, note_of}
 use Rattle.mr_world.specs.WorldView.{WorldView}
 
-abbrev key : List ℕ
+abbrev pub key : List ℕ
 key = 107 ∷ []
 
-abbrev block : List ℕ
+abbrev pub block : List ℕ
 block = 118 ∷ []
 
 abbrev old_name : List ℕ
@@ -79,7 +79,7 @@ w0 = record {
 }
 
 -- what each kind of event makes of a fleet
-abbrev issued : WorldView → ℕ → ProxyView → ℕ → Request → WorldView
+abbrev pub issued : WorldView → ℕ → ProxyView → ℕ → Request → WorldView
 issued w number proxy reading asked =
     record w {
       proxies = slice_set w.proxies number (after_issue proxy reading asked);
@@ -87,7 +87,7 @@ issued w number proxy reading asked =
       history = w.history ++ entry.Issued (next_op proxy) number asked ∷ [];
     }
 
-does_issue : (w : WorldView) (number : ℕ) (proxy : ProxyView) (reading : ℕ) (asked : Request) → At w.proxies number proxy
+pub does_issue : (w : WorldView) (number : ℕ) (proxy : ProxyView) (reading : ℕ) (asked : Request) → At w.proxies number proxy
     → At w.readings.standing number reading → HasLegs asked → refusal_of proxy ≡ None
     → Issues w number asked (Issued (next_op proxy) (length w.sent) (length (sheets_of proxy reading asked))) (issued w number proxy reading asked)
 does_issue w number proxy reading asked home clock legs accepted = record {
@@ -101,7 +101,7 @@ does_issue w number proxy reading asked home clock legs accepted = record {
   becomes = refl;
 }
 
-abbrev delivered : WorldView → ℕ → Message → Node → WorldView
+abbrev pub delivered : WorldView → ℕ → Message → Node → WorldView
 delivered w number message node =
     record w {
       nodes = slice_set w.nodes message.node (record { name = node.name; cache = record node.cache { items = items_after node.cache.capacity 1 message.sheet.command node.cache.items } });
@@ -109,7 +109,7 @@ delivered w number message node =
       history = w.history ++ performed message.sheet message.sheet.command;
     }
 
-does_deliver : (w : WorldView) (number : ℕ) (message : Message) (node : Node) → At w.sent number message → At w.nodes message.node node
+pub does_deliver : (w : WorldView) (number : ℕ) (message : Message) (node : Node) → At w.sent number message → At w.nodes message.node node
     → Delivers w number 1 (Performed (length w.replies)) (delivered w number message node)
 does_deliver w number message node sent there = record {
   message = message;
@@ -123,14 +123,14 @@ does_deliver w number message node sent there = record {
   becomes = refl;
 }
 
-abbrev returned : WorldView → Message → ProxyView → LegReply → WorldView
+abbrev pub returned : WorldView → Message → ProxyView → LegReply → WorldView
 returned w message proxy reply =
     record w {
       proxies = slice_set w.proxies message.sheet.id.op.proxy (after_take proxy message.sheet.id reply);
       history = w.history ++ answered_by (taken_of proxy message.sheet.id reply);
     }
 
-does_return : (w : WorldView) (number from : ℕ) (message : Message) (proxy : ProxyView) (reply : LegReply)
+pub does_return : (w : WorldView) (number from : ℕ) (message : Message) (proxy : ProxyView) (reply : LegReply)
     → At w.replies number (record { message = from; reply = reply }) → At w.sent from message → At w.proxies message.sheet.id.op.proxy proxy
     → Returns w number (note_of (taken_of proxy message.sheet.id reply)) (returned w message proxy reply)
 does_return w number from message proxy reply came sent home = record {
@@ -158,10 +158,10 @@ abbrev w1 : WorldView
 w1 = issued w0 0 a0 12 first_delete
 
 abbrev from_old : Message
-from_old = message_of w0.nodes routing (sheet_at routing (next_op a0) 0 (record { side = Old; command = command.Delete key }))
+from_old = message_of w0.nodes routing (sheet_at routing 0 (next_op a0) 0 (record { side = Old; command = command.Delete key }))
 
 abbrev from_new : Message
-from_new = message_of w0.nodes routing (sheet_at routing (next_op a0) 1 (record { side = New; command = command.Delete key }))
+from_new = message_of w0.nodes routing (sheet_at routing 0 (next_op a0) 1 (record { side = New; command = command.Delete key }))
 
 s0 : WorldStep w0 (Client 0 first_delete) (Issued (next_op a0) 0 2) w1
 s0 = does_issue w0 0 a0 12 first_delete (record { gets = refl }) (record { gets = refl }) tt refl
@@ -222,7 +222,7 @@ s6 : WorldStep w6 (Client 1 later_set) (Issued (next_op b0) 2 1) w7
 s6 = does_issue w6 1 b0 16 later_set (record { gets = refl }) (record { gets = refl }) tt refl
 
 abbrev set_new : Message
-set_new = message_of w6.nodes routing (sheet_at routing (next_op b0) 0 (record { side = New; command = command.Set key 0 (pos 0) block }))
+set_new = message_of w6.nodes routing (sheet_at routing 0 (next_op b0) 0 (record { side = New; command = command.Set key 0 (pos 0) block }))
 
 abbrev w8 : WorldView
 w8 = delivered w7 2 set_new new_empty
@@ -252,7 +252,7 @@ s9 : WorldStep w9 (Client 1 later_get) (Issued (next_op b2) 3 1) w10
 s9 = does_issue w9 1 b2 16 later_get (record { gets = refl }) (record { gets = refl }) (omega arith) refl
 
 abbrev get_new : Message
-get_new = message_of w9.nodes routing (sheet_at routing (next_op b2) 0 (record { side = New; command = command.Get key }))
+get_new = message_of w9.nodes routing (sheet_at routing 0 (next_op b2) 0 (record { side = New; command = command.Get key }))
 
 abbrev new_full : Node
 new_full = with_item (record { node = new_name; key = key; flags = 0; block = block }) new_empty
@@ -294,7 +294,7 @@ alike =
     AllPairs-cons IsLike (proxy_at 12) (proxy_at 14 ∷ []) (All-cons (IsLike (proxy_at 12)) (proxy_at 14) [] like (All-nil (IsLike (proxy_at 12)))) alone
 
 -- the names differ
-other_byte : (x y : ℕ) → x ≡ 110 → y ≡ 111 → x ≡ y → ⊥
+pub other_byte : (x y : ℕ) → x ≡ 110 → y ≡ 111 → x ≡ y → ⊥
 other_byte x y is_new is_old same = omega arith
 
 other_name : new_name ≡ old_name → ⊥
@@ -335,7 +335,7 @@ forward = (λ before e. let is : 14 ≡ before = cc in omega arith, tt)
 near : StayWithin 5 (12 ∷ 14 ∷ []) (record { proxy = 1; reading = 16 } ∷ [])
 near = (two_within 5 12 14 (omega arith) (omega arith), two_within 5 12 16 (omega arith) (omega arith))
 
-pool_of_one : (name : List ℕ) → IsPool (name ∷ [])
+pub pool_of_one : (name : List ℕ) → IsPool (name ∷ [])
 pool_of_one name = record { not_empty = omega arith; not_many = omega arith; distinct = λ i j d before within. absurd (omega arith) }
 
 sized : (number : ℕ) → number < 2 → IsPool (pool_of routing number)
@@ -357,6 +357,7 @@ of_hop P holds = All-cons P example_hop [] holds (All-nil P)
 scheduled : IsSchedule hops
 scheduled = record {
   begins = omega arith;
+  few = omega arith;
   chain = tt;
   lasts = of_hop (λ h. 0 < h.interval) (omega arith);
   fits = of_hop (λ h. h.start + 2 * h.interval < 2 ^ 64) (omega arith);
@@ -366,7 +367,7 @@ abbrev HasPlan : ProxySetup → Type 0
 HasPlan proxy = IsPlan proxy.routing proxy.schedule
 
 plan : (reading : ℕ) → HasPlan (proxy_at reading)
-plan reading = record { sound = record { migrates = refl; sized = sized; apart = apart }; schedule = scheduled; single = refl }
+plan reading = record { sound = record { migrates = omega arith; few = omega arith; sized = sized; apart = apart }; schedule = scheduled; chain = refl }
 
 pub example_happens : Happens
 example_happens = record {

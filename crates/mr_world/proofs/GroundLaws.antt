@@ -13,7 +13,7 @@ use Rattle.mr_node.specs.CacheStep.{CacheStep, contents_of}
 use Rattle.mr_node.specs.Recency.{CacheView, RecencyStep}
 use Rattle.mr_node.specs.declared.command.NodeCommand.{NodeCommand}
 use Rattle.mr_phases.specs.Pools.{read_pool, delete_pools, SomeFrom}
-use Rattle.mr_phases.specs.Schedule.{Hop, IsChain, least_interval}
+use Rattle.mr_phases.specs.Schedule.{Hop, IsChain, hop_of, least_interval}
 use Rattle.mr_pools.specs.Names.{HasNode, name_at}
 use Rattle.mr_pools.specs.Routing.{RoutingView, IsRouting}
 use Rattle.mr_proxy.specs.declared.sheet.LegSheet.{LegSheet}
@@ -29,9 +29,10 @@ pub record GroundLaws : Type 0 where
   pub says : (routing : RoutingView) (hops : List Hop) (op : OpId) (u : ℕ) (request : Request) (place : ℕ) (sheet : LegSheet)
       → slice_get (sheets_by routing hops op u request) place ≡ Some sheet → IsSheetOf routing hops op u request place sheet
   pub goes_by : (routing : RoutingView) (hops : List Hop) (op : OpId) (u : ℕ) (request : Request) (place : ℕ) (sheet : LegSheet)
-      → length hops ≡ 1 → slice_get (sheets_by routing hops op u request) place ≡ Some sheet → GoesBy hops u (pool_at sheet) sheet.command
+      → slice_get (sheets_by routing hops op u request) place ≡ Some sheet → GoesBy hops u (pool_at sheet) sheet.command
   pub deletes : (routing : RoutingView) (hops : List Hop) (op : OpId) (u : ℕ) (key : List ℕ) (noreply : Bool) (pool : ℕ)
-      → length hops ≡ 1 → Contains (delete_pools hops u) pool → DeletesIn (sheets_by routing hops op u (Delete key noreply)) op pool key
+      → Contains (delete_pools hops u) pool → DeletesIn (sheets_by routing hops op u (Delete key noreply)) op pool key
+  pub hop_within : (hops : List Hop) (t : ℕ) → 0 < length hops → hop_of hops t < length hops
   pub overlap : (hops : List Hop) (t u : ℕ) → IsChain hops → t ≤ u + least_interval hops → u ≤ t + least_interval hops
       → Contains (delete_pools hops u) (read_pool hops t)
   pub read_up : (hops : List Hop) (t u : ℕ) → IsChain hops → t ≤ u → read_pool hops t ≤ read_pool hops u

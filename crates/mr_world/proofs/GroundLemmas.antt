@@ -1,5 +1,5 @@
 -- Each step keeps a fleet secured as long as its premises hold.
-use Rattle.std.proofs.Common.{◌≡◌, ℕ, ◌+◌, ◌<◌, ◌≤◌, Bool, true, false, IsTrue, List, [], ◌∷◌, ◌++◌, length, remove, slice_set, Option, Some, None, Contains, if◌then◌else◌, refl, sym, ap, subst, subst₂, ◌∙◌, inl, inr, arith}
+use Rattle.std.proofs.Common.{◌≡◌, ℕ, ◌+◌, ◌<◌, ◌≤◌, Bool, true, false, IsTrue, List, [], ◌∷◌, ◌++◌, length, remove, slice_get, slice_set, Option, Some, None, Contains, if◌then◌else◌, refl, sym, ap, subst, subst₂, ◌∙◌, inl, inr, arith}
 use Rattle.std.proofs.lemmas.Bool.{leb-true}
 use Rattle.std.proofs.lemmas.List.{append-nil}
 use Rattle.std.proofs.lemmas.Option.{none-some}
@@ -16,7 +16,7 @@ use Rattle.mr_node.specs.CacheStep.{Holds, contents_of}
 use Rattle.mr_node.specs.Command.{key_of_command}
 use Rattle.mr_node.specs.Output.{is_silent}
 use Rattle.mr_phases.specs.Pools.{read_pool, delete_pools, SomeFrom}
-use Rattle.mr_phases.specs.Schedule.{Hop, IsChain, first_start, first_interval}
+use Rattle.mr_phases.specs.Schedule.{Hop, IsChain}
 use Rattle.mr_pools.specs.Names.{name_at}
 use Rattle.mr_pools.specs.Routing.{RoutingView, pool_of, place_of}
 use Rattle.mr_proxy.specs.declared.taken.Taken.{Taken}
@@ -44,7 +44,7 @@ use Rattle.mr_world.specs.Steps.{answered, answered_by, Ticks, Issues, ClientAsk
 use Rattle.mr_world.specs.Tracked.{IsTracked}
 use Rattle.mr_world.specs.WorldView.{WorldView}
 use Rattle.mr_world.proofs.Lists.{at_one, at_set, at_there, at_left, at_within, has_one, has_none}
-use Rattle.mr_world.proofs.FactLemmas.{issued_place, contains_has}
+use Rattle.mr_world.proofs.FactLemmas.{issued_place}
 use Rattle.mr_world.proofs.ReadyLemmas.{TellsPremises}
 use Rattle.mr_world.proofs.TrackedLemmas.{number_written}
 use Rattle.mr_world.proofs.GroundLaws.{GroundLaws, IssuesNothing, up_higher, down_quiet, sets_quiet, gets_grow, held_grows, hits_more}
@@ -83,6 +83,7 @@ module _ (L : GroundLaws) where
   answers_grounded routing hops w P K only formed g = record {
     plan = g.plan;
     least = g.least;
+    pools = g.pools;
     goes = g.goes;
     reached = g.reached;
     reach_down = down_quiet hops g.reach_down (answers_issue_nothing only);
@@ -134,6 +135,7 @@ module _ (L : GroundLaws) where
       subst (IsGrounded routing hops) (sym step.becomes) (record {
         plan = g.plan;
         least = g.least;
+        pools = g.pools;
         goes = g.goes;
         reached = λ by item pool n c sent h. (let (was, at, above) = rise n c h in still_from hops was c pool chain above (g.reached by item pool n was sent at));
         reach_down = λ d key noreply issue n c issued h.
@@ -156,6 +158,7 @@ module _ (L : GroundLaws) where
       subst (IsGrounded routing hops) (sym step.becomes) (record {
         plan = g.plan;
         least = g.least;
+        pools = g.pools;
         goes = λ m has. g.goes m has ∙ sym (home (pool_at m.sheet) (key_of_command m.sheet.command));
         reached = g.reached;
         reach_down = g.reach_down;
@@ -172,15 +175,12 @@ module _ (L : GroundLaws) where
 
 -- the facts, as a reader wants them
 
--- what the schedule's first phases say of pools
+-- what a hop says of the pools before its start, and before its middle
 pub record EarlyLaws : Type 0 where
-  pub before_start : (hops : List Hop) (t : ℕ) → IsChain hops → t < first_start hops → delete_pools hops t ≡ 0 ∷ []
-  pub before_middle : (hops : List Hop) (t : ℕ) → IsChain hops → t < first_start hops + first_interval hops → read_pool hops t ≡ 0
-
-early_one : (hops : List Hop) (t pool found : ℕ) → delete_pools hops t ≡ 0 ∷ [] → Contains (delete_pools hops t) found → pool ≤ found → pool ≡ 0
-early_one hops t pool found is has below =
-    let zero : found ≡ 0 = has_one (contains_has (0 ∷ []) found (subst (λ l. Contains l found) is has)) in
-    omega arith
+  pub before_start : (hops : List Hop) (t number pool : ℕ) (hop : Hop) → IsChain hops → slice_get hops number ≡ Some hop → t < hop.start
+      → Contains (delete_pools hops t) pool → pool ≤ number
+  pub before_middle : (hops : List Hop) (t number : ℕ) (hop : Hop) → IsChain hops → slice_get hops number ≡ Some hop
+      → t < hop.start + hop.interval → read_pool hops t ≤ number
 
 module _ (L : EarlyLaws) where
   ground_of : (routing : RoutingView) (hops : List Hop) (w : WorldView) → IsGrounded routing hops w → IsGround routing hops w
@@ -193,13 +193,13 @@ module _ (L : EarlyLaws) where
         gets_later = g.gets_later;
         held = g.held;
         fresh = g.fresh;
-        early_sets = λ by item pool n c sent clock early.
+        early_sets = λ number hop by item pool n c there sent clock early.
             let some = g.reached by item pool n c sent clock in
-            early_one hops c pool some.found (L.before_start hops c chain early) some.has some.from;
-        early_deletes = λ d key noreply issue n c issued clock early.
-            let leg = g.reach_down d key noreply issue n c issued clock in
-            let first = L.before_middle hops c chain early in
-            record { message = leg.message; has = leg.has; same_op = leg.same_op; command = leg.command; pool = (let up = leg.pool in omega arith) };
+            let from = some.from in
+            let stays = L.before_start hops c number some.found hop chain there.gets early some.has in
+            omega arith;
+        early_deletes = λ number hop d key noreply issue n c there issued clock early.
+            up_higher number (L.before_middle hops c number hop chain there.gets early) (g.reach_down d key noreply issue n c issued clock);
       }
 
   pub stands : (w : WorldView) → StaysSecured w → StandsOnGround w
@@ -275,6 +275,7 @@ same_but_proxies : (routing : RoutingView) (hops : List Hop) (w : WorldView) (P 
 same_but_proxies routing hops w P g = record {
   plan = g.plan;
   least = g.least;
+  pools = g.pools;
   goes = g.goes;
   reached = g.reached;
   reach_down = g.reach_down;
@@ -334,7 +335,7 @@ module _ (L : GroundLaws) where
       (subst (λ (w : WorldView). ArePast w.readings.standing w.proxies) (sym step.becomes) s.past)
       (subst (λ (w : WorldView). IsSafe w.history) (sym step.becomes)
       (performed_safe L old.history step.message.sheet step.message.sheet.command (subst (λ (w : WorldView). IsWellFormed w.history) step.becomes formed) s.safe))
-      (λ n p at. delivers_grounded L p.routing p.schedule old number now note new step track.formed formed f (track.proxies n p at).named (s.grounded n p at))
+      (λ n p at. delivers_grounded L p.routing p.schedule old number now note new step track.hops track.formed formed f (track.proxies n p at).named (s.grounded n p at))
 
   -- one proxy takes a reply or gives up, and may answer
   moves_secured : (old : WorldView) (number : ℕ) (p q : ProxyView) (K : List Entry) → At old.proxies number p → Stays p q → AnswersOnly K → IsWellFormed (old.history ++ K)

@@ -15,6 +15,7 @@ use Rattle.mr_phases.specs.Schedule.{Hop, IsSchedule}
 use Rattle.mr_pools.specs.Names.{name_at}
 use Rattle.mr_pools.specs.Routing.{RoutingView, IsRouting, pool_of, place_of}
 use Rattle.mr_proxy.specs.ProxyView.{ProxyView, fresh_proxy}
+use Rattle.mr_proxy.specs.Sheets.{HaveAsManyHops}
 use Rattle.mr_proxy.specs.Sound.{IsSound}
 use Rattle.mr_world.specs.declared.event.Event.{Event}
 use Rattle.mr_world.specs.declared.message.Message.{Message}
@@ -112,6 +113,7 @@ module _ (cache : CacheLaw) (setup : SetupView) (w : WorldView) (b : Begins setu
   first_grounded empty place proxy at plan = record {
     plan = plan;
     least = (let is = b.least in let below = least_below setup.proxies place proxy at in omega arith);
+    pools = λ m has. nothing_sent m has;
     goes = λ m has. nothing_sent m has;
     reached = λ by item pool n c sent clock. nothing_sent sent.message sent.has;
     reach_down = λ d key noreply issue n c issued clock. (let (item, is) = held_entries setup.held (entry.Issued d issued.proxy (request.Delete key noreply)) issue (subst (λ l. At l issue (entry.Issued d issued.proxy (request.Delete key noreply))) b.history issued.there) in cc);
@@ -156,12 +158,12 @@ module _ (setup : SetupView) (w : WorldView) (b : Begins setup w) (plans : All (
       let (proxy, there, is) = proxy_from 0 setup.proxies k (get_or w.proxies k d) (ap (λ l. slice_get l k) (sym b.proxies) ∙ slice_get-get_or w.proxies k d below) in
       subst (λ (x : ProxyView). IsPlan x.routing x.schedule) (sym is) (all_at (λ (x : ProxySetup). IsPlan x.routing x.schedule) setup.proxies k proxy plans there)
 
-  pub begin_sound : ((number incarnation : ℕ) (routing : RoutingView) (hops : List Hop) (room : ℕ) → IsRouting routing → IsSchedule hops → IsSound (fresh_proxy number incarnation routing hops room))
+  pub begin_sound : ((number incarnation : ℕ) (routing : RoutingView) (hops : List Hop) (room : ℕ) → IsRouting routing → IsSchedule hops → HaveAsManyHops routing hops → IsSound (fresh_proxy number incarnation routing hops room))
       → All IsSound w.proxies
   begin_sound law k d below =
       let (proxy, there, is) = proxy_from 0 setup.proxies k (get_or w.proxies k d) (ap (λ l. slice_get l k) (sym b.proxies) ∙ slice_get-get_or w.proxies k d below) in
       let plan = all_at (λ (x : ProxySetup). IsPlan x.routing x.schedule) setup.proxies k proxy plans there in
-      subst IsSound (sym is) (law (0 + k) 0 proxy.routing proxy.schedule proxy.room plan.sound plan.schedule)
+      subst IsSound (sym is) (law (0 + k) 0 proxy.routing proxy.schedule proxy.room plan.sound plan.schedule plan.chain)
 
 within_now : (most : ℕ) (readings : List ℕ) (ticks : List Tick) → StayWithin most readings ticks → AreWithin most readings
 within_now most readings [] within = within

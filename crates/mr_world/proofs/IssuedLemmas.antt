@@ -1,5 +1,5 @@
 -- A request that is accepted keeps what the headline rests on.
-use Rattle.std.proofs.Common.{◌≡◌, ℕ, ◌+◌, ◌≤◌, Bool, List, [], ◌∷◌, ◌++◌, length, map, Option, Some, None, Contains, slice_get, refl, sym, ap, subst, ◌∙◌, inl, inr, arith}
+use Rattle.std.proofs.Common.{◌≡◌, ℕ, ◌+◌, ◌<◌, ◌≤◌, Bool, List, [], ◌∷◌, ◌++◌, length, map, Option, Some, None, Contains, slice_get, refl, sym, ap, subst, ◌∙◌, inl, inr, arith}
 use Rattle.mr_text.specs.declared.item.Item.{Item}
 use Rattle.mr_text.specs.declared.request.Request.{Request}
 use Rattle.mr_text.specs.declared.request.Request.TheVariants as request
@@ -14,13 +14,13 @@ use Rattle.mr_node.specs.Command.{key_of_command}
 use Rattle.mr_node.specs.declared.command.NodeCommand.{NodeCommand}
 use Rattle.mr_node.specs.declared.command.NodeCommand.TheVariants.{Get, Set, Delete}
 use Rattle.mr_phases.specs.Pools.{read_pool, delete_pools}
-use Rattle.mr_phases.specs.Schedule.{Hop, IsChain, least_interval}
+use Rattle.mr_phases.specs.Schedule.{Hop, IsChain, hop_of, least_interval}
 use Rattle.mr_pools.specs.Names.{name_at}
 use Rattle.mr_proxy.specs.declared.sheet.LegId.{LegId}
 use Rattle.mr_proxy.specs.declared.sheet.LegSheet.{LegSheet}
 use Rattle.mr_proxy.specs.Issue.{next_op, used_reading, sheets_of}
 use Rattle.mr_proxy.specs.ProxyView.{ProxyView}
-use Rattle.mr_proxy.specs.Sheets.{pool_at, GoesBy}
+use Rattle.mr_proxy.specs.Sheets.{pool_at, HasHop, GoesBy}
 use Rattle.mr_world.specs.declared.message.Message.{Message}
 use Rattle.mr_world.specs.Facts.{CameBack}
 use Rattle.mr_world.specs.Ground.{SetSent, DeleteSent, LegUpTo, LegFrom, IsHeld, GetComesLater, SetsAreReached, DeletesReachDown, SetsComeLater, GetsComeLater, home_of}
@@ -32,6 +32,7 @@ use Rattle.mr_world.specs.Tracked.{IsTracked}
 use Rattle.mr_world.specs.WorldView.{WorldView}
 use Rattle.mr_world.proofs.Lists.{at_left, at_before, at_last, at_new, at_taken, at_within, has_right, has_cases, has_map, has_mapped}
 use Rattle.mr_world.proofs.FactLemmas.{issue_before}
+use Rattle.mr_world.proofs.TrackedLemmas.{pool_there}
 use Rattle.mr_world.proofs.GroundLaws.{GroundLaws, delete_grows, source_grows, get_grows, issued_early, hits_more, safe_quiet}
 
 -- a last reading that isn't ahead of its clock changes nothing
@@ -116,7 +117,7 @@ module _ (L : GroundLaws) (w : WorldView) (number u : ℕ) (p : ProxyView) (q : 
   new_message m has =
       let (sheet, there, is) = has_map (message_of w.nodes p.routing) sheets has in
       let says = L.says p.routing hops op (used_reading p.last u) q there.place sheet there.there.gets in
-      let by = L.goes_by p.routing hops op (used_reading p.last u) q there.place sheet g.plan.single there.there.gets in
+      let by = L.goes_by p.routing hops op (used_reading p.last u) q there.place sheet there.there.gets in
       subst IsNew (sym is) (record {
         sheet = sheet;
         has_sheet = there;
@@ -137,7 +138,7 @@ module _ (L : GroundLaws) (w : WorldView) (number u : ℕ) (p : ProxyView) (q : 
   new_leg : (key : List ℕ) (noreply : Bool) (pool : ℕ) (Goal : ℕ → Type 0) → q ≡ request.Delete key noreply → Contains (delete_pools hops u) pool → Goal pool
       → DeleteSent (S ++ T) op key Goal
   new_leg key noreply pool Goal is among goal =
-      let leg = L.deletes p.routing hops op (used_reading p.last u) key noreply pool g.plan.single (subst (λ t. Contains (delete_pools hops t) pool) (sym now) among) in
+      let leg = L.deletes p.routing hops op (used_reading p.last u) key noreply pool (subst (λ t. Contains (delete_pools hops t) pool) (sym now) among) in
       let there : Has sheets leg.sheet = record { place = leg.place; there = record { gets = subst (λ x. slice_get (sheets_of p u x) leg.place ≡ Some leg.sheet) (sym is) leg.there } } in
       record {
         message = message_of w.nodes p.routing leg.sheet;
@@ -226,6 +227,19 @@ module _ (L : GroundLaws) (w : WorldView) (number u : ℕ) (p : ProxyView) (q : 
   came_old m r c =
       record { number = c.number; from = c.from; came = c.came; was_sent = at_before S T c.was_sent (track.replies c.number (record { message = c.from; reply = r }) c.came) }
 
+  new_pools : (m : Message) → Has (S ++ T) m → pool_at m.sheet < length p.routing.pools
+  new_pools m has = elim (has_cases S T has) [
+    | inl old ↦ g.pools m old
+    | inr new ↦
+        let (sheet, there, is) = has_map (message_of w.nodes p.routing) sheets new in
+        let says = L.says p.routing hops op (used_reading p.last u) q there.place sheet there.there.gets in
+        let within = L.hop_within hops (used_reading p.last u) g.plan.schedule.begins in
+        let many = g.plan.chain in
+        let has_hop : HasHop p.routing (hop_of hops (used_reading p.last u)) = omega arith in
+        subst (λ (x : Message). pool_at x.sheet < length p.routing.pools) (sym is)
+        (pool_there p.routing sheet.hop sheet.side (subst (HasHop p.routing) (sym says.hop) has_hop))
+  ]
+
   new_goes : (m : Message) → Has (S ++ T) m → m.node ≡ home_of w.nodes p.routing (pool_at m.sheet) (key_of_command m.sheet.command)
   new_goes m has = elim (has_cases S T has) [ inl old ↦ g.goes m old | inr new ↦ (new_message m new).node ]
 
@@ -233,6 +247,7 @@ module _ (L : GroundLaws) (w : WorldView) (number u : ℕ) (p : ProxyView) (q : 
   issued_grounded P = record {
     plan = g.plan;
     least = g.least;
+    pools = new_pools;
     goes = new_goes;
     reached = new_reached;
     reach_down = new_down;

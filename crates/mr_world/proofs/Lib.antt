@@ -15,3 +15,4 @@ pub mod IssuedLemmas
 pub mod GroundLemmas
 pub mod HeadlineLemmas
 pub mod ExampleLemmas
+pub mod ChainExampleLemmas

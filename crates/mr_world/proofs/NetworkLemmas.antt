@@ -101,9 +101,11 @@ module _ (nodes : List Node) (p : ProxyView) (sheet : LegSheet) (has : HasNode p
 
   pub has_number : HasNumber (numbers_in nodes p) sheet
   has_number =
+      let pools = length-map p.routing.pools (λ (pool : List (List ℕ)). map (node_number nodes) pool) in
       let count = ap length numbers_there ∙ length-map (pool_of p.routing (pool_at sheet)) (node_number nodes) in
+      let there = has.pool in
       let within = has.within in
-      omega arith
+      record { pool = omega arith; node = omega arith }
 
   pub same_message : message_by (numbers_in nodes p) sheet ≡ message_of nodes p.routing sheet
   same_message =
@@ -276,19 +278,6 @@ pub map_more : {X Y : Type 0} (f : X → Y) (xs : List X) (i : ℕ) (d : X) → 
 map_more f xs i d below =
     let next : i + 1 ≡ suc i = omega arith in
     ap (λ n. map f (take n xs)) next ∙ ap (map f) (take-suc xs i d below) ∙ map-append f (take i xs) (get_or xs i d ∷ [])
-
-both : {X : Type 0} (xs : List X) (d : X) → length xs ≡ 2 → xs ≡ get_or xs 0 d ∷ get_or xs 1 d ∷ []
-both [] d e = absurd (omega arith)
-both (x ∷ []) d e = absurd (omega arith)
-both (x ∷ y ∷ []) d e = refl
-both (x ∷ y ∷ z ∷ xs) d e = absurd (omega arith)
-
--- the numbers of both pools are those of a routing
-pub both_pools : (nodes : List Node) (p : ProxyView) (old new : List ℕ) → IsRouting p.routing → old ≡ map (node_number nodes) (pool_of p.routing 0)
-    → new ≡ map (node_number nodes) (pool_of p.routing 1) → old ∷ new ∷ [] ≡ numbers_in nodes p
-both_pools nodes p old new routing old_is new_is =
-    ap (λ l. l ∷ new ∷ []) old_is ∙ ap (λ l. map (node_number nodes) (pool_of p.routing 0) ∷ l ∷ []) new_is
-    ∙ ap (map (λ pool. map (node_number nodes) pool)) (sym (both p.routing.pools [] routing.migrates))
 
 within_some : {X : Type 0} (test : X → Bool) (xs : List X) (k : ℕ) (b : Bool) → nat_lt (position_or_len test xs) (length xs) ≡ b
     → (if b then Some (position_or_len test xs) else None) ≡ Some k → k < length xs

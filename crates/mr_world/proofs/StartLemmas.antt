@@ -19,7 +19,8 @@ use Rattle.mr_world.specs.Setup.{SetupView, with_name, with_pool, with_routing, 
 use Rattle.mr_world.specs.Positions.{node_number}
 use Rattle.mr_world.specs.Tracked.{IsTracked}
 use Rattle.mr_world.specs.WorldView.{WorldView}
-use Rattle.mr_world.proofs.Lists.{at_none, at_within, has_map, length_set}
+use Rattle.mr_world.specs.Lists.{Has}
+use Rattle.mr_world.proofs.Lists.{at_none, at_within, has_map, has_none, length_set}
 use Rattle.mr_world.proofs.TrackedLemmas.{number_written}
 
 -- a node of the name is among the nodes
@@ -172,6 +173,7 @@ begin_tracked law setup w b sound = record {
       };
   sent = λ k m there. at_none (subst (λ l. At l k m) b.sent there);
   goes = λ k m there. at_none (subst (λ l. At l k m) b.sent there);
+  hops = λ one other has. absurd (has_none (subst (λ l. Has l one) b.sent has));
   replies = λ k d there. at_none (subst (λ l. At l k d) b.replies there);
   formed = subst IsWellFormed (sym b.history) (held_formed setup.held);
   given_out = λ op was. absurd (not_issued setup.held (subst (λ h. WasIssued h op) b.history was));

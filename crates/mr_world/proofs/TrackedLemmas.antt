@@ -16,7 +16,7 @@ use Rattle.mr_node.specs.declared.command.NodeCommand.{NodeCommand}
 use Rattle.mr_node.specs.declared.command.NodeCommand.TheVariants.{Get, Set, Delete}
 use Rattle.mr_phases.specs.declared.side.Side.{Side}
 use Rattle.mr_phases.specs.declared.side.Side.TheVariants.{Old, New}
-use Rattle.mr_phases.specs.Schedule.{Hop}
+use Rattle.mr_phases.specs.Schedule.{Hop, hop_of}
 use Rattle.mr_pools.specs.Hash.{spot_by}
 use Rattle.mr_pools.specs.Names.{HasNode, name_at}
 use Rattle.mr_pools.specs.Routing.{RoutingView, IsRouting, pool_of}
@@ -32,7 +32,7 @@ use Rattle.mr_node.specs.Command.{key_of_command}
 use Rattle.mr_node.specs.Output.{is_silent}
 use Rattle.mr_proxy.specs.Pending.{PendingView}
 use Rattle.mr_proxy.specs.ProxyView.{ProxyView}
-use Rattle.mr_proxy.specs.Sheets.{pool_at, IsSheetOf}
+use Rattle.mr_proxy.specs.Sheets.{pool_at, HasHop, IsSheetOf}
 use Rattle.mr_proxy.specs.Sound.{ProxyStep, IsSoundPending, IsSound, WasGivenOut}
 use Rattle.mr_proxy.specs.Sound.ProxyStep.{issues, takes, gives_up, restarts}
 use Rattle.mr_proxy.specs.Transitions.{taken_of, after_take, after_give_up, after_restart}
@@ -45,9 +45,9 @@ use Rattle.mr_world.specs.declared.note.Note.{Note}
 use Rattle.mr_world.specs.Lists.{Has}
 use Rattle.mr_world.specs.Steps.{message_of, performed, answered, answered_by, Ticks, Issues, ClientAsks, Delivers, Returns, GivesUp, Empties, Restarts, WorldStep}
 use Rattle.mr_world.specs.Positions.{node_number}
-use Rattle.mr_world.specs.Tracked.{GoesWhereNamed, IsAtHome, IsUnanswered, IsWaiting, IsSent, IsGivenOut, IsTracked}
+use Rattle.mr_world.specs.Tracked.{GoesWhereNamed, IsAtHome, IsUnanswered, IsWaiting, IsSent, LegsShareHops, IsGivenOut, IsTracked}
 use Rattle.mr_world.specs.WorldView.{WorldView}
-use Rattle.mr_world.proofs.Lists.{test_holds, at_there, at_within, at_one, at_left, at_cases, at_last, at_new, has_one, has_none, has_map, at_set, at_kept, at_written, length_set, length_left, at_taken, at_none}
+use Rattle.mr_world.proofs.Lists.{test_holds, has_cases, at_there, at_within, at_one, at_left, at_cases, at_last, at_new, has_one, has_none, has_map, at_set, at_kept, at_written, length_set, length_left, at_taken, at_none}
 use Rattle.mr_world.proofs.ProxyLemmas.{step_keeps, AnswersPending, stays_after_take, taken_answers, stays_after_give_up, given_up_answers}
 
 -- the laws of the layers below
@@ -59,6 +59,7 @@ pub record Laws : Type 0 where
   pub for_good : (old new : ProxyView) (op : OpId) → WasGivenOut old op → ProxyStep old new → WasGivenOut new op
   pub says : (routing : RoutingView) (hops : List Hop) (op : OpId) (u : ℕ) (request : Request) (place : ℕ) (sheet : LegSheet)
       → slice_get (sheets_by routing hops op u request) place ≡ Some sheet → IsSheetOf routing hops op u request place sheet
+  pub hop_within : (hops : List Hop) (t : ℕ) → 0 < length hops → hop_of hops t < length hops
   pub keep_form : (history : List Entry) (entry : Entry) → IsWellFormed history → Fits history entry → IsWellFormed (history ++ entry ∷ [])
 
 -- histories that grow
@@ -237,14 +238,14 @@ sent_nodes nodes H K k new m s = record { node = (let below = s.node in let coun
 
 -- a leg goes to a node of its pool
 
-pub pool_there : (routing : RoutingView) (side : Side) → IsRouting routing → pool_number 0 side < length routing.pools
-pool_there routing Old r = let two = r.migrates in omega arith
-pool_there routing New r = let two = r.migrates in omega arith
+pub pool_there : (routing : RoutingView) (hop : ℕ) (side : Side) → HasHop routing hop → pool_number hop side < length routing.pools
+pool_there routing hop Old has = omega arith
+pool_there routing hop New has = has
 
-node_there : (routing : RoutingView) (sheet : LegSheet) (spot : ℕ) → IsRouting routing
+node_there : (routing : RoutingView) (sheet : LegSheet) (spot : ℕ) → IsRouting routing → HasHop routing sheet.hop
     → sheet.node ≡ spot % length (pool_of routing (pool_at sheet)) → HasNode routing (pool_at sheet) sheet.node
-node_there routing sheet spot r is =
-    let there = pool_there routing sheet.side r in
+node_there routing sheet spot r has is =
+    let there = pool_there routing sheet.hop sheet.side has in
     let size : 0 < length (pool_of routing (pool_at sheet)) = (let some = (r.sized (pool_at sheet) there).not_empty in omega arith) in
     let below = mod_below spot (length (pool_of routing (pool_at sheet))) size in
     record { pool = there; within = omega arith }
@@ -252,10 +253,21 @@ node_there routing sheet spot r is =
 pub sheet_there : Laws → (p : ProxyView) (t : ℕ) (request : Request) (sheet : LegSheet) → IsSound p → Has (sheets_of p t request) sheet
     → HasNode p.routing (pool_at sheet) sheet.node × (sheet.id.op ≡ next_op p)
 sheet_there L p t request sheet s h =
-    let says = L.says p.routing p.schedule (next_op p) (used_reading p.last t) request h.place sheet h.there.gets in (
-      node_there p.routing sheet (spot_by p.routing.hash (key_of_command sheet.command)) s.routing says.node,
+    let u = used_reading p.last t in
+    let says = L.says p.routing p.schedule (next_op p) u request h.place sheet h.there.gets in
+    let hop = L.hop_within p.schedule u s.schedule.begins in
+    let many = s.hops in
+    let has : HasHop p.routing (hop_of p.schedule u) = omega arith in (
+      node_there p.routing sheet (spot_by p.routing.hash (key_of_command sheet.command)) s.routing (subst (HasHop p.routing) (sym says.hop) has) says.node,
       ap (λ (id : LegId). id.op) says.named,
     )
+
+-- the legs of one request are in one hop
+
+pub sheet_hop : Laws → (p : ProxyView) (t : ℕ) (request : Request) (sheet : LegSheet) → Has (sheets_of p t request) sheet
+    → sheet.hop ≡ hop_of p.schedule (used_reading p.last t)
+sheet_hop L p t request sheet h =
+    (L.says p.routing p.schedule (next_op p) (used_reading p.last t) request h.place sheet h.there.gets).hop
 
 -- messages go where they are named
 
@@ -321,6 +333,7 @@ ticks_tracked L w number reading note new step t =
       proxies = t.proxies;
       sent = t.sent;
       goes = t.goes;
+      hops = t.hops;
       replies = t.replies;
       formed = t.formed;
       given_out = t.given_out;
@@ -328,6 +341,33 @@ ticks_tracked L w number reading note new step t =
     })
 
 module _ (L : Laws) where
+  -- an op that is issued now was not issued before
+  not_sent : (w : WorldView) (n : ℕ) (p : ProxyView) (q : Request) → IsTracked w → At w.proxies n p → (m : Message) → Has w.sent m → m.sheet.id.op ≡ next_op p → ⊥
+  not_sent w n p q t at m has is =
+      let fits = issue_fits L.next_is_new w n p q t at in
+      fits.1 (subst (WasIssued w.history) is (t.sent has.place m has.there).issued)
+
+  issued_hops : (w : WorldView) (n : ℕ) (q : Request) (p : ProxyView) (u : ℕ) → IsTracked w → At w.proxies n p
+      → LegsShareHops (w.sent ++ map (message_of w.nodes p.routing) (sheets_of p u q))
+  issued_hops w n q p u t at m k has has' same =
+      let sent = map (message_of w.nodes p.routing) (sheets_of p u q) in
+      let home = t.proxies n p at in
+      let of_new : (x : Message) → Has sent x → (x.sheet.id.op ≡ next_op p) × (x.sheet.hop ≡ hop_of p.schedule (used_reading p.last u)) =
+      λ x there.
+      let (sheet, from, is) = has_map (message_of w.nodes p.routing) (sheets_of p u q) there in
+      subst (λ (x : Message). (x.sheet.id.op ≡ next_op p) × (x.sheet.hop ≡ hop_of p.schedule (used_reading p.last u))) (sym is)
+      ((sheet_there L p u q sheet home.sound from).1, sheet_hop L p u q sheet from) in
+      elim (has_cases w.sent sent has) [
+        | inl old ↦ elim (has_cases w.sent sent has') [
+          | inl old' ↦ t.hops m k old old' same
+          | inr new' ↦ absurd (not_sent w n p q t at m old (same ∙ (of_new k new').0))
+        ]
+        | inr new ↦ elim (has_cases w.sent sent has') [
+          | inl old' ↦ absurd (not_sent w n p q t at k old' (sym same ∙ (of_new m new).0))
+          | inr new' ↦ (of_new m new).1 ∙ sym (of_new k new').1
+        ]
+      ]
+
   issues_tracked : (w : WorldView) (n : ℕ) (q : Request) (note : Note) (new : WorldView) → Issues w n q note new → IsTracked w → IsTracked new
   issues_tracked w n q note new step t =
       let p = step.proxy in
@@ -368,6 +408,7 @@ module _ (L : Laws) where
                 named = number_named w.nodes name node at;
               })
         ];
+        hops = issued_hops w n q p u t step.home;
         replies = λ k d there. (let below = t.replies k d there in let longer = length_left w.sent (map (message_of w.nodes p.routing) (sheets_of p u q)) in omega arith);
         formed = L.keep_form w.history e t.formed fits;
         given_out = λ op' was'. elim (at_last w.history e was'.issued.there) [
@@ -410,6 +451,7 @@ module _ (L : Laws) where
         proxies = λ k p there. home_nodes w.nodes m.node step.node node k p step.there refl (t.proxies k p there);
         sent = λ k x there. sent_nodes w.nodes w.history K m.node node x (t.sent k x there);
         goes = λ k x there. goes_nodes w.proxies w.nodes m.node step.node node x step.there refl (t.goes k x there);
+        hops = t.hops;
         replies = λ k d there. elim (at_last w.replies delivery there) [
           | inl old ↦ t.replies k d old
           | inr fresh ↦ let below = at_within step.sent in let same = ap (λ (x : Delivery). x.message) (fresh.1) in omega arith
@@ -435,6 +477,7 @@ module _ (L : Laws) where
         proxies = home_set L w.nodes w.proxies step.sender p after step.home pstep t.proxies;
         sent = λ k x there. (let s = t.sent k x there in record { node = s.node; issued = was_left K s.issued });
         goes = λ k x there. goes_set w.nodes w.proxies step.sender p after x step.home (step_keeps p after pstep).routing (t.goes k x there);
+        hops = t.hops;
         replies = t.replies;
         formed = formed_grows L w.history K t.formed quiet.fitting;
         given_out = λ op was. given_set L w.proxies step.sender p after step.home pstep op (t.given_out op (quiet_issued quiet was));
@@ -471,6 +514,7 @@ module _ (L : Laws) where
         proxies = home_set L w.nodes w.proxies op.proxy p after step.home pstep t.proxies;
         sent = λ k x there. (let s = t.sent k x there in record { node = s.node; issued = was_left K s.issued });
         goes = λ k x there. goes_set w.nodes w.proxies op.proxy p after x step.home (step_keeps p after pstep).routing (t.goes k x there);
+        hops = t.hops;
         replies = t.replies;
         formed = formed_grows L w.history K t.formed quiet.fitting;
         given_out = λ other was. given_set L w.proxies op.proxy p after step.home pstep other (t.given_out other (quiet_issued quiet was));
@@ -501,6 +545,7 @@ module _ (L : Laws) where
         proxies = λ i p there. home_nodes w.nodes k step.node node i p step.there refl (t.proxies i p there);
         sent = λ i m there. (let s = t.sent i m there in record { node = (let below = s.node in let count = length_set w.nodes k node in omega arith); issued = s.issued });
         goes = λ i m there. goes_nodes w.proxies w.nodes k step.node node m step.there refl (t.goes i m there);
+        hops = t.hops;
         replies = t.replies;
         formed = t.formed;
         given_out = t.given_out;
@@ -518,6 +563,7 @@ module _ (L : Laws) where
         proxies = home_set L w.nodes w.proxies n p after step.home pstep t.proxies;
         sent = t.sent;
         goes = λ k m there. goes_set w.nodes w.proxies n p after m step.home refl (t.goes k m there);
+        hops = t.hops;
         replies = t.replies;
         formed = t.formed;
         given_out = λ op was. given_set L w.proxies n p after step.home pstep op (t.given_out op was);

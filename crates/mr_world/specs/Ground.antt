@@ -11,7 +11,7 @@ use Rattle.mr_history.specs.declared.entry.Entry.TheVariants.{Stored, Removed}
 use Rattle.mr_history.specs.History.{IsIssued, WasIssued, IsFreshHit}
 use Rattle.mr_history.specs.Places.{At}
 use Rattle.mr_join.specs.declared.leg_reply.LegReply.TheVariants.{Hit}
-use Rattle.mr_phases.specs.Schedule.{Hop, first_start, first_interval}
+use Rattle.mr_phases.specs.Schedule.{Hop}
 use Rattle.mr_phases.specs.Pools.{read_pool, delete_pools, SomeFrom}
 use Rattle.mr_pools.specs.Names.{name_at}
 use Rattle.mr_pools.specs.Routing.{RoutingView, pool_of, place_of}
@@ -112,16 +112,18 @@ HitsAreFresh sent replies history =
     (message : Message) (flags : ℕ) (block : List ℕ) → CameBack sent replies message (Hit flags block)
     → (was : WasIssued history message.sheet.id.op) × IsFreshHit history (record { key = key_of_command message.sheet.command; flags = flags; block = block }) was.place (length history)
 
--- while some clock is before the first start, no set went to another pool than the first
+-- while some clock is before the start of a hop, no set went to a pool after the one that the hop leaves
 abbrev pub EarlySetsStay : List Hop → List ℕ → List Message → Type 0
 EarlySetsStay hops readings sent =
-    (by : OpId) (item : Item) (pool number reading : ℕ) → SetSent sent by item pool → At readings number reading → reading < first_start hops → pool ≡ 0
+    (hop_number : ℕ) (hop : Hop) (by : OpId) (item : Item) (pool number reading : ℕ) → At hops hop_number hop
+    → SetSent sent by item pool → At readings number reading → reading < hop.start → pool ≤ hop_number
 
--- while some clock is before the first middle, each delete so far went to the first pool too
+-- while some clock is before the middle of a hop, each delete so far went to the pool that the hop leaves or an earlier one
 abbrev pub EarlyDeletesReach : List Hop → List ℕ → List Message → List Entry → Type 0
 EarlyDeletesReach hops readings sent history =
-    (delete : OpId) (key : List ℕ) (noreply : Bool) (issue number reading : ℕ) → IsIssued history delete (Delete key noreply) issue
-    → At readings number reading → reading < first_start hops + first_interval hops → DeleteSent sent delete key (λ pool. pool ≡ 0)
+    (hop_number : ℕ) (hop : Hop) (delete : OpId) (key : List ℕ) (noreply : Bool) (issue number reading : ℕ) → At hops hop_number hop
+    → IsIssued history delete (Delete key noreply) issue → At readings number reading
+    → reading < hop.start + hop.interval → LegUpTo sent delete key hop_number
 
 -- for proxies of this routing and this schedule
 pub record IsGround (routing : RoutingView) (hops : List Hop) (w : WorldView) : Type 0 where

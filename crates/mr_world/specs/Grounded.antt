@@ -1,5 +1,5 @@
 -- What a fleet keeps while its premises hold.
-use Rattle.std.specs.Prelude.{◌≡◌, ℕ, ◌≤◌, List, Some}
+use Rattle.std.specs.Prelude.{◌≡◌, ℕ, ◌<◌, ◌≤◌, List, length, Some}
 use Rattle.mr_history.specs.History.{IsSafe}
 use Rattle.mr_history.specs.Places.{At}
 use Rattle.mr_phases.specs.Schedule.{Hop, least_interval}
@@ -18,6 +18,7 @@ use Rattle.mr_world.specs.WorldView.{WorldView}
 pub record IsGrounded (routing : RoutingView) (hops : List Hop) (w : WorldView) : Type 0 where
   pub plan : IsPlan routing hops
   pub least : w.terms.least ≤ least_interval hops
+  pub pools : (message : Message) → Has w.sent message → pool_at message.sheet < length routing.pools
   pub goes : (message : Message) → Has w.sent message → message.node ≡ home_of w.nodes routing (pool_at message.sheet) (key_of_command message.sheet.command)
   pub reached : SetsAreReached hops w.readings.standing w.sent
   pub reach_down : DeletesReachDown hops w.readings.standing w.sent w.history

@@ -1,11 +1,12 @@
 -- The headline: where the four premises hold, acknowledged deletes hold.
-use Rattle.std.specs.Prelude.{◌≡◌, ℕ, IsTrue, All, List, length, map}
+use Rattle.std.specs.Prelude.{ℕ, IsTrue, All, List, map}
 use Rattle.mr_clock.specs.Clocks.{NeverGoesBack, StayWithin}
 use Rattle.mr_history.specs.History.{IsSafe}
 use Rattle.mr_history.specs.Places.{At}
 use Rattle.mr_phases.specs.Schedule.{Hop, IsSchedule}
 use Rattle.mr_pools.specs.Routing.{RoutingView, IsRouting}
 use Rattle.mr_proxy.specs.ProxyView.{ProxyView}
+use Rattle.mr_proxy.specs.Sheets.{HaveAsManyHops}
 use Rattle.mr_world.specs.declared.event.Event.{Event}
 use Rattle.mr_world.specs.declared.premises.Premises.{Premises}
 use Rattle.mr_world.specs.Ground.{IsGround}
@@ -29,11 +30,11 @@ DeletesHold w = AllHold (premises_of w) → IsSafe w.history
 abbrev pub StandsOnGround : WorldView → Type 0
 StandsOnGround w = AllHold (premises_of w) → (number : ℕ) (proxy : ProxyView) → At w.proxies number proxy → IsGround proxy.routing proxy.schedule w
 
--- what each routing and each schedule is: today a schedule has one migration
+-- what the routing and the schedule of a proxy are: a chain of migrations, each with its two pools
 pub record IsPlan (routing : RoutingView) (hops : List Hop) : Type 0 where
   pub sound : IsRouting routing
   pub schedule : IsSchedule hops
-  pub single : length hops ≡ 1
+  pub chain : HaveAsManyHops routing hops
 
 -- the premises, of a setup and the events that follow: no flag and no fleet is asked
 pub record PremisesHold (setup : SetupView) (events : List Event) : Type 0 where

@@ -34,8 +34,9 @@ abbrev pub numbers_at : List (List ℕ) → LegSheet → List ℕ
 numbers_at numbers sheet = slice_index_or numbers (pool_at sheet) []
 
 -- the sheet's node has a number
-abbrev pub HasNumber : List (List ℕ) → LegSheet → Type 0
-HasNumber numbers sheet = sheet.node < length (numbers_at numbers sheet)
+pub record HasNumber (numbers : List (List ℕ)) (sheet : LegSheet) : Type 0 where
+  pub pool : pool_at sheet < length numbers
+  pub node : sheet.node < length (numbers_at numbers sheet)
 
 abbrev pub message_by : List (List ℕ) → LegSheet → Message
 message_by numbers sheet = record { sheet = sheet; node = slice_index_or (numbers_at numbers sheet) sheet.node 0 }

@@ -9,6 +9,9 @@ use Rattle.mr_pools.specs.Routing.{RoutingView, pool_of}
 use Rattle.mr_node.specs.declared.command.NodeCommand.TheVariants.{Set}
 use Rattle.mr_node.specs.Recency.{items_after}
 use Rattle.mr_proxy.specs.ProxyView.{ProxyView, fresh_proxy}
+use Rattle.mr_proxy.specs.Sheets.{HaveAsManyHops}
+use Rattle.mr_world.specs.declared.error.WorldError.{WorldError}
+use Rattle.mr_world.specs.declared.error.WorldError.TheVariants.{NoSuchProxy, NoSuchNode, NoSuchMessage, IssueRefused, OutOfMemory, NoSuchOp, HopsDiffer}
 use Rattle.mr_world.specs.declared.setup.ProxySetup.{ProxySetup}
 use Rattle.mr_world.specs.declared.setup.HeldItem.{HeldItem}
 use Rattle.mr_world.specs.Positions.{node_number}
@@ -39,10 +42,29 @@ pub record IsNamed (proxies : List ProxySetup) (name : List ℕ) : Type 0 where
   pub home : Contains proxies proxy
   pub names : NamesNode proxy.routing name
 
+-- each proxy's routing has the pools of the hops of its schedule, and no more
+abbrev pub ChainsMatch : List ProxySetup → Type 0
+ChainsMatch proxies = All (λ proxy. HaveAsManyHops proxy.routing proxy.schedule) proxies
+
 -- the nodes could hold something, and there is a node for each item that is held
-pub record CanBeMade (setup : SetupView) : Type 0 where
+pub record HasHomes (setup : SetupView) : Type 0 where
   pub not_zero : (setup.proxies ≡ []) ⊎ (1 ≤ setup.capacity)
   pub named : All (λ item. IsNamed setup.proxies item.node) setup.held
+
+-- there is a fleet of this setup
+pub record CanBeMade (setup : SetupView) : Type 0 where
+  pub chains : ChainsMatch setup.proxies
+  pub homes : HasHomes setup
+
+-- why no fleet is made: the first of these that holds, and want of memory only where there is one
+abbrev pub RefusesSetup : SetupView → WorldError → Type 0
+RefusesSetup setup HopsDiffer = ¬ ChainsMatch setup.proxies
+RefusesSetup setup NoSuchNode = ChainsMatch setup.proxies × ¬ HasHomes setup
+RefusesSetup setup OutOfMemory = CanBeMade setup
+RefusesSetup setup NoSuchProxy = ⊥
+RefusesSetup setup NoSuchMessage = ⊥
+RefusesSetup setup (IssueRefused refusal) = ⊥
+RefusesSetup setup NoSuchOp = ⊥
 
 -- accepted no request yet
 abbrev pub proxies_from : ℕ → List ProxySetup → List ProxyView
@@ -62,7 +84,7 @@ with_pool capacity nodes pool = fold (with_name capacity) nodes pool
 abbrev pub with_routing : ℕ → List Node → RoutingView → List Node
 with_routing capacity nodes routing = fold (with_pool capacity) nodes routing.pools
 
--- one empty node for each name, in order of first appearance: proxy by proxy, the old pool first
+-- one empty node for each name, in order of first appearance: proxy by proxy, pools in order
 abbrev pub nodes_of : ℕ → List ProxySetup → List Node
 nodes_of capacity proxies = fold (λ nodes proxy. with_routing capacity nodes proxy.routing) [] proxies
 

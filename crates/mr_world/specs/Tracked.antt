@@ -13,6 +13,7 @@ use Rattle.mr_proxy.specs.Sound.{IsSound, WasGivenOut}
 use Rattle.mr_world.specs.declared.message.Message.{Message}
 use Rattle.mr_world.specs.declared.message.Delivery.{Delivery}
 use Rattle.mr_world.specs.declared.node.Node.{Node}
+use Rattle.mr_world.specs.Lists.{Has}
 use Rattle.mr_world.specs.Positions.{node_number}
 use Rattle.mr_world.specs.WorldView.{WorldView}
 
@@ -48,6 +49,11 @@ pub record GoesWhereNamed (proxies : List ProxyView) (nodes : List Node) (messag
   pub there : At nodes message.node node
   pub named : node.name ≡ name_at proxy.routing (pool_at message.sheet) message.sheet.node
 
+-- the legs of one request are all in the hop that was in force when it was issued
+abbrev pub LegsShareHops : List Message → Type 0
+LegsShareHops sent =
+    (one other : Message) → Has sent one → Has sent other → one.sheet.id.op ≡ other.sheet.id.op → one.sheet.hop ≡ other.sheet.hop
+
 -- the op was given out by the proxy that it names
 pub record IsGivenOut (proxies : List ProxyView) (op : OpId) : Type 0 where
   pub proxy : ProxyView
@@ -60,6 +66,7 @@ pub record IsTracked (w : WorldView) : Type 0 where
   pub proxies : (number : ℕ) (proxy : ProxyView) → At w.proxies number proxy → IsAtHome w.nodes number proxy
   pub sent : (number : ℕ) (message : Message) → At w.sent number message → IsSent w.nodes w.history message
   pub goes : (number : ℕ) (message : Message) → At w.sent number message → GoesWhereNamed w.proxies w.nodes message
+  pub hops : LegsShareHops w.sent
   pub replies : (number : ℕ) (delivery : Delivery) → At w.replies number delivery → delivery.message < length w.sent
   pub formed : IsWellFormed w.history
   pub given_out : (op : OpId) → WasIssued w.history op → IsGivenOut w.proxies op

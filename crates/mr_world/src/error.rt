@@ -27,12 +27,15 @@ pub enum WorldError {
     /// No request of that name is under way.
     #[error("no such request is under way")]
     NoSuchOp,
+    /// A proxy's routing has other pools than its schedule has hops for.
+    #[error("the routing of a proxy has not one pool more than its schedule has hops")]
+    HopsDiffer,
 }
 
 impl WorldError {
     ghost use Rattle.mr_world.specs.WorldError.{number_of_refusal};
 
-    /// The refusal's number: 1 to 6.
+    /// The refusal's number: 1 to 7.
     pub fn number(self) -> u8
         ensures { result ≡ number_of_refusal self }
     {
@@ -43,6 +46,7 @@ impl WorldError {
             WorldError::IssueRefused(_) => 4,
             WorldError::OutOfMemory => 5,
             WorldError::NoSuchOp => 6,
+            WorldError::HopsDiffer => 7,
         }
     }
 }

@@ -16,7 +16,7 @@ use mr_clock::laws::{lowering_is_told, spread_is_least, spread_is_told};
 use mr_history::laws::{fitting_entry_keeps_form, fresh_grows, safe_grows};
 use mr_node::laws::recency_step_is_cache_step;
 use mr_phases::laws::{
-    deletes_old_before_start, deletes_up, overlap, read_up, reads_old_before_middle,
+    deletes_stay_before_start, deletes_up, hop_within, overlap, read_up, reads_stay_before_middle,
 };
 use mr_pools::laws::names_stand_once;
 use mr_proxy::laws::{
@@ -37,6 +37,7 @@ pub fn steps_keep_tracked()
     issue_gives_next_op();
     given_out_for_good();
     sheets_say();
+    hop_within();
     fitting_entry_keeps_form();
 }
 
@@ -114,6 +115,7 @@ pub fn steps_keep_secured()
     sheets_say();
     pools_by_reading();
     delete_goes();
+    hop_within();
     overlap();
     read_up();
     deletes_up();
@@ -137,8 +139,8 @@ pub fn runs_keep_secured()
 pub fn secured_fleets_show_ground()
     ensures { (world : WorldView) → StaysSecured world → StandsOnGround world }
 {
-    deletes_old_before_start();
-    reads_old_before_middle();
+    deletes_stay_before_start();
+    reads_stay_before_middle();
 }
 
 /// A fleet stands on that at the beginning.

@@ -1,6 +1,5 @@
 //! A fleet that is played event by event.
 ghost use Rattle.std.specs.Prelude.{◌≡◌, ◌⊎◌, ◌^◌, ◌<◌, [], ◌∷◌, length, take, None, IfOk, IfErr, OnErr};
-ghost use Rattle.mr_world.specs.declared.error.WorldError.TheVariants.{NoSuchNode, OutOfMemory};
 
 use crate::error::WorldError;
 use crate::event::Event;
@@ -41,12 +40,13 @@ impl World {
     ghost use Rattle.mr_world.specs.Headline.{DeletesHold, StandsOnGround};
     ghost use Rattle.mr_world.specs.Premises.{premises_of, PremisesAtFirst, PremisesAfter};
     ghost use Rattle.mr_world.specs.Refusals.{refusal_of_event, IsEventRefusal, IsStopped};
-    ghost use Rattle.mr_world.specs.Setup.{CanBeMade, Begins};
+    ghost use Rattle.mr_world.specs.Setup.{CanBeMade, RefusesSetup, Begins};
     ghost use Rattle.mr_world.specs.Steps.{WorldStep, WorldRun};
     ghost use Rattle.mr_world.specs.Tracked.{IsTracked};
 
-    /// The fleet of a setup. NoSuchNode where an item is held by a node that no proxy's routing names, or where there
-    /// are nodes of capacity 0.
+    /// The fleet of a setup. Refusals, in this order: HopsDiffer where a proxy's routing has other pools than its schedule
+    /// has hops for; NoSuchNode where an item is held by a node that no proxy's routing names, or where there are nodes of
+    /// capacity 0; OutOfMemory.
     pub fn new(alloc: Global, setup: Setup) -> Result<World, WorldError>
         requires { length setup.proxies < 2 ^ 32 }
         ensures begins { IfOk result (λ world. CanBeMade setup × Begins setup world) }
@@ -54,8 +54,7 @@ impl World {
         ensures facts { IfOk result (λ world. Facts world) }
         ensures ground { IfOk result (λ world. StandsOnGround world) }
         ensures safe { IfOk result (λ world. DeletesHold world) }
-        ensures refused { IfErr result
-            (λ e. ((e ≡ NoSuchNode) × ¬ CanBeMade setup) ⊎ ((e ≡ OutOfMemory) × CanBeMade setup)) }
+        ensures refused { IfErr result (RefusesSetup setup) }
     {
         setups_begin_tracked();
         setups_begin_faithful();

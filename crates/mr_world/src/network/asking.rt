@@ -25,7 +25,8 @@ fn send(sent: &mut Vec<Message>, numbers: &NodeNumbers, legs: Vec<Leg>)
 {
     for leg in legs {
         let sheet = leg.into_sheet();
-        let node = numbers.number(sheet.side, sheet.node);
+        let pool = sheet.pool_number();
+        let node = numbers.number(pool, sheet.node);
         sent.push_reserved(Message { sheet, node });
     }
 }

@@ -2,10 +2,11 @@
 ghost use Rattle.std.specs.Prelude.{◌≡◌, ◌↔◌, ◌⊎◌, ◌^◌, ◌<◌, pos, [], ◌∷◌, ◌++◌, length, map, fold, All, IsTrue, IfSome, IfOk, IfErr};
 ghost use Rattle.mr_node.specs.declared.command.NodeCommand.TheVariants.{Set};
 ghost use Rattle.mr_proxy.specs.ProxyView.{fresh_proxy};
+ghost use Rattle.mr_proxy.specs.Sheets.{HaveAsManyHops};
 ghost use Rattle.mr_proxy.specs.Sound.{IsSound};
 ghost use Rattle.mr_world.specs.declared.error.WorldError.TheVariants.{NoSuchNode, OutOfMemory};
 ghost use Rattle.mr_world.specs.Headline.{IsPlan};
-ghost use Rattle.mr_world.specs.Setup.{CanBeMade, Begins, HasNamedNode, NamesNode, IsNamed, with_pool, with_routing, nodes_of, hold, held_entry, proxies_from};
+ghost use Rattle.mr_world.specs.Setup.{ChainsMatch, HasHomes, CanBeMade, RefusesSetup, Begins, HasNamedNode, NamesNode, IsNamed, with_pool, with_routing, nodes_of, hold, held_entry, proxies_from};
 ghost use Rattle.mr_world.specs.Positions.{node_number};
 ghost use Rattle.mr_clock.specs.Readings.{readings_at_first};
 ghost use Rattle.mr_world.specs.Tracked.{numbers_of};
@@ -13,13 +14,12 @@ ghost use Rattle.mr_world.specs.Tracked.{numbers_of};
 use crate::error::WorldError;
 use crate::network::Network;
 use crate::nodes::Nodes;
-use crate::numbers::NodeNumbers;
+use crate::numbers::{NodeNumbers, PoolNumbers};
 use crate::setup::{HeldItem, ProxySetup, Setup};
 use crate::terms::Terms;
 use mr_clock::Readings;
 use mr_history::{Author, Entry, History};
 use mr_node::NodeCommand;
-use mr_phases::Schedule;
 use mr_pools::{NodeName, Pool, Routing};
 use mr_proxy::ProxyCore;
 use std::alloc::{AllocError, Global};
@@ -67,10 +67,29 @@ fn is_housed(nodes: Option<&Nodes>, setup: &Setup, name: &NodeName) -> bool
     }
 }
 
+/// Whether a proxy's routing has the pools of the hops of its schedule, and no more.
+fn chain_matches(proxy: &ProxySetup) -> bool
+    ensures { IsTrue result ↔ HaveAsManyHops proxy.now.routing proxy.now.schedule }
+{
+    proxy.routing.hops() == proxy.schedule.hops()
+}
+
+/// Whether each proxy's does.
+fn chains_match(proxies: &[ProxySetup]) -> bool
+    ensures { IsTrue result ↔ ChainsMatch proxies.now }
+{
+    for proxy in proxies {
+        if !chain_matches(proxy) {
+            return false;
+        }
+    }
+    true
+}
+
 /// Whether there is a node for each item that is held, which could hold something.
-fn can_be_made(nodes: Option<&Nodes>, setup: &Setup) -> bool
+fn has_homes(nodes: Option<&Nodes>, setup: &Setup) -> bool
     requires { IfSome nodes (λ nodes. nodes.now ≡ nodes_of setup.now.capacity setup.now.proxies) }
-    ensures { IsTrue result ↔ CanBeMade setup.now }
+    ensures { IsTrue result ↔ HasHomes setup.now }
 {
     if setup.capacity() == 0 && !setup.proxies().is_empty() {
         return false;
@@ -114,15 +133,15 @@ fn empty_nodes(alloc: Global, setup: &Setup) -> Result<Nodes, AllocError>
     Ok(nodes)
 }
 
-/// The nodes of a setup, empty, or NoSuchNode where it can't be made.
+/// The nodes of a setup, empty, or NoSuchNode where an item has no home.
 fn nodes_of(alloc: Global, setup: &Setup) -> Result<Nodes, WorldError>
     ensures made { IfOk result
-        (λ nodes. CanBeMade setup.now × (nodes ≡ nodes_of setup.now.capacity setup.now.proxies)) }
+        (λ nodes. HasHomes setup.now × (nodes ≡ nodes_of setup.now.capacity setup.now.proxies)) }
     ensures refused { IfErr result
-        (λ e. ((e ≡ NoSuchNode) × ¬ CanBeMade setup.now) ⊎ ((e ≡ OutOfMemory) × CanBeMade setup.now)) }
+        (λ e. ((e ≡ NoSuchNode) × ¬ HasHomes setup.now) ⊎ ((e ≡ OutOfMemory) × HasHomes setup.now)) }
 {
     let nodes = empty_nodes(alloc, setup).ok();
-    if !can_be_made(nodes.as_ref(), setup) {
+    if !has_homes(nodes.as_ref(), setup) {
         return Err(WorldError::NoSuchNode);
     }
     nodes.ok_or(WorldError::OutOfMemory)
@@ -204,14 +223,26 @@ fn hold_items(alloc: Global, nodes: &mut Nodes, items: Vec<HeldItem>) -> Result<
 }
 
 /// The numbers of the nodes of a pool.
-fn numbers_in(alloc: Global, nodes: &Nodes, pool: &Pool) -> Result<Vec<usize>, AllocError>
-    ensures { IfOk result (λ numbers. numbers.items ≡ map (node_number nodes.now) pool.now) }
+fn numbers_in(alloc: Global, nodes: &Nodes, pool: &Pool) -> Result<PoolNumbers, AllocError>
+    ensures { IfOk result (λ numbers. numbers ≡ map (node_number nodes.now) pool.now) }
 {
     let mut numbers = Vec::with_capacity(alloc, pool.len())?;
     for name in pool.names() {
         numbers.push(nodes.number_of(name))?;
     }
-    Ok(numbers)
+    Ok(PoolNumbers::new(numbers))
+}
+
+/// The numbers of the nodes of a routing, pool by pool.
+fn numbers_by(alloc: Global, nodes: &Nodes, routing: &Routing) -> Result<NodeNumbers, AllocError>
+    ensures { IfOk result (λ numbers. numbers ≡ map (λ pool. map (node_number nodes.now) pool) routing.now.pools) }
+{
+    let mut pools = Vec::with_capacity(alloc, routing.pools().len())?;
+    for pool in routing.pools() {
+        let numbers = numbers_in(alloc, nodes, pool)?;
+        pools.push(numbers)?;
+    }
+    Ok(NodeNumbers::new(pools))
 }
 
 /// The numbers of the nodes that each proxy's routing names.
@@ -224,9 +255,8 @@ fn numbers_of(
 {
     let mut numbers = Vec::with_capacity(alloc, proxies.len())?;
     for proxy in proxies {
-        let old = numbers_in(alloc, nodes, proxy.routing().old_pool())?;
-        let new = numbers_in(alloc, nodes, proxy.routing().new_pool())?;
-        numbers.push(NodeNumbers::new(old, new))?;
+        let named = numbers_by(alloc, nodes, proxy.routing())?;
+        numbers.push(named)?;
     }
     Ok(numbers)
 }
@@ -242,13 +272,6 @@ fn readings_of(alloc: Global, proxies: &[ProxySetup]) -> Result<Readings, AllocE
     Ok(Readings::new(readings))
 }
 
-/// That a schedule has one migration, as its type keeps.
-fn has_one_hop(schedule: &Schedule)
-    ensures single { length schedule.now ≡ 1 }
-{
-    let _start = schedule.start();
-}
-
 /// That a proxy is sound, as its type keeps.
 fn is_sound(core: &ProxyCore)
     ensures { IsSound core.now }
@@ -258,6 +281,7 @@ fn is_sound(core: &ProxyCore)
 
 /// A proxy that accepted no request yet.
 fn core_of(alloc: Global, number: u32, proxy: ProxySetup) -> ProxyCore
+    requires { HaveAsManyHops proxy.routing proxy.schedule }
     ensures core { result ≡ fresh_proxy number 0 proxy.routing proxy.schedule proxy.room }
     ensures sound { IsSound result }
     ensures plan { IsPlan result.routing result.schedule }
@@ -268,7 +292,6 @@ fn core_of(alloc: Global, number: u32, proxy: ProxySetup) -> ProxyCore
         room,
         reading: _,
     } = proxy;
-    has_one_hop(&schedule);
     let core = ProxyCore::new(alloc, number, 0, routing, schedule, room);
     is_sound(&core);
     core
@@ -276,7 +299,8 @@ fn core_of(alloc: Global, number: u32, proxy: ProxySetup) -> ProxyCore
 
 /// The proxies, none of which accepted a request yet.
 fn cores_of(alloc: Global, proxies: Vec<ProxySetup>) -> Result<Vec<ProxyCore>, AllocError>
-    requires { length proxies.items < 2 ^ 32 }
+    requires few { length proxies.items < 2 ^ 32 }
+    requires chains { ChainsMatch proxies.items }
     ensures proxies { IfOk result (λ cores. cores.items ≡ proxies_from 0 proxies.items) }
     ensures sound { IfOk result (λ cores. All IsSound cores.items) }
     ensures plans { IfOk result (λ cores. All (λ core. IsPlan core.routing core.schedule) cores.items) }
@@ -291,7 +315,7 @@ fn cores_of(alloc: Global, proxies: Vec<ProxySetup>) -> Result<Vec<ProxyCore>, A
 }
 
 impl Network {
-    /// The fleet of a setup, or NoSuchNode where it can't be made.
+    /// The fleet of a setup. Refusals, in this order: HopsDiffer, NoSuchNode, OutOfMemory.
     pub(crate) fn new(alloc: Global, setup: Setup) -> Result<Network, WorldError>
         requires { length setup.proxies < 2 ^ 32 }
         ensures begins { IfOk result (λ network. CanBeMade setup × Begins setup network.world) }
@@ -300,9 +324,11 @@ impl Network {
             (λ network. All (λ proxy. IsPlan proxy.routing proxy.schedule) network.world.proxies) }
         ensures numbers { IfOk result
             (λ network. network.numbers ≡ numbers_of network.world.nodes network.world.proxies) }
-        ensures refused { IfErr result
-            (λ e. ((e ≡ NoSuchNode) × ¬ CanBeMade setup) ⊎ ((e ≡ OutOfMemory) × CanBeMade setup)) }
+        ensures refused { IfErr result (RefusesSetup setup) }
     {
+        if !chains_match(setup.proxies()) {
+            return Err(WorldError::HopsDiffer);
+        }
         let mut nodes = nodes_of(alloc, &setup)?;
         let terms = Terms::of(alloc, &setup)?;
         let (proxies, held) = setup.into_parts();

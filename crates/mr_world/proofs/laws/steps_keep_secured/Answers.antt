@@ -7,6 +7,7 @@ returns c = λ old new event note tracked tracked' faithful faithful' secured st
       says = c.sheets_say.ensures;
       goes_by = c.pools_by_reading.ensures;
       deletes = c.delete_goes.ensures;
+      hop_within = c.hop_within.ensures;
       overlap = c.overlap.ensures;
       read_up = c.read_up.ensures;
       deletes_up = c.deletes_up.ensures;

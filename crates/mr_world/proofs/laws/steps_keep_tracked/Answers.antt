@@ -10,5 +10,6 @@ returns c = λ old new event note tracked step.
       gives_next = c.issue_gives_next_op.ensures;
       for_good = c.given_out_for_good.ensures;
       says = c.sheets_say.ensures;
+      hop_within = c.hop_within.ensures;
       keep_form = c.fitting_entry_keeps_form.ensures;
     }) old event note new step tracked

@@ -1,7 +1,7 @@
-use Rattle.std.proofs.Common.{List, map, fold, ap, ◌∙◌}
+use Rattle.std.proofs.Common.{List, map, fold, ap, subst, ◌∙◌, rules}
 use Rattle.mr_clock.specs.Readings.{readings_at_first}
 use Rattle.mr_world.specs.declared.setup.ProxySetup.{ProxySetup}
-use Rattle.mr_world.specs.Setup.{hold, held_entry, proxies_from}
+use Rattle.mr_world.specs.Setup.{ChainsMatch, hold, held_entry, proxies_from}
 use Rattle.mr_world.proofs.network.Network.new.Goals as goal
 
 pub returns : goal.returns
@@ -10,7 +10,7 @@ returns c =
     let parts = c.into_parts-proxies.ensures in
     record {
       begins = (
-        c.in_ok-nodes.ensures.made.0,
+        record { chains = subst ChainsMatch c.proxies.ensures (c.chains_match.ensures.0 (search rules)); homes = c.in_ok-nodes.ensures.made.0 },
         record {
           readings = c.in_ok-readings.ensures ∙ ap (λ (l : List ProxySetup). readings_at_first (map (λ proxy. proxy.reading) l)) (c.deref.ensures.value ∙ parts.proxies);
           proxies = c.in_ok-proxies.ensures.proxies ∙ ap (proxies_from 0) parts.proxies;

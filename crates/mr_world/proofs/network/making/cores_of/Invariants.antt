@@ -2,7 +2,7 @@ use Rattle.std.proofs.Common.{◌≡◌, ◌+◌, ◌<◌, ◌^◌, ◌++◌, le
 use Rattle.std.specs.Vec.Iter.{into_iter_items}
 use Rattle.mr_proxy.specs.Sound.{IsSound}
 use Rattle.mr_world.specs.Headline.{IsPlan}
-use Rattle.mr_world.specs.Setup.{proxies_from}
+use Rattle.mr_world.specs.Setup.{ChainsMatch, proxies_from}
 use Rattle.mr_world.proofs.network.making.cores_of.Given as goal
 
 -- the proxies so far and those that are left are all
@@ -13,4 +13,5 @@ invariant-loop-proxy l =
     (l.cores.items ++ proxies_from l.number (into_iter_items l.proxy-iterator) ≡ proxies_from 0 l.fn.proxies.items) ×
     All IsSound l.cores.items ×
     All (λ core. IsPlan core.routing core.schedule) l.cores.items ×
-    (l.number + length (into_iter_items l.proxy-iterator) < 2 ^ 32)
+    (l.number + length (into_iter_items l.proxy-iterator) < 2 ^ 32) ×
+    ChainsMatch (into_iter_items l.proxy-iterator)
