@@ -9,7 +9,7 @@ mod pools;
 mod proxy;
 mod text;
 
-ghost use Rattle.std.specs.Prelude.{◌≡◌, Ok};
+ghost use Rattle.std.specs.Prelude.{◌≡◌, length, Ok};
 
 use mr_pools::{NamedHash, NodeName, Pool, PoolError, Routing};
 use mr_test_support::{TakesHalf, add_repeated};
@@ -113,7 +113,9 @@ fn pool(rt: &impl Abort, alloc: Global, texts: &[&str]) -> Result<Pool, PoolErro
 }
 
 /// The old pool is 7001 and 7002, the new one 7101 to 7103.
-fn routing(rt: &impl Abort, alloc: Global, hash: NamedHash) -> Routing {
+fn routing(rt: &impl Abort, alloc: Global, hash: NamedHash) -> Routing
+    ensures { length result.pools ≡ 2 }
+{
     let old = must(rt, pool(rt, alloc, &["7001", "7002"]));
     let new = must(rt, pool(rt, alloc, &["7101", "7102", "7103"]));
     must(rt, Routing::new(old, new, hash))

@@ -5,7 +5,7 @@ mod fleet;
 mod sockets;
 mod threaded;
 
-ghost use Rattle.std.specs.Prelude.{◌≡◌, Ok, IfOk};
+ghost use Rattle.std.specs.Prelude.{◌≡◌, length, Ok, IfOk};
 ghost use Rattle.mr_proxy.specs.ProxyView.{IsFresh};
 
 use mr_clock::FixedClock;
@@ -62,7 +62,9 @@ fn pool(alloc: Global, names: &[&[u8]]) -> Result<Pool, AllocError> {
 }
 
 /// The routing to the new pool of these nodes.
-fn routing(alloc: Global, new: &[&[u8]]) -> Result<Routing, AllocError> {
+fn routing(alloc: Global, new: &[&[u8]]) -> Result<Routing, AllocError>
+    ensures { IfOk result (λ routing. length routing.pools ≡ 2) }
+{
     let old = pool(alloc, &[b"7001", b"7002"])?;
     or_no_memory(Routing::new(old, pool(alloc, new)?, NamedHash::Sum))
 }

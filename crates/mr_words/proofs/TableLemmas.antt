@@ -141,11 +141,14 @@ each_known =
     also of_pool pool.RepeatedName
     also of_pool pool.SharedName
     also of_pool pool.OutOfMemory
+    also of_pool pool.TooManyPools
     also of_clock clock.ClockFault
     also of_clock clock.NoSuchProxy
     also of_clock clock.OutOfMemory
     also of_schedule schedule.ZeroInterval
     also of_schedule schedule.TooLate
+    also of_schedule schedule.TooSoon
+    also of_schedule schedule.TooManyHops
     also of_node node.ZeroCapacity
     also of_node node.OutOfMemory
     also of_node node.ReadFault
@@ -161,6 +164,7 @@ each_known =
     also of_world (world.IssueRefused proxy.NoRoom)
     also of_world world.OutOfMemory
     also of_world world.NoSuchOp
+    also of_world world.HopsDiffer
     also of_workers (of_worker worker.LinkBroken)
     also of_workers (of_worker worker.Mismatch)
     also of_workers of_full_book
@@ -208,6 +212,7 @@ pool_known pool.BadName = refl
 pool_known pool.RepeatedName = refl
 pool_known pool.SharedName = refl
 pool_known pool.OutOfMemory = refl
+pool_known pool.TooManyPools = refl
 
 -- each refusal of the layer has a row
 clock_known : (refusal : ClockError) → IsSome (explanation_of (codes "clock") (clock_number refusal))
@@ -221,6 +226,8 @@ schedule_known : (refusal : ScheduleError) → IsSome (explanation_of (codes "ph
 unfolding table lower_table upper_table
 schedule_known schedule.ZeroInterval = refl
 schedule_known schedule.TooLate = refl
+schedule_known schedule.TooSoon = refl
+schedule_known schedule.TooManyHops = refl
 
 -- each refusal of the layer has a row, under the line of its fault
 node_told : (refusal : NodeError) → IsToldAs (node_fault_line refusal) (explanation_of (codes "node") (node_number refusal))
@@ -248,6 +255,7 @@ world_known world.NoSuchMessage = refl
 world_known (world.IssueRefused carried) = refl
 world_known world.OutOfMemory = refl
 world_known world.NoSuchOp = refl
+world_known world.HopsDiffer = refl
 
 -- each refusal of the layer has a row
 workers_known : (refusal : WorkersRefusal) → IsSome (explanation_of (codes "workers") (workers_number refusal))

@@ -41,6 +41,7 @@ pool_name pool.BadName = codes "BadName"
 pool_name pool.RepeatedName = codes "RepeatedName"
 pool_name pool.SharedName = codes "SharedName"
 pool_name pool.OutOfMemory = codes "OutOfMemory"
+pool_name pool.TooManyPools = codes "TooManyPools"
 
 abbrev pub clock_name : ClockError → List ℕ
 clock_name clock.ClockFault = codes "ClockFault"
@@ -50,6 +51,8 @@ clock_name clock.OutOfMemory = codes "OutOfMemory"
 abbrev pub schedule_name : ScheduleError → List ℕ
 schedule_name schedule.ZeroInterval = codes "ZeroInterval"
 schedule_name schedule.TooLate = codes "TooLate"
+schedule_name schedule.TooSoon = codes "TooSoon"
+schedule_name schedule.TooManyHops = codes "TooManyHops"
 
 abbrev pub node_name : NodeError → List ℕ
 node_name node.ZeroCapacity = codes "ZeroCapacity"
@@ -71,6 +74,7 @@ world_name world.NoSuchMessage = codes "NoSuchMessage"
 world_name (world.IssueRefused refusal) = codes "IssueRefused"
 world_name world.OutOfMemory = codes "OutOfMemory"
 world_name world.NoSuchOp = codes "NoSuchOp"
+world_name world.HopsDiffer = codes "HopsDiffer"
 
 -- what the layer of workers refuses: what a client's session and a link do, and a desk's own refusal, that of a full book
 pub data WorkersRefusal : Type 0 where

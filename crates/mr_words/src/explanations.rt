@@ -6,7 +6,7 @@ pub type Row<'a> = (&'a str, u64, &'a str, &'a str);
 
 /// The refusals of the lower layers, from the text to a node, each in the order of its numbers. docs/FORMATS.md has the same
 /// rows as both tables; docs/check-faults compares them.
-pub static LOWER_ROWS: [Row<'static>; 26] = [
+pub static LOWER_ROWS: [Row<'static>; 29] = [
     (
         "text",
         1,
@@ -95,13 +95,19 @@ pub static LOWER_ROWS: [Row<'static>; 26] = [
         "pools",
         5,
         "SharedName",
-        "A node is named in both the old and the new pool. Look for the name that both lists of servers have; a migration needs two pools without a common node.",
+        "A node is named in two pools of the route. Look for the name that two of the lists of servers have; the pools of migrations in a row have no node in common.",
     ),
     (
         "pools",
         6,
         "OutOfMemory",
         "Memory was refused while a pool or a routing was made. Look at how much memory the process may use.",
+    ),
+    (
+        "pools",
+        7,
+        "TooManyPools",
+        "A routing was to have more than five pools. Look at how many migrations follow one another; there are at most four.",
     ),
     (
         "clock",
@@ -132,6 +138,18 @@ pub static LOWER_ROWS: [Row<'static>; 26] = [
         2,
         "TooLate",
         "The migration would end, at its start and twice its interval, after second 18446744073709551615. Look at start_time and interval in the route; both are in seconds.",
+    ),
+    (
+        "phases",
+        3,
+        "TooSoon",
+        "A migration would begin before the one that it follows has ended, at its start and twice its interval. Look at start_time of both routes, and at interval of the one within.",
+    ),
+    (
+        "phases",
+        4,
+        "TooManyHops",
+        "A schedule was to have more than four migrations. Look at how many routes stand within one another.",
     ),
     (
         "node",
@@ -166,7 +184,7 @@ pub static LOWER_ROWS: [Row<'static>; 26] = [
 ];
 
 /// Those of the upper layers, from a proxy on.
-pub static UPPER_ROWS: [Row<'static>; 32] = [
+pub static UPPER_ROWS: [Row<'static>; 33] = [
     (
         "proxy",
         1,
@@ -226,6 +244,12 @@ pub static UPPER_ROWS: [Row<'static>; 32] = [
         6,
         "NoSuchOp",
         "An event gives up a request that isn't under way: it was answered, given up or lost by a restart before, or never made. Look at its proxy, incarnation and number.",
+    ),
+    (
+        "world",
+        7,
+        "HopsDiffer",
+        "A proxy's routing has other pools than its schedule has migrations for. A routing has one pool more than its schedule has migrations; no configuration comes to this.",
     ),
     (
         "workers",

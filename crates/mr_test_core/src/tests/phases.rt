@@ -119,8 +119,9 @@ static LIMITS: [(u64, u64, Option<ScheduleError>, u8); 5] = [
 
 /// Asserts what a schedule tells, and its copy.
 fn tells(rt: &impl Abort, row: usize, schedule: &Schedule, start: u64, interval: u64) {
-    number_is(rt, row, schedule.start(), start);
-    number_is(rt, row, schedule.interval(), interval);
+    is(rt, row, schedule.hops(), 1);
+    number_is(rt, row, schedule.start(0), start);
+    number_is(rt, row, schedule.interval(0), interval);
     number_is(rt, row, schedule.least_interval(), interval);
     holds(rt, row, schedule.copy().same_as(schedule), true);
 }
@@ -143,6 +144,92 @@ fn is_limited(rt: &impl Abort, row: usize, it: &(u64, u64, Option<ScheduleError>
 fn schedules_have_limits(rt: HostRuntime) {
     for (row, it) in LIMITS.iter().enumerate() {
         is_limited(&rt, row, it);
+    }
+}
+
+/// The schedule of two migrations in a row: at 1000 with 100 seconds, and at 1200 with 50.
+fn two_hops(rt: &impl Abort) -> Schedule {
+    match must(rt, Schedule::new(1000, 100)).then(1200, 50) {
+        Ok(schedule) => schedule,
+        Err(_) => rt.panic("a second migration was refused"),
+    }
+}
+
+/// A reading, and the hop and the phase then.
+static HOPS: [(u64, u32, PhaseName); 7] = [
+    (999, 0, PhaseName::OldOnly),
+    (1199, 0, PhaseName::BothReadNew),
+    (1200, 1, PhaseName::BothReadOld),
+    (1249, 1, PhaseName::BothReadOld),
+    (1250, 1, PhaseName::BothReadNew),
+    (1299, 1, PhaseName::BothReadNew),
+    (1300, 1, PhaseName::NewOnly),
+];
+
+/// Asserts which hop and which phase a row's reading is in, also where an earlier judgement comes to it.
+fn is_in_hop(rt: &impl Abort, row: usize, schedule: Schedule, it: &(u64, u32, PhaseName)) {
+    let judged = judge(schedule, it.0);
+    is(rt, row, (judged.hop(), judged.name()), (it.1, it.2));
+    let Ok(later) = judge(schedule, 0).later(it.0) else {
+        rt.panic("a later reading was refused");
+    };
+    is(rt, row, (later.hop(), later.name()), (it.1, it.2));
+}
+
+#[test]
+fn the_last_hop_that_has_begun_is_in_force(rt: HostRuntime) {
+    let schedule = two_hops(&rt);
+    number_is(&rt, 7, schedule.least_interval(), 50);
+    for (row, it) in HOPS.iter().enumerate() {
+        is_in_hop(&rt, row, schedule, it);
+    }
+}
+
+/// How many migrations there are, the start and the interval of one more, why it is refused, if it is, and the number.
+static MORE: [(u32, u64, u64, Option<ScheduleError>, u8); 8] = [
+    (2, 1300, 50, None, 0),
+    (2, 1299, 50, Some(ScheduleError::TooSoon), 3),
+    (2, 1299, 0, Some(ScheduleError::ZeroInterval), 1),
+    (2, u64::MAX, 1, Some(ScheduleError::TooLate), 2),
+    (4, 1500, 50, Some(ScheduleError::TooManyHops), 4),
+    (4, 0, 50, Some(ScheduleError::TooManyHops), 4),
+    (4, u64::MAX, 1, Some(ScheduleError::TooLate), 2),
+    (4, 1500, 0, Some(ScheduleError::ZeroInterval), 1),
+];
+
+/// So many migrations in a row, of the two and others of 50 seconds.
+fn many_hops(rt: &impl Abort, count: u32) -> Schedule {
+    let mut schedule = two_hops(rt);
+    for start in [1300, 1400] {
+        if schedule.hops() < count {
+            schedule = match schedule.then(start, 50) {
+                Ok(longer) => longer,
+                Err(_) => rt.panic("a migration was refused"),
+            };
+        }
+    }
+    schedule
+}
+
+/// Asserts whether there may be such a migration more, and that a refusal hands the schedule back.
+fn is_followed(rt: &impl Abort, row: usize, it: &(u32, u64, u64, Option<ScheduleError>, u8)) {
+    let schedule = many_hops(rt, it.0);
+    match schedule.then(it.1, it.2) {
+        Ok(longer) => {
+            is(rt, row, None, it.3);
+            is(rt, row, longer.hops(), it.0.saturating_add(1));
+        }
+        Err((refusal, back)) => {
+            is(rt, row, (Some(refusal), refusal.number()), (it.3, it.4));
+            holds(rt, row, back.same_as(&schedule), true);
+        }
+    }
+}
+
+#[test]
+fn one_more_migration_follows_the_last(rt: HostRuntime) {
+    for (row, it) in MORE.iter().enumerate() {
+        is_followed(&rt, row, it);
     }
 }
 
@@ -214,6 +301,8 @@ fn laws_can_be_cited() {
     laws::deletes_up();
     laws::phase_ranges();
     laws::phase_in_force();
-    laws::deletes_old_before_start();
-    laws::reads_old_before_middle();
+    laws::deletes_stay_before_start();
+    laws::reads_stay_before_middle();
+    laws::hop_within();
+    laws::limits();
 }

@@ -70,11 +70,12 @@ fn has_spots(rt: &impl Abort, row: usize, key: &Key, it: &Row) {
 
 /// Asserts which places a routing gives a key, and which nodes these are.
 fn places(rt: &impl Abort, row: usize, routing: &Routing, key: &Key, it: &Row) {
-    count_is(rt, row, routing.old_pool().pick(&SumHash, key), it.by_sum.0);
+    is(rt, row, routing.hops(), 1);
+    count_is(rt, row, routing.old_pool(0).pick(&SumHash, key), it.by_sum.0);
     count_is(
         rt,
         row,
-        routing.new_pool().pick(&NamedHash::Sum, key),
+        routing.new_pool(0).pick(&NamedHash::Sum, key),
         it.by_sum.1,
     );
     let old = routing.pool(0).name(routing.place(0, key));
@@ -212,23 +213,26 @@ fn routings_share_no_name(rt: HostRuntime) {
 /// Asserts that a routing and its copy are equal, and what the copy tells.
 fn is_copy(rt: &impl Abort, routing: &Routing, copy: &Routing) {
     holds(rt, 0, routing.same_as(copy), true);
-    count_is(rt, 1, copy.old_pool().names().len(), 2);
+    is(rt, 0, (routing.hops(), copy.hops()), (1, 1));
+    count_is(rt, 1, copy.old_pool(0).names().len(), 2);
     count_is(rt, 2, copy.pools().len(), 2);
-    holds(rt, 3, copy.pools()[1].same_as(routing.new_pool()), true);
+    holds(rt, 3, copy.pools()[1].same_as(routing.new_pool(0)), true);
     is(rt, 4, copy.hash(), NamedHash::Sum);
 }
 
 /// Asserts that two routings differ in their hashes alone.
 fn differ_in_hash(rt: &impl Abort, sum: &Routing, fnv: &Routing) {
-    holds(rt, 5, sum.old_pool().same_as(fnv.old_pool()), true);
-    holds(rt, 6, sum.old_pool().same_as(fnv.new_pool()), false);
+    is(rt, 5, (sum.hops(), fnv.hops()), (1, 1));
+    holds(rt, 5, sum.old_pool(0).same_as(fnv.old_pool(0)), true);
+    holds(rt, 6, sum.old_pool(0).same_as(fnv.new_pool(0)), false);
     holds(rt, 7, sum.same_as(fnv), false);
 }
 
 /// A routing of copies of the same pools by the other hash.
 fn routing_by_fnv(rt: &impl Abort, sum: &Routing) -> Routing {
-    let old = must(rt, sum.old_pool().copy());
-    let new = must(rt, sum.new_pool().copy());
+    is(rt, 8, sum.hops(), 1);
+    let old = must(rt, sum.old_pool(0).copy());
+    let new = must(rt, sum.new_pool(0).copy());
     must(rt, Routing::new(old, new, NamedHash::Fnv))
 }
 
@@ -245,4 +249,52 @@ fn laws_can_be_cited() {
     laws::pools_share_no_name();
     laws::names_are_distinct();
     laws::names_stand_once();
+}
+
+/// A routing of so many pools, each of one node, and of two where there are to be fewer.
+fn chain_of(rt: &impl Abort, alloc: Global, nodes: &[&str]) -> Routing {
+    let mut routing = routing(rt, alloc, NamedHash::Sum);
+    for node in nodes {
+        routing = match routing.then(must(rt, pool(rt, alloc, &[*node]))) {
+            Ok(longer) => longer,
+            Err(_) => rt.panic("a pool was refused"),
+        };
+    }
+    routing
+}
+
+/// The nodes of pools behind the first two, the node of one more, and why that is refused, if it is, with the number.
+type More = (&'static [&'static str], &'static str, Option<PoolError>, u8);
+
+static MORE: [More; 6] = [
+    (&[], "7201", None, 0),
+    (&[], "7001", Some(PoolError::SharedName), 5),
+    (&["7201"], "7102", Some(PoolError::SharedName), 5),
+    (&["7201", "7301"], "7201", Some(PoolError::SharedName), 5),
+    (&["7201", "7301", "7401"], "7501", Some(PoolError::TooManyPools), 7),
+    (&["7201", "7301", "7401"], "7001", Some(PoolError::TooManyPools), 7),
+];
+
+/// Asserts whether a routing may go on to such a pool, and that a refusal hands both back.
+fn goes_on(rt: &impl Abort, alloc: Global, row: usize, it: &More) {
+    let routing = chain_of(rt, alloc, it.0);
+    let kept = must(rt, routing.copy());
+    match routing.then(must(rt, pool(rt, alloc, &[it.1]))) {
+        Ok(longer) => {
+            is(rt, row, None, it.2);
+            count_is(rt, row, longer.pools().len(), it.0.len().saturating_add(3));
+        }
+        Err((refusal, back, pool)) => {
+            is(rt, row, (Some(refusal), refusal.number()), (it.2, it.3));
+            holds(rt, row, back.same_as(&kept), true);
+            count_is(rt, row, pool.len(), 1);
+        }
+    }
+}
+
+#[test]
+fn a_routing_goes_on_to_one_more_pool(rt: HostRuntime) {
+    for (row, it) in MORE.iter().enumerate() {
+        goes_on(&rt, rt.alloc(), row, it);
+    }
 }

@@ -4,6 +4,7 @@ mod connections;
 mod fleet;
 mod memory;
 
+ghost use Rattle.std.specs.Prelude.{◌≡◌, length};
 ghost use Rattle.mr_proxy.specs.ProxyView.{IsFresh};
 
 use super::{is_at, must};
@@ -52,13 +53,16 @@ fn pool(rt: &impl Abort, alloc: Global, listeners: &[TcpListener]) -> Pool {
 }
 
 /// The routing from some nodes to others.
-fn routing(rt: &impl Abort, alloc: Global, old: &[TcpListener], new: &[TcpListener]) -> Routing {
+fn routing(rt: &impl Abort, alloc: Global, old: &[TcpListener], new: &[TcpListener]) -> Routing
+    ensures { length result.pools ≡ 2 }
+{
     let old = pool(rt, alloc, old);
     must(rt, Routing::new(old, pool(rt, alloc, new), NamedHash::Sum))
 }
 
 /// A proxy of this number.
 fn core_of(rt: &impl Abort, alloc: Global, number: u32, routing: &Routing) -> ProxyCore
+    requires { length routing.now.pools ≡ 2 }
     ensures { IsFresh result }
 {
     let schedule = must(rt, Schedule::new(1000, 100));

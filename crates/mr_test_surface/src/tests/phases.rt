@@ -1,4 +1,6 @@
 //! Schedules, the four phases as types, and the sides of a migration.
+ghost use Rattle.std.specs.Prelude.{◌≡◌, length, IfOk};
+
 use mr_phases::{
     BothReadNew, BothReadOld, Judged, NewOnly, OldOnly, OneSide, Phase, Schedule, ScheduleError,
     Side, TwoSides, judge,
@@ -6,7 +8,9 @@ use mr_phases::{
 use std::test::Fail;
 
 /// The schedule that begins at 1000, with an interval of 100 seconds.
-pub(super) fn schedule() -> Result<Schedule, ScheduleError> {
+pub(super) fn schedule() -> Result<Schedule, ScheduleError>
+    ensures { IfOk result (λ schedule. length schedule ≡ 1) }
+{
     Schedule::new(1000, 100)
 }
 

@@ -1,4 +1,6 @@
 //! Names of nodes, pools of them, the hashes that place keys, and routings.
+ghost use Rattle.std.specs.Prelude.{◌≡◌, length, IfOk};
+
 use super::text::key;
 use mr_pools::{Fnv1a32, KeyHash, NamedHash, NodeName, Pool, PoolError, Routing, SumHash};
 use mr_text::Key;
@@ -15,7 +17,9 @@ fn pool(alloc: Global, texts: &[&[u8]]) -> Result<Pool, PoolError> {
 }
 
 /// The routing from two nodes to three.
-pub(super) fn routing(alloc: Global) -> Result<Routing, PoolError> {
+pub(super) fn routing(alloc: Global) -> Result<Routing, PoolError>
+    ensures { IfOk result (λ routing. length routing.pools ≡ 2) }
+{
     let old = pool(alloc, &[b"7001", b"7002"])?;
     let new = pool(alloc, &[b"7101", b"7102", b"7103"])?;
     Routing::new(old, new, NamedHash::Sum)
@@ -30,10 +34,10 @@ fn place_by<H: KeyHash>(pool: &Pool, hash: H, key: &Key) -> usize {
 fn hashes_place_a_key(rt: HostRuntime) -> Result<(), Fail> {
     let routing = routing(rt.alloc())?;
     let key = key(rt.alloc())?;
-    let by_sum = place_by(routing.new_pool(), SumHash, &key);
-    assert_eq!(rt; by_sum, place_by(routing.new_pool(), NamedHash::Sum, &key));
+    let by_sum = place_by(routing.new_pool(0), SumHash, &key);
+    assert_eq!(rt; by_sum, place_by(routing.new_pool(0), NamedHash::Sum, &key));
     assert_eq!(rt;
-        place_by(routing.old_pool(), Fnv1a32, &key),
+        place_by(routing.old_pool(0), Fnv1a32, &key),
         routing_by_fnv(rt.alloc(), &key)?
     );
     Ok(())

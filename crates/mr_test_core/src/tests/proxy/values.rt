@@ -9,7 +9,9 @@ fn tells(rt: &impl Abort, core: &ProxyCore) {
     is(rt, 0, core.number(), 0);
     number_is(rt, 1, core.incarnation(), 3);
     number_is(rt, 2, core.room(), 4);
-    number_is(rt, 3, core.schedule().start(), 1000);
+    let schedule = core.schedule();
+    is(rt, 3, schedule.hops(), 1);
+    number_is(rt, 3, schedule.start(0), 1000);
     count_is(rt, 4, core.routing().pools().len(), 2);
 }
 

@@ -66,6 +66,7 @@ pub(super) fn get(rt: &impl Abort, alloc: Global) -> LegSheet {
             op: FIRST,
             place: 0,
         },
+        hop: 0,
         side: Side::Old,
         node: 0,
         command: NodeCommand::Get(must(rt, Key::new(alloc, b"k"))),

@@ -44,6 +44,7 @@ impl Told {
                 op: FIRST,
                 place: 0,
             },
+            hop: 0,
             side: Side::Old,
             node: 0,
             command,

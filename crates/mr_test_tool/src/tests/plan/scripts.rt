@@ -81,15 +81,15 @@ fn is_held(item: &HeldItem) -> bool {
 
 /// Whether a schedule starts then, and its phases last so long.
 fn is_schedule(schedule: Schedule, start: u64, interval: u64) -> bool {
-    schedule.start() == start && schedule.interval() == interval
+    schedule.start(0) == start && schedule.interval(0) == interval
 }
 
 /// Asserts that a proxy has the script's common configuration.
 fn is_common(rt: &impl Abort, proxy: &ProxySetup) {
     is(rt, is_schedule(proxy.schedule, 1000, 100), true);
     is(rt, proxy.routing.hash() == NamedHash::Sum, true);
-    names_are(rt, proxy.routing.old_pool(), &["7001", "7002"]);
-    names_are(rt, proxy.routing.new_pool(), &["7101", "7102", "7103"]);
+    names_are(rt, proxy.routing.old_pool(0), &["7001", "7002"]);
+    names_are(rt, proxy.routing.new_pool(0), &["7101", "7102", "7103"]);
 }
 
 /// Asserts what the script says of its setup.
@@ -115,8 +115,8 @@ fn a_setup_is_read(rt: HostRuntime) {
 fn is_own(rt: &impl Abort, proxy: &ProxySetup) {
     is(rt, is_schedule(proxy.schedule, 7, 3600), true);
     is(rt, proxy.routing.hash() == NamedHash::Fnv, true);
-    names_are(rt, proxy.routing.old_pool(), &["x"]);
-    names_are(rt, proxy.routing.new_pool(), &["7101"]);
+    names_are(rt, proxy.routing.old_pool(0), &["x"]);
+    names_are(rt, proxy.routing.new_pool(0), &["7101"]);
 }
 
 /// Two proxies, of which the second has a configuration of its own.

@@ -1,4 +1,6 @@
 //! Fleets in a few words.
+ghost use Rattle.std.specs.Prelude.{◌≡◌, length, IfOk};
+
 use mr_phases::Schedule;
 use mr_pools::{NamedHash, NodeName, Pool, Routing};
 use mr_text::{Block, Key};
@@ -29,7 +31,9 @@ fn pool(alloc: Global, names: &[&[u8]]) -> Result<Pool, Fail> {
 }
 
 /// The routing from 7001 and 7002 to 7101, 7102 and 7103, by the sum of a key's bytes.
-pub fn routing(alloc: Global) -> Result<Routing, Fail> {
+pub fn routing(alloc: Global) -> Result<Routing, Fail>
+    ensures { IfOk result (λ routing. length routing.pools ≡ 2) }
+{
     let old = pool(alloc, &[b"7001", b"7002"])?;
     let new = pool(alloc, &[b"7101", b"7102", b"7103"])?;
     Ok(Routing::new(old, new, NamedHash::Sum)?)
