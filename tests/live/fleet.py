@@ -234,6 +234,14 @@ class Fleet:
             whole["hash"] = hash_name
         return self.new_file(json.dumps(whole).encode())
 
+    def chain_config(self, pools, starts, interval, hash_name):
+        """The file of a configuration of migrations in a row: one at each of these starts, from each pool to the next."""
+        route = "PoolRoute|0"
+        for number, start in enumerate(starts, 1):
+            route = {"type": "MigrateRoute", "from": route, "to": f"PoolRoute|{number}", "start_time": start, "interval": interval}
+        servers = {str(number): {"servers": addresses(pool)} for number, pool in enumerate(pools)}
+        return self.new_file(json.dumps({"hash": hash_name, "pools": servers, "route": route}).encode())
+
     def run(self, *words, stdin=b"", stdin_file=None, stdout=subprocess.PIPE, memory=None):
         """Runs a command to its end, and gives its status, its output and what stands on standard error. Its input is this
         text, or the open file of this number, which is closed then. It may be limited to so many bytes of addresses."""

@@ -114,6 +114,86 @@ def glance_at_phase(pools, client, reads_new, deletes, key):
     check(f"what {key} left in the old pool and the new one", left, [pools.own[n].value_of(key) for n in (0, 2)])
 
 
+class Chain:
+    """Three pools of one, two and three nodes, through which two migrations go. What is looked at lies at the last node of each."""
+
+    def __init__(self, fleet):
+        self.pools = [fleet.nodes(count) for count in (1, 2, 3)]
+        self.own = [pool[-1].client() for pool in self.pools]
+
+    def config(self, fleet, starts, interval):
+        """A migration at each of these starts, from each pool to the next."""
+        return fleet.chain_config(self.pools, starts, interval, "sum")
+
+    def key(self, stem):
+        """A key that is placed at the last node of each pool."""
+        keys = (key_at(2, 3, "sum", f"{stem}{n}-") for n in range(100))
+        return next(key for key in keys if place_of(key, 2, "sum") == 1)
+
+    def put(self, key, values):
+        """Stores a value in each pool, past all proxies."""
+        for own, value in zip(self.own, values):
+            own.ask(set_of(key, value), STORED)
+
+    def holds(self, key, wanted):
+        """These are the values that the key has in each pool."""
+        check(f"what the pools hold under {key}", wanted, [own.value_of(key) for own in self.own])
+
+
+def look_at_hop(chain, one, other, reads, deletes, stem):
+    """Looks where a set, a get and a delete of one proxy's client go, by what becomes of items at the nodes, and what the other
+    proxy's client gets."""
+    key = chain.key(stem)
+    values = ["first", "second", "third"]
+    chain.put(key, values)
+    one.ask(get_of(key), hits((key, values[reads])))
+    one.ask(set_of(key, "set"), STORED)
+    values[reads] = "set"
+    chain.holds(key, values)
+    other.ask(get_of(key), hits((key, "set")))
+    one.ask(delete_of(key), DELETED)
+    chain.holds(key, [None if number in deletes else value for number, value in enumerate(values)])
+    other.ask(get_of(key), MISS)
+
+
+CHAIN_PHASES = (  # seconds from the first start on; the pool of gets and sets, and those of deletes
+    (-1, 0, (0,)),
+    (1, 0, (0, 1)),
+    (3, 1, (0, 1)),
+    (4.5, 1, (1,)),
+    (6, 1, (1, 2)),
+    (8, 2, (1, 2)),
+    (9.5, 2, (2,)),
+)
+
+
+@case(waits=True)
+def connections_stay_open_through_two_migrations_in_a_row():
+    """At each of two proxies one connection, opened before the first of two migrations begins, goes through both with the clock,
+    and through the second between them. What one client set in a phase the other deletes in the next one, and neither ever gets
+    it again."""
+    interval = 2
+    with Fleet() as fleet:
+        chain = Chain(fleet)
+        start = int(time.time()) + 3
+        config = chain.config(fleet, (start, start + 2 * interval + 1), interval)
+        one, other = (fleet.proxy(config).client() for _ in range(2))
+        gone, left = [], None
+        for place, (second, reads, deletes) in enumerate(CHAIN_PHASES):
+            with moment(start + second):
+                look_at_hop(chain, one, other, reads, deletes, f"look{place}-")
+                if left:  # where two pools are told, one of them never had it
+                    other.ask(delete_of(left), DELETED if len(deletes) == 1 else NOT_FOUND)
+                    chain.holds(left, [None, None, None])
+                    gone.append(left)
+                for key in gone:
+                    one.ask(get_of(key), MISS)
+                    other.ask(get_of(key), MISS)
+                left = chain.key(f"left{place}-")
+                one.ask(set_of(left, "v"), STORED)
+                other.ask(get_of(left), hits((left, "v")))
+
+
 @case
 def each_phase_is_that_of_the_machines_clock():
     """Proxies that are started half an hour from each bound are in the phase of this program's clock, interval 3600 unsaid."""
