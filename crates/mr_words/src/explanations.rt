@@ -333,19 +333,19 @@ pub static UPPER_ROWS: [Row<'static>; 33] = [
         "plan",
         5,
         "BadPool",
-        "A pool has no server, more than 1,024, a bad name or a name twice, or both pools of the route share a server. Look at the lists of servers.",
+        "A pool has no server, more than 1,024, a bad name or a name twice, or two pools of the route share a server. Look at the lists of servers.",
     ),
     (
         "plan",
         6,
         "BadRoute",
-        "The route is no MigrateRoute, or its from or to names no pool that is there. Look at type, from and to; from and to are texts that begin with PoolRoute and a vertical bar.",
+        "A route is no MigrateRoute, its from or to names no pool that is there, or more than four stand within one another. Look at type, from and to; they are texts that begin with PoolRoute and a vertical bar, or from is a route itself.",
     ),
     (
         "plan",
         7,
         "BadSchedule",
-        "The interval is 0, or the migration would end after second 18446744073709551615. Look at start_time and interval in the route; both are in seconds.",
+        "An interval is 0, a migration would end after second 18446744073709551615, or one would begin before the one that it follows has ended. Look at start_time and interval in the routes; both are in seconds.",
     ),
     (
         "plan",

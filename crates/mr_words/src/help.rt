@@ -39,7 +39,7 @@ pub const TIMELINE_NOTES: &str = notes!(
     "Seconds are whole seconds since the epoch, 1970-01-01 00:00:00 UTC.\n\
     --readings takes one whole number of seconds for each clock, with commas and no spaces between them: 999,1100\n\
     is two clocks that are 101 seconds apart. Then it also says the phase of each, how far they are apart, and\n\
-    whether the interval allows that.\n\
+    whether the least interval allows that.\n\
     The standard input isn't read.",
     "migctl timeline --config fleet.json --readings 999,1100"
 );
