@@ -31,11 +31,15 @@ abbrev pub NodeCarries : {C : Type 0} → CarryRelation C → (C → ℕ) → �
 NodeCarries {C} carries faults node old back new =
     (carrier : C) × (carrier' : C) × (slice_get old node ≡ Some carrier) × CarriesOnce carries faults carrier back carrier' × (new ≡ slice_set old node carrier')
 
--- the carrier of the pool and the node that the sheet names was called once for the leg; the others are as they were
+-- the carrier of this pool and this node was called once for the leg; the others are as they were
+abbrev pub PlaceCarries : {C : Type 0} → CarryRelation C → (C → ℕ) → ℕ → ℕ → List (List C) → LegBack → List (List C) → Type 0
+PlaceCarries {C} carries faults pool node old back new =
+    (nodes : List C) × (nodes' : List C) × (slice_get old pool ≡ Some nodes) × NodeCarries carries faults node nodes back nodes'
+    × (new ≡ slice_set old pool nodes')
+
+-- that of the pool and the node that the sheet names
 abbrev pub PoolCarries : {C : Type 0} → CarryRelation C → (C → ℕ) → List (List C) → LegBack → List (List C) → Type 0
-PoolCarries {C} carries faults old back new =
-    (nodes : List C) × (nodes' : List C) × (slice_get old (pool_at back.sheet) ≡ Some nodes)
-    × NodeCarries carries faults back.sheet.node nodes back nodes' × (new ≡ slice_set old (pool_at back.sheet) nodes')
+PoolCarries carries faults old back new = PlaceCarries carries faults (pool_at back.sheet) back.sheet.node old back new
 
 -- the leg was carried by the carrier that its sheet names, and came back, behind the others
 pub record IsSentDirectly {C : Type 0} (carries : CarryRelation C) (faults : C → ℕ) (old : DirectView C) (leg : LegSheet) (new : DirectView C) : Type 0 where
@@ -45,9 +49,13 @@ pub record IsSentDirectly {C : Type 0} (carries : CarryRelation C) (faults : C �
   pub came : new.came ≡ old.came ++ back ∷ []
   pub room : old.room ≤ new.room
 
--- there is no carrier for the node that the sheet names
+-- there is no carrier of this pool and this node
+abbrev pub LacksPlace : {C : Type 0} → List (List C) → ℕ → ℕ → Type 0
+LacksPlace {C} pools pool node = (nodes : List C) → slice_get pools pool ≡ Some nodes → slice_get nodes node ≡ None
+
+-- there is none for the node that the sheet names
 abbrev pub LacksCarrier : {C : Type 0} → List (List C) → LegSheet → Type 0
-LacksCarrier {C} pools leg = (nodes : List C) → slice_get pools (pool_at leg) ≡ Some nodes → slice_get nodes leg.node ≡ None
+LacksCarrier pools leg = LacksPlace pools (pool_at leg) leg.node
 
 -- the leg has no carrier, or what comes back has no room without memory; no carrier was called
 pub record IsHandedBack {C : Type 0} (old : DirectView C) (leg : LegSheet) (new : DirectView C) : Type 0 where

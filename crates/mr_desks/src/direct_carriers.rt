@@ -1,7 +1,7 @@
 //! Carriers that a session uses in its own thread.
 ghost use Rattle.std.specs.Prelude.{◌≡◌, [], ◌∷◌, MatchOption, IfOk, IfErr, OnErr, map, option_map, slice_get, None};
 ghost use Rattle.mr_desks.specs.Carriers.{unused, SendIs, ReceiveIs};
-ghost use Rattle.mr_desks.specs.Direct.{NodeCarries, PoolCarries, LacksCarrier, IsSentDirectly, IsHandedBack};
+ghost use Rattle.mr_desks.specs.Direct.{NodeCarries, PlaceCarries, PoolCarries, LacksPlace, LacksCarrier, IsSentDirectly, IsHandedBack};
 
 use crate::carried::Carried;
 use crate::carrier::Carrier;
@@ -63,6 +63,26 @@ fn carry_to<C: Carrier>(nodes: &mut Vec<C>, node: usize, leg: Leg) -> Result<Car
     }
 }
 
+/// Carries a leg by the carrier of a pool and a node. A leg whose carrier is missing is handed back.
+fn carry_at<C: Carrier>(
+    pools: &mut Vec<Vec<C>>,
+    pool: usize,
+    node: usize,
+    leg: Leg,
+) -> Result<Carried<C>, Leg>
+    ensures carried { IfOk result (λ carried. (carried.back.sheet ≡ leg)
+        × PlaceCarries C.carries C.faults pool node (map (λ nodes. nodes.items) pools.old.items) carried.back (map (λ nodes. nodes.items) pools.new.items)) }
+    ensures back { IfErr result
+        (λ back. (back ≡ leg) × LacksPlace (map (λ nodes. nodes.items) pools.old.items) pool node) }
+    ensures unchanged { OnErr result
+        (map (λ nodes. nodes.items) pools.new.items ≡ map (λ nodes. nodes.items) pools.old.items) }
+{
+    match pools.get_mut(pool) {
+        Some(nodes) => carry_to(nodes, node, leg),
+        None => Err(leg),
+    }
+}
+
 /// Carries a leg by the carrier of the pool and the node that its sheet names. A leg whose carrier is missing is handed back.
 fn carry<C: Carrier>(pools: &mut Vec<Vec<C>>, leg: Leg) -> Result<Carried<C>, Leg>
     ensures carried { IfOk result (λ carried. (carried.back.sheet ≡ leg)
@@ -73,10 +93,7 @@ fn carry<C: Carrier>(pools: &mut Vec<Vec<C>>, leg: Leg) -> Result<Carried<C>, Le
 {
     let pool = leg.sheet().pool_number();
     let node = leg.sheet().node as usize;
-    match pools.get_mut(pool) {
-        Some(nodes) => carry_to(nodes, node, leg),
-        None => Err(leg),
-    }
+    carry_at(pools, pool, node, leg)
 }
 
 impl<C: Carrier> DirectCarriers<C> {
