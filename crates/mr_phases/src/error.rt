@@ -17,7 +17,7 @@ pub enum ScheduleError {
     #[error("the migration starts before the one before it has ended; start no earlier than that one's start plus twice its interval")]
     TooSoon,
     /// There are four migrations already.
-    #[error("a fifth migration follows; at most 4 can be in a row")]
+    #[error("at most 4 migrations can be in a row; leave out one that is over")]
     TooManyHops,
 }
 
