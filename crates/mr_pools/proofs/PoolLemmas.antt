@@ -1,4 +1,4 @@
--- What one more name does to names that are distinct so far, or apart so far.
+-- What one more name does to names that are distinct or apart so far, and one more pool to pools that stand apart.
 use Rattle.std.proofs.Common.{◌≡◌, ℕ, ◌+◌, ◌<◌, ◌≤◌, List, All, Contains, length, take, slice_index_or, arith, sym, ◌∙◌, ap, subst, inl, inr, length-take}
 use Rattle.std.proofs.lemmas.List.{get_or-take, get_or_default, take_all, take_more}
 use Rattle.std.proofs.lemmas.List.Elements.{All-push}
