@@ -1,3 +1,7 @@
+pub mod CheckingLemmas
 pub mod ConfigLemmas
 pub mod FieldLemmas
+pub mod MatchLemmas
 pub mod PoolLemmas
+pub mod RouteLemmas
+pub mod TimelineLemmas

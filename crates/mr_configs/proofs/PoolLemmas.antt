@@ -1,9 +1,17 @@
 -- Names that pass the tests of a pool are a pool.
-use Rattle.std.proofs.Common.{rules, ◌≡◌, ◌≢◌, ℕ, zero, suc, ◌<◌, ◌&&◌, Bool, true, false, not, List, [], ◌∷◌, length, slice_index_or, All, refl, sym, arith, Ok}
+use Rattle.std.proofs.Common.{rules, ◌≡◌, ◌≢◌, ℕ, zero, suc, ◌<◌, ◌&&◌, Bool, true, false, not, List, [], ◌∷◌, ◌++◌, length, map, drop, slice_index_or, All, refl, sym, ◌∙◌, ap, subst, arith, Ok}
+use Rattle.std.proofs.Math.Seq.{drop-cons}
 use Rattle.std.proofs.lemmas.Slice.Eq.{bytes_eq-Decides}
+use Rattle.mr_pools.specs.Limits.{most_pools}
 use Rattle.mr_pools.specs.NodeName.{IsNodeName, IsNameByte}
 use Rattle.mr_pools.specs.Pool.{IsPool, AreDistinct, AreApart}
+use Rattle.mr_pools.specs.Routing.{RoutingView, StandsApart, RefusesPool}
+use Rattle.mr_pools.specs.declared.error.PoolError.{PoolError}
+use Rattle.mr_pools.specs.declared.error.PoolError.TheVariants.{EmptyPool, TooManyNodes, BadName, RepeatedName, SharedName, OutOfMemory, TooManyPools}
+use Rattle.mr_configs.specs.Chain.{pools_after, is_apart_from, are_all_apart}
 use Rattle.mr_configs.specs.Fields.{Text, is_one_of}
+use Rattle.mr_configs.specs.MigrationDraft.{migration_drafted}
+use Rattle.mr_configs.specs.declared.migration.MigrationDraft.{MigrationDraft}
 use Rattle.mr_configs.specs.Pools.{is_name_byte, are_name_bytes, is_node_name, are_node_names, have_no_repeat, stand_apart, pool_of_names}
 
 -- both of two tests
@@ -60,3 +68,39 @@ pub apart_made : (old new : List Text) → stand_apart old new ≡ true → AreA
 apart_made [] new e k d within there = omega arith
 apart_made (name ∷ old) new e zero d within (j, short, is) = not_there new name (left_false (is_one_of new name) (stand_apart old new) e) j name short is
 apart_made (name ∷ old) new e (suc k) d within there = apart_made old new (right_true (not (is_one_of new name)) (stand_apart old new) e) k d (omega arith) there
+
+-- no name of the pool stands in the one that has others on both sides
+pub is_apart_within : (pool : List Text) (before : List (List Text)) (next : List Text) (after : List (List Text)) →
+    is_apart_from pool (before ++ next ∷ after) ≡ true → stand_apart pool next ≡ true
+is_apart_within pool [] next after e = left_true (stand_apart pool next) (is_apart_from pool after) e
+is_apart_within pool (other ∷ before) next after e =
+    is_apart_within pool before next after (right_true (stand_apart pool other) (is_apart_from pool (before ++ next ∷ after)) e)
+
+-- no name of the earlier pools stands in the next one
+pub next_apart : (before : List (List Text)) (next : List Text) (after : List (List Text)) →
+    are_all_apart (before ++ next ∷ after) ≡ true → All (λ earlier. AreApart earlier next) before
+next_apart [] next after e k d within = absurd (omega arith)
+next_apart (pool ∷ before) next after e zero d within =
+    apart_made pool next (is_apart_within pool before next after (left_true (is_apart_from pool (before ++ next ∷ after)) (are_all_apart (before ++ next ∷ after)) e))
+next_apart (pool ∷ before) next after e (suc k) d within =
+    next_apart before next after (right_true (is_apart_from pool (before ++ next ∷ after)) (are_all_apart (before ++ next ∷ after)) e) k d (omega arith)
+
+-- the same of the pools that a routing has so far, and of the migration that comes next
+pub next_stands_apart : (pools : List (List Text)) (items : List MigrationDraft) (index : ℕ) (next : MigrationDraft) (all : List (List Text)) →
+    pools ++ pools_after (map migration_drafted (drop index items)) ≡ all → are_all_apart all ≡ true →
+    index < length items → next ≡ slice_index_or items index next → All (λ earlier. AreApart earlier (migration_drafted next).new) pools
+next_stands_apart pools items index next all is apart within there =
+    let split : drop index items ≡ next ∷ drop (suc index) items = drop-cons items index next within ∙ ap (λ (m : MigrationDraft). m ∷ drop (suc index) items) (sym there) in
+    next_apart pools (migration_drafted next).new (pools_after (map migration_drafted (drop (suc index) items)))
+    (subst (λ (left : List MigrationDraft). are_all_apart (pools ++ pools_after (map migration_drafted left)) ≡ true) split (rw is apart))
+
+-- a pool is refused only where there are too many, or where it shares a name
+pub none_refused : (routing : RoutingView) (pool : List Text) (refusal : PoolError) → length routing.pools < most_pools → StandsApart routing pool →
+    RefusesPool routing pool refusal → ⊥
+none_refused routing pool TooManyPools few apart many = omega arith
+none_refused routing pool SharedName few apart shared = shared.1 apart
+none_refused routing pool EmptyPool few apart never = never
+none_refused routing pool TooManyNodes few apart never = never
+none_refused routing pool BadName few apart never = never
+none_refused routing pool RepeatedName few apart never = never
+none_refused routing pool OutOfMemory few apart never = never

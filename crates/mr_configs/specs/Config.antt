@@ -4,22 +4,29 @@ use Rattle.std.specs.Str.{bytes_eq, IsUtf8}
 use Rattle.serde_json.specs.Data.{Data}
 use Rattle.serde_json.specs.Find.{get, as_str}
 use Rattle.serde_json.specs.Read.{read}
-use Rattle.mr_pools.specs.Routing.{RoutingView, routing_between}
+use Rattle.mr_pools.specs.Routing.{RoutingView}
 use Rattle.mr_pools.specs.declared.error.PoolError.TheVariants.{SharedName}
 use Rattle.mr_pools.specs.declared.hash.NamedHash.{NamedHash}
 use Rattle.mr_pools.specs.declared.hash.NamedHash.TheVariants.{Sum, Fnv}
-use Rattle.mr_phases.specs.Schedule.{Hop}
-use Rattle.mr_configs.specs.Checking.{◌>>=◌}
+use Rattle.mr_phases.specs.Schedule.{Hop, IsSchedule, most_hops}
+use Rattle.mr_proxy.specs.Sheets.{HaveAsManyHops}
+use Rattle.mr_configs.specs.Chain.{pools_of, are_all_apart, schedule_of}
+use Rattle.mr_configs.specs.Checking.{◌>>=◌, only_if}
 use Rattle.mr_configs.specs.Fields.{Text, object_check, field}
-use Rattle.mr_configs.specs.Pools.{pools_check, stand_apart}
-use Rattle.mr_configs.specs.Route.{Migration, migration_of}
+use Rattle.mr_configs.specs.Pools.{pools_check}
+use Rattle.mr_configs.specs.Route.{chain_of}
 use Rattle.mr_configs.specs.declared.error.PlanError.{PlanError}
 use Rattle.mr_configs.specs.declared.error.PlanError.TheVariants.{NotJson, BadPool, BadHash, OutOfMemory}
 
--- a configuration: where keys are kept, and when the migration is
+-- a configuration: where keys are kept, and when each migration is
 pub record ConfigView : Type 0 where
   pub routing : RoutingView
   pub schedule : List Hop
+
+-- what holds of each configuration: hop j of its schedule moves from pool j of its routing to pool j + 1
+pub record IsConfig (config : ConfigView) : Type 0 where
+  pub matched : HaveAsManyHops config.routing config.schedule
+  pub schedule : IsSchedule config.schedule
 
 abbrev pub config_keys : List Text
 config_keys = codes "hash" ∷ codes "pools" ∷ codes "route" ∷ []
@@ -36,12 +43,9 @@ abbrev pub hash_of : Option Data → Result NamedHash PlanError
 hash_of None = Ok Fnv
 hash_of (Some value) = ok_or (as_str value) BadHash >>= hash_named
 
--- the configuration of a migration, between whose pools no name may be shared
-abbrev pub config_between : Migration → NamedHash → Result ConfigView PlanError
-config_between migration hash =
-    if stand_apart migration.old migration.new then
-    Ok (record { routing = routing_between migration.old migration.new hash; schedule = migration.schedule })
-    else Err (BadPool SharedName)
+-- the routing through the pools of a chain, of which no two may share a name
+abbrev pub routing_of : List (List Text) → NamedHash → Result RoutingView PlanError
+routing_of pools hash = only_if (are_all_apart pools) (BadPool SharedName) >>= λ _. Ok (record { pools = pools; hash = hash })
 
 -- the configuration that a value is, or the first of the refusals, in this order
 abbrev pub config_of : Data → Result ConfigView PlanError
@@ -50,9 +54,11 @@ config_of value =
     field (codes "pools") value >>= λ pools.
     field (codes "route") value >>= λ route.
     pools_check pools >>= λ _.
-    migration_of pools route >>= λ migration.
+    chain_of most_hops pools route >>= λ chain.
+    schedule_of chain.migrations >>= λ schedule.
     hash_of (get (codes "hash") value) >>= λ hash.
-    config_between migration hash
+    routing_of (pools_of chain) hash >>= λ routing.
+    Ok (record { routing = routing; schedule = schedule })
 
 -- the bytes are a JSON text in UTF-8, of this value
 abbrev pub IsJson : List ℕ → Data → Type 0

@@ -1,25 +1,23 @@
 -- A configuration that was looked at whole, and is yet to be made.
-use Rattle.std.specs.Prelude.{◌≡◌, List, map, true, Ok}
-use Rattle.serde_json.specs.View.{view}
-use Rattle.mr_pools.specs.Routing.{routing_between}
+use Rattle.std.specs.Prelude.{◌≡◌, ◌≤◌, List, length, true}
+use Rattle.mr_configs.specs.Chain.{pools_of, are_all_apart}
+use Rattle.mr_configs.specs.ChainDraft.{migrations_in, chain_drafted, IsChainReady}
 use Rattle.mr_configs.specs.Config.{ConfigView}
 use Rattle.mr_configs.specs.Fields.{Text}
-use Rattle.mr_configs.specs.Pools.{names_in, pool_of_names, stand_apart}
 use Rattle.mr_configs.specs.declared.config.Draft.{Draft}
 
-abbrev pub names_of_old : Draft → List Text
-names_of_old draft = names_in (map view draft.migration.old.now)
-
-abbrev pub names_of_new : Draft → List Text
-names_of_new draft = names_in (map view draft.migration.new.now)
+-- the pools of the chain that it has
+abbrev pub pools_drafted : Draft → List (List Text)
+pools_drafted draft = pools_of (chain_drafted draft.chain)
 
 -- the configuration that it becomes
 abbrev pub config_drafted : Draft → ConfigView
-config_drafted draft =
-    record { routing = routing_between (names_of_old draft) (names_of_new draft) draft.hash; schedule = draft.migration.schedule }
+config_drafted draft = record { routing = record { pools = pools_drafted draft; hash = draft.hash }; schedule = draft.schedule }
 
 -- nothing but want of memory keeps it from being made
 pub record IsConfigReady (draft : Draft) : Type 0 where
-  pub old : pool_of_names (names_of_old draft) ≡ Ok (names_of_old draft)
-  pub new : pool_of_names (names_of_new draft) ≡ Ok (names_of_new draft)
-  pub apart : stand_apart (names_of_old draft) (names_of_new draft) ≡ true
+  pub chain : IsChainReady draft.chain
+  pub some : 1 ≤ length (migrations_in draft.chain)
+  pub apart : are_all_apart (pools_drafted draft) ≡ true
+  -- as many migrations as the schedule has hops
+  pub matched : length (migrations_in draft.chain) ≡ length draft.schedule

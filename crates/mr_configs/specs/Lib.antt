@@ -1,10 +1,14 @@
+pub mod Chain
+pub mod ChainDraft
 pub mod Checking
 pub mod Config
 pub mod Defaults
 pub mod Draft
 pub mod Fields
+pub mod MigrationDraft
 pub mod Plan
 pub mod PlanError
 pub mod Pools
 pub mod Route
 pub mod Timeline
+pub mod steps

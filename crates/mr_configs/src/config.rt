@@ -1,15 +1,21 @@
-//! Configurations: where keys are kept, and when the migration is.
-ghost use Rattle.std.specs.Prelude.{◌≡◌, Ok, Err, IfOk, IfErr, codes};
+//! Configurations: where keys are kept, and when each migration is.
+ghost use Rattle.std.specs.Prelude.{◌≡◌, ◌<◌, true, Ok, Err, IfOk, IfErr, length, map, codes};
 ghost use Rattle.serde_json.specs.Find.{get};
 ghost use Rattle.serde_json.specs.View.{view};
-ghost use Rattle.mr_configs.specs.Config.{hash_of, config_of, IsJson, IsNoJson, ReadsConfig};
+ghost use Rattle.mr_pools.specs.Limits.{most_pools};
+ghost use Rattle.mr_pools.specs.Routing.{routing_between, routing_onto, StandsApart};
+ghost use Rattle.mr_configs.specs.Config.{hash_of, config_of, IsConfig, IsJson, IsNoJson, ReadsConfig};
 ghost use Rattle.mr_configs.specs.Draft.{config_drafted, IsConfigReady};
+ghost use Rattle.mr_configs.specs.MigrationDraft.{migration_drafted, IsPoolReady, IsMigrationReady};
+ghost use Rattle.mr_configs.specs.Pools.{names_in, stand_apart};
 
+use crate::chain::ChainDraft;
 use crate::error::PlanError;
 use crate::fields::{check_object, field};
-use crate::pools::{check_pools, make_pool, stand_apart};
-use crate::route::{Migration, migration_of};
-use mr_phases::Schedule;
+use crate::migration::{MigrationDraft, are_all_apart, schedule_of};
+use crate::pools::{check_pools, make_pool};
+use crate::route::chain_of;
+use mr_phases::{MAX_HOPS, Schedule};
 use mr_pools::{NamedHash, PoolError, Routing};
 use serde_json::Value;
 use std::alloc::{AllocError, Global};
@@ -18,7 +24,8 @@ use std::marker::Model;
 /// The keys of a configuration.
 const CONFIG_KEYS: [&str; 3] = ["hash", "pools", "route"];
 
-/// A configuration: where keys are kept, and when the migration is.
+/// A configuration: where keys are kept, and when each migration is. It has one pool more than migrations: migration j moves
+/// from pool j to pool j + 1.
 #[derive(Debug, Drop)]
 pub struct Config {
     routing: Routing,
@@ -26,17 +33,20 @@ pub struct Config {
 }
 
 impl Model for Config {
-    ghost use Rattle.mr_configs.specs.Config.{ConfigView};
+    ghost use Rattle.mr_configs.specs.Config.{ConfigView, IsConfig};
 
     ghost Value = { ConfigView };
 
     ghost view = { λ c. record { routing = c.routing; schedule = c.schedule } };
+
+    ghost invariant = { λ c. IsConfig (record { routing = c.routing; schedule = c.schedule }) };
 }
 
 /// A configuration that was looked at whole, and is yet to be made.
 #[derive(Clone, Copy)]
 pub struct Draft<'a> {
-    migration: Migration<'a>,
+    chain: ChainDraft<'a>,
+    schedule: Schedule,
     hash: NamedHash,
 }
 
@@ -62,32 +72,85 @@ pub fn draft_of(value: &Value) -> Result<Draft<'_>, PlanError>
     let pools = field(value, "pools")?;
     let route = field(value, "route")?;
     check_pools(pools)?;
-    let migration = match migration_of(pools, route) {
-        Ok(migration) => migration,
+    let chain = match chain_of(pools, route, MAX_HOPS) {
+        Ok(chain) => chain,
         Err(refusal) => return Err(refusal),
     };
+    let schedule = schedule_of(chain.migrations())?;
     let hash = hash_of(value)?;
-    if !stand_apart(migration.old, migration.new) {
+    if !are_all_apart(chain.first(), chain.migrations()) {
         return Err(PlanError::BadPool(PoolError::SharedName));
     }
-    Ok(Draft { migration, hash })
+    Ok(Draft {
+        chain,
+        schedule,
+        hash,
+    })
+}
+
+/// The routing of the first migration, made.
+fn make_routing_to(
+    alloc: Global,
+    first: &[Value],
+    migration: &MigrationDraft<'_>,
+    hash: NamedHash,
+) -> Result<Routing, AllocError>
+    requires first { IsPoolReady (names_in (map view first.now)) }
+    requires next { IsMigrationReady migration.now }
+    requires apart { stand_apart (names_in (map view first.now)) (migration_drafted migration.now).new ≡ true }
+    ensures { IfOk result
+        (λ routing. routing ≡ routing_between (names_in (map view first.now)) (migration_drafted migration.now).new hash) }
+{
+    let old = make_pool(alloc, first)?;
+    let new = make_pool(alloc, migration.new)?;
+    match Routing::new(old, new, hash) {
+        Ok(routing) => Ok(routing),
+        Err(_) => unreachable!(),
+    }
+}
+
+/// The routing that goes on by one migration, made.
+fn make_routing_onto(
+    alloc: Global,
+    routing: Routing,
+    migration: &MigrationDraft<'_>,
+) -> Result<Routing, AllocError>
+    requires few { length routing.pools < most_pools }
+    requires next { IsMigrationReady migration.now }
+    requires apart { StandsApart routing (migration_drafted migration.now).new }
+    ensures { IfOk result (λ longer. longer ≡ routing_onto routing (migration_drafted migration.now).new) }
+{
+    let pool = make_pool(alloc, migration.new)?;
+    match routing.then(pool) {
+        Ok(longer) => Ok(longer),
+        Err(_) => unreachable!(),
+    }
 }
 
 impl<'a> Draft<'a> {
+    /// The routing, made.
+    fn make_routing(&self, alloc: Global) -> Result<Routing, AllocError>
+        requires { IsConfigReady self.now }
+        ensures { IfOk result (λ routing. routing ≡ (config_drafted self.now).routing) }
+    {
+        let migrations = self.chain.migrations();
+        let mut routing = make_routing_to(alloc, self.chain.first(), &migrations[0], self.hash)?;
+        for migration in &migrations[1..] {
+            routing = make_routing_onto(alloc, routing, migration)?;
+        }
+        Ok(routing)
+    }
+
     /// The configuration, made.
     pub fn make(&self, alloc: Global) -> Result<Config, AllocError>
         requires { IsConfigReady self.now }
         ensures { IfOk result (λ config. config ≡ config_drafted self.now) }
     {
-        let old = make_pool(alloc, self.migration.old)?;
-        let new = make_pool(alloc, self.migration.new)?;
-        match Routing::new(old, new, self.hash) {
-            Ok(routing) => Ok(Config {
-                routing,
-                schedule: self.migration.schedule,
-            }),
-            Err(_) => unreachable!(),
-        }
+        let routing = self.make_routing(alloc)?;
+        let schedule = self.schedule;
+        let is_matched = routing.hops() == schedule.hops();
+        prove!(is_matched);
+        Ok(Config { routing, schedule })
     }
 }
 
@@ -105,8 +168,9 @@ pub fn json_of(alloc: Global, bytes: &[u8]) -> Result<Value, PlanError>
 
 impl Config {
     /// The configuration that a JSON text is. Refusals, in this order: NotJson; WrongKind where the whole is no object;
-    /// UnknownKey, MissingKey; those of the pools, in the order of their names; those of the route; BadSchedule, BadHash,
-    /// BadPool where a node stands in both pools of the route; OutOfMemory, which reading the text may answer too.
+    /// UnknownKey, MissingKey; those of the pools, in the order of their names; those of the route, of which each object is
+    /// looked at where it stands; BadSchedule, from the innermost migration on; BadHash; BadPool where a node stands in two pools
+    /// of the route; OutOfMemory, which reading the text may answer too.
     pub fn read(alloc: Global, bytes: &[u8]) -> Result<Config, PlanError>
         ensures { ReadsConfig bytes.now result }
     {
@@ -119,14 +183,16 @@ impl Config {
 
     /// Where keys are kept.
     pub fn routing(&self) -> &Routing
-        ensures { result.now ≡ self.now.routing }
+        ensures routing { result.now ≡ self.now.routing }
+        ensures config { IsConfig self.now }
     {
         &self.routing
     }
 
-    /// When the migration is.
+    /// When each migration is.
     pub fn schedule(&self) -> Schedule
-        ensures { result ≡ self.now.schedule }
+        ensures schedule { result ≡ self.now.schedule }
+        ensures config { IsConfig self.now }
     {
         self.schedule
     }

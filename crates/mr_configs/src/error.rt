@@ -22,11 +22,11 @@ pub enum PlanError {
     /// A key is there that isn't known.
     #[error("a key is unknown")]
     UnknownKey,
-    /// A pool was refused, or the two pools of the route together.
+    /// A pool was refused, or the pools of the route together.
     #[error("a pool was refused: {0}")]
     BadPool(PoolError),
-    /// The route is no MigrateRoute, or it names a pool that isn't there.
-    #[error("the route is no MigrateRoute between two pools that are there")]
+    /// The route is no MigrateRoute, or no more than four inside one another, or it names a pool that isn't there.
+    #[error("the route is no chain of up to four MigrateRoutes between pools that are there")]
     BadRoute,
     /// The schedule was refused.
     #[error("the schedule was refused: {0}")]

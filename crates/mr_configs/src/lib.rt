@@ -2,20 +2,25 @@
 //! one: the plan of a request and the timeline.
 #![tactic(auto)]
 
+mod advice;
+mod chain;
 mod config;
 mod defaults;
 mod error;
 pub mod fields;
+pub mod laws;
+mod migration;
 mod names;
 mod planning;
 mod pools;
 mod route;
 mod times;
 
+pub use advice::{Advice, Standing, advise};
 pub use config::{Config, Draft, draft_of, json_of};
 pub use defaults::DEFAULT_INTERVAL;
 pub use error::PlanError;
 pub use names::{is_among, is_node_name};
 pub use planning::{RequestPlan, plan};
 pub use route::name_pointed_to;
-pub use times::{Advice, PhaseTimes, Span, advise, timeline};
+pub use times::{ChainTimes, NewOnlyTime, PhaseTimes, Span, timeline};

@@ -13,9 +13,10 @@ use mr_text::Request;
 use std::alloc::{AllocError, Global};
 use std::marker::Model;
 
-/// Where a request goes: the phase at a reading, and each leg that is sent.
+/// Where a request goes: the hop in force at a reading and its phase, and each leg that is sent.
 #[derive(Debug, Drop)]
 pub struct RequestPlan {
+    hop: u32,
     phase: PhaseName,
     reading: u64,
     sheets: Vec<LegSheet>,
@@ -26,11 +27,18 @@ impl Model for RequestPlan {
 
     ghost Value = { PlanView };
 
-    ghost view = { λ p. record { phase = p.phase; reading = p.reading; sheets = p.sheets.items } };
+    ghost view = { λ p. record { hop = p.hop; phase = p.phase; reading = p.reading; sheets = p.sheets.items } };
 }
 
 impl RequestPlan {
-    /// The phase at the reading.
+    /// The number of the hop in force at the reading.
+    pub fn hop(&self) -> u32
+        ensures { result ≡ self.now.hop }
+    {
+        self.hop
+    }
+
+    /// The phase of that hop at the reading.
     pub fn phase(&self) -> PhaseName
         ensures { result ≡ self.now.phase }
     {
@@ -56,6 +64,7 @@ impl RequestPlan {
         ensures { IfOk result (λ plan. plan ≡ self.now) }
     {
         Ok(RequestPlan {
+            hop: self.hop,
             phase: self.phase,
             reading: self.reading,
             sheets: copied_sheets(&self.sheets)?,
@@ -97,9 +106,12 @@ pub fn plan(
     ensures nodes { IfOk result (λ plan. All (IsPlaced config.now.routing) plan.sheets) }
     ensures refused { IfErr result (λ e. e ≡ OutOfMemory) }
 {
-    let phase = judge(config.schedule(), at).name();
+    let judged = judge(config.schedule(), at);
+    let hop = judged.hop();
+    let phase = judged.name();
     if let Request::Quit = request {
         return Ok(RequestPlan {
+            hop,
             phase,
             reading: at,
             sheets: Vec::new(alloc),
@@ -109,6 +121,7 @@ pub fn plan(
     let mut core = ProxyCore::new(alloc, 0, 0, routing, config.schedule(), 1);
     match core.issue(at, request) {
         Ok(issued) => Ok(RequestPlan {
+            hop,
             phase,
             reading: at,
             sheets: sheets_of(alloc, issued.legs)?,

@@ -1,16 +1,19 @@
-//! The route of a configuration: a migration between two of its pools.
-ghost use Rattle.std.specs.Prelude.{◌≡◌, None, Some, Ok, Err, IfOk, IfErr, IfSome, map, option_map};
-ghost use Rattle.std.specs.Prelude.{codes};
-ghost use Rattle.serde_json.specs.Find.{get};
+//! The route of a configuration: a migration between two of its pools, or several in a row, each inside the next.
+ghost use Rattle.std.specs.Prelude.{◌≡◌, ◌≤◌, Ok, Err, IfOk, IfErr, map, length, option_map, codes};
+ghost use Rattle.serde_json.specs.Find.{get, as_str};
 ghost use Rattle.serde_json.specs.View.{view};
-ghost use Rattle.mr_configs.specs.Pools.{names_in, pool_of_names};
-ghost use Rattle.mr_configs.specs.Route.{is_migration, name_pointed_to, pool_behind, interval_of, schedule_of, migration_of};
+ghost use Rattle.mr_phases.specs.Schedule.{most_hops};
+ghost use Rattle.mr_configs.specs.ChainDraft.{migrations_in, chain_drafted, IsChainReady};
+ghost use Rattle.mr_configs.specs.MigrationDraft.{IsPoolReady};
+ghost use Rattle.mr_configs.specs.Pools.{names_in};
+ghost use Rattle.mr_configs.specs.Route.{is_migration, name_pointed_to, pool_named, pool_behind, interval_of, chain_before, chain_of};
 
+use crate::chain::ChainDraft;
 use crate::defaults::DEFAULT_INTERVAL;
 use crate::error::PlanError;
 use crate::fields::{check_object, field, whole_number};
+use crate::migration::MigrationDraft;
 use crate::pools::names_of_pool;
-use mr_phases::Schedule;
 use serde_json::Value;
 
 /// What comes before the name of a pool.
@@ -18,17 +21,6 @@ const POOL_PREFIX: &str = "PoolRoute|";
 
 /// The keys of a route.
 const ROUTE_KEYS: [&str; 5] = ["type", "from", "to", "start_time", "interval"];
-
-/// A migration as a configuration says it: the names of two of its pools, and when.
-#[derive(Clone, Copy)]
-pub struct Migration<'a> {
-    /// The names of the pool that is left.
-    pub old: &'a [Value],
-    /// The names of the pool that takes over.
-    pub new: &'a [Value],
-    /// When the migration is.
-    pub schedule: Schedule,
-}
 
 /// Whether the value is an object of the only type of route that there is.
 fn is_migration(route: &Value) -> bool
@@ -47,17 +39,25 @@ pub fn name_pointed_to(text: &str) -> Option<&str>
     text.strip_prefix(POOL_PREFIX)
 }
 
+/// The names of the pool that a text points to.
+fn pool_named<'a>(pools: &'a Value, text: &str) -> Result<&'a [Value], PlanError>
+    ensures names { IfOk result (λ values. pool_named (view pools.now) text.now ≡ Ok (names_in (map view values.now))) }
+    ensures pool { IfOk result (λ values. IsPoolReady (names_in (map view values.now))) }
+    ensures refused { IfErr result (λ e. pool_named (view pools.now) text.now ≡ Err e) }
+{
+    let name = name_pointed_to(text).ok_or(PlanError::BadRoute)?;
+    names_of_pool(pools.get(name).ok_or(PlanError::BadRoute)?)
+}
+
 /// The names of the pool that a value points to.
 fn pool_behind<'a>(pools: &'a Value, value: &Value) -> Result<&'a [Value], PlanError>
     ensures names { IfOk result
         (λ values. pool_behind (view pools.now) (view value.now) ≡ Ok (names_in (map view values.now))) }
-    ensures pool { IfOk result
-        (λ values. pool_of_names (names_in (map view values.now)) ≡ Ok (names_in (map view values.now))) }
+    ensures pool { IfOk result (λ values. IsPoolReady (names_in (map view values.now))) }
     ensures refused { IfErr result (λ e. pool_behind (view pools.now) (view value.now) ≡ Err e) }
 {
     let text = value.as_str().ok_or(PlanError::BadRoute)?;
-    let name = name_pointed_to(text).ok_or(PlanError::BadRoute)?;
-    names_of_pool(pools.get(name).ok_or(PlanError::BadRoute)?)
+    pool_named(pools, text)
 }
 
 /// How long each middle phase lasts, in seconds.
@@ -70,37 +70,61 @@ fn interval_of(route: &Value) -> Result<u64, PlanError>
     }
 }
 
-/// The schedule of a start and an interval, in seconds.
-fn schedule_of(start: u64, interval: u64) -> Result<Schedule, PlanError>
-    ensures { result ≡ schedule_of start interval }
+/// What leads to the pool that a migration leaves: nothing where `from` is a text, or else a chain of so many objects at
+/// most.
+#[tactic(auto, using(crate::proofs::RouteLemmas::no_object, crate::proofs::RouteLemmas::one_object))]
+#[cycle(chain)]
+fn chain_before<'a>(
+    pools: &'a Value,
+    from: &Value,
+    objects: u32,
+) -> Result<ChainDraft<'a>, PlanError>
+    requires { objects ≤ most_hops }
+    ensures chain { IfOk result
+        (λ found. chain_before (view pools.now) (as_str (view from.now)) (chain_of objects (view pools.now) (view from.now))
+        ≡ Ok (chain_drafted found)) }
+    ensures few { IfOk result (λ found. length (migrations_in found) ≤ objects) }
+    ensures ready { IfOk result (λ found. IsChainReady found) }
+    ensures refused { IfErr result
+        (λ e. chain_before (view pools.now) (as_str (view from.now)) (chain_of objects (view pools.now) (view from.now)) ≡ Err e) }
 {
-    match Schedule::new(start, interval) {
-        Ok(schedule) => Ok(schedule),
-        Err(refusal) => Err(PlanError::BadSchedule(refusal)),
+    match from.as_str() {
+        Some(text) => Ok(ChainDraft::at(pool_named(pools, text)?)),
+        None => chain_of(pools, from, objects),
     }
 }
 
-/// The migration that a route is, over these pools.
-pub fn migration_of<'a>(pools: &'a Value, route: &Value) -> Result<Migration<'a>, PlanError>
-    ensures migration { IfOk result (λ found. migration_of (view pools.now) (view route.now)
-        ≡ Ok (record { old = names_in (map view found.old.now); new = names_in (map view found.new.now); schedule = found.schedule })) }
-    ensures old { IfOk result
-        (λ found. pool_of_names (names_in (map view found.old.now)) ≡ Ok (names_in (map view found.old.now))) }
-    ensures new { IfOk result
-        (λ found. pool_of_names (names_in (map view found.new.now)) ≡ Ok (names_in (map view found.new.now))) }
-    ensures refused { IfErr result (λ e. migration_of (view pools.now) (view route.now) ≡ Err e) }
+/// The chain of migrations that a route is, over these pools. No more objects than this stand inside one another; one more is
+/// BadRoute.
+#[tactic(auto, using(crate::proofs::RouteLemmas::no_object, crate::proofs::RouteLemmas::one_object))]
+#[cycle(chain)]
+pub fn chain_of<'a>(
+    pools: &'a Value,
+    route: &Value,
+    objects: u32,
+) -> Result<ChainDraft<'a>, PlanError>
+    requires { objects ≤ most_hops }
+    ensures chain { IfOk result
+        (λ found. chain_of objects (view pools.now) (view route.now) ≡ Ok (chain_drafted found)) }
+    ensures some { IfOk result (λ found. 1 ≤ length (migrations_in found)) }
+    ensures few { IfOk result (λ found. length (migrations_in found) ≤ objects) }
+    ensures ready { IfOk result (λ found. IsChainReady found) }
+    ensures refused { IfErr result (λ e. chain_of objects (view pools.now) (view route.now) ≡ Err e) }
 {
-    if !is_migration(route) {
+    if objects == 0 || !is_migration(route) {
         return Err(PlanError::BadRoute);
     }
     check_object(route, &ROUTE_KEYS)?;
     let from = field(route, "from")?;
     let to = field(route, "to")?;
     let start_time = field(route, "start_time")?;
-    let old = pool_behind(pools, from)?;
+    let before = chain_before(pools, from, objects - 1)?;
     let new = pool_behind(pools, to)?;
     let start = whole_number(start_time)?;
     let interval = interval_of(route)?;
-    let schedule = schedule_of(start, interval)?;
-    Ok(Migration { old, new, schedule })
+    Ok(before.then(MigrationDraft {
+        new,
+        start,
+        interval,
+    }))
 }

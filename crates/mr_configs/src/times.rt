@@ -1,14 +1,11 @@
-//! When each phase is, and what clocks' readings say of a migration.
-ghost use Rattle.std.specs.Prelude.{◌≡◌, ◌++◌, map, take, IfOk, IfErr};
-ghost use Rattle.mr_phases.specs.Schedule.{phase_of};
-ghost use Rattle.mr_configs.specs.Timeline.{timeline_of, TellsPhases, advice_of};
-ghost use Rattle.mr_configs.specs.declared.error.PlanError.TheVariants.{OutOfMemory};
+//! When each phase of each hop is.
+ghost use Rattle.std.specs.Prelude.{◌≡◌, ◌<◌, length, slice_get, Some};
+ghost use Rattle.mr_configs.specs.Timeline.{timeline_of, span_before, time_until, TellsPhases};
+ghost use Rattle.mr_configs.specs.steps.TimesAt.{old_only_at, new_only_at, times_at};
 
 use crate::config::Config;
-use crate::error::PlanError;
-use mr_clock::Readings;
-use mr_phases::{PhaseName, Schedule, judge};
-use std::alloc::{AllocError, Global};
+use mr_phases::Schedule;
+use mr_phases::laws::phase_ranges;
 use std::marker::Model;
 
 /// Readings from the first to the last, both of them too, in seconds since the epoch.
@@ -20,38 +17,128 @@ pub struct Span {
     pub last: u64,
 }
 
-/// The readings of each phase.
+/// When everything goes to the new pool of a hop, in seconds since the epoch.
+#[derive(Clone, Copy, Debug, PartialEq, Eq)]
+pub enum NewOnlyTime {
+    /// Never: the next hop starts where the middle phases of this one end.
+    Never,
+    /// Until the next hop starts.
+    Within(Span),
+    /// From this second on: it is the last hop.
+    Since(u64),
+}
+
+/// The readings of each phase of a hop.
 #[derive(Clone, Copy, Debug, PartialEq, Eq)]
 pub struct PhaseTimes {
-    /// Everything goes to the old pool; None where the migration starts at 0.
+    /// Everything goes to the old pool. None where the hop starts at 0, and for every hop but the first: until it starts
+    /// the hop before it is in force.
     pub old_only: Option<Span>,
     /// Gets and sets go to the old pool, deletes to both.
     pub both_read_old: Span,
     /// Gets and sets go to the new pool, deletes to both.
     pub both_read_new: Span,
-    /// The first reading at which everything goes to the new pool.
-    pub new_only: u64,
+    /// Everything goes to the new pool.
+    pub new_only: NewOnlyTime,
 }
 
-/// The readings of each phase of a configuration.
-pub fn timeline(config: &Config) -> PhaseTimes
-    ensures value { result ≡ timeline_of config.now.schedule }
-    ensures phases { TellsPhases config.now.schedule result }
+/// The readings of each phase of each hop. It takes no memory.
+#[derive(Debug, Drop)]
+pub struct ChainTimes {
+    schedule: Schedule,
+}
+
+impl Model for ChainTimes {
+    ghost use Rattle.std.specs.Prelude.{List};
+    ghost use Rattle.mr_configs.specs.Timeline.{timeline_of};
+    ghost use Rattle.mr_configs.specs.declared.times.PhaseTimes.{PhaseTimes};
+
+    ghost Value = { List PhaseTimes };
+
+    ghost view = { λ t. timeline_of t.schedule };
+}
+
+#[tactic(auto, using(crate::proofs::TimelineLemmas::entries, crate::proofs::TimelineLemmas::entry_at))]
+impl ChainTimes {
+    /// How many hops there are: 1 to 4.
+    pub fn hops(&self) -> u32
+        ensures { result ≡ length self.now }
+    {
+        self.schedule.hops()
+    }
+
+    /// The readings of each phase of the hop of this number.
+    pub fn of(&self, hop: u32) -> PhaseTimes
+        requires { hop < length self.now }
+        ensures { slice_get self.now hop ≡ Some result }
+    {
+        times_at(self.schedule, hop)
+    }
+}
+
+/// The time before a hop that starts then.
+fn span_before(start: u64) -> Option<Span>
+    ensures { result ≡ span_before start }
 {
-    let schedule = config.schedule();
-    let start = schedule.start();
-    let middle = start + schedule.interval();
-    let end = middle + schedule.interval();
-    let old_only = if start == 0 {
+    if start == 0 {
         None
     } else {
         Some(Span {
             first: 0,
             last: start - 1,
         })
-    };
+    }
+}
+
+/// The time before the hop of a number.
+fn old_only_at(schedule: Schedule, hop: u32) -> Option<Span>
+    requires { hop < length schedule }
+    ensures { result ≡ old_only_at schedule hop }
+{
+    if hop == 0 {
+        span_before(schedule.start(0))
+    } else {
+        None
+    }
+}
+
+/// The time from the end of a hop's middle phases until the next hop starts.
+fn time_until(end: u64, next: u64) -> NewOnlyTime
+    ensures { result ≡ time_until end next }
+{
+    if end < next {
+        NewOnlyTime::Within(Span {
+            first: end,
+            last: next - 1,
+        })
+    } else {
+        NewOnlyTime::Never
+    }
+}
+
+/// The time from the end of a hop's middle phases on.
+fn new_only_at(schedule: Schedule, hop: u32) -> NewOnlyTime
+    requires { hop < length schedule }
+    ensures { result ≡ new_only_at schedule hop }
+{
+    let end = schedule.start(hop) + 2 * schedule.interval(hop);
+    if hop + 1 < schedule.hops() {
+        time_until(end, schedule.start(hop + 1))
+    } else {
+        NewOnlyTime::Since(end)
+    }
+}
+
+/// The times of the hop of a number.
+fn times_at(schedule: Schedule, hop: u32) -> PhaseTimes
+    requires { hop < length schedule }
+    ensures { result ≡ times_at schedule hop }
+{
+    let start = schedule.start(hop);
+    let middle = start + schedule.interval(hop);
+    let end = middle + schedule.interval(hop);
     PhaseTimes {
-        old_only,
+        old_only: old_only_at(schedule, hop),
         both_read_old: Span {
             first: start,
             last: middle - 1,
@@ -60,97 +147,19 @@ pub fn timeline(config: &Config) -> PhaseTimes
             first: middle,
             last: end - 1,
         },
-        new_only: end,
+        new_only: new_only_at(schedule, hop),
     }
 }
 
-/// What the readings of a fleet's clocks say: the phase of each, and whether they are near enough.
-#[derive(Debug, Drop)]
-pub struct Advice {
-    phases: Vec<PhaseName>,
-    spread: u64,
-    interval: u64,
-    near: bool,
-}
-
-impl Model for Advice {
-    ghost use Rattle.mr_configs.specs.Timeline.{AdviceView};
-
-    ghost Value = { AdviceView };
-
-    ghost view = { λ a. record { phases = a.phases.items; spread = a.spread; interval = a.interval; near = a.near } };
-}
-
-impl Advice {
-    /// The phase of each reading, in order.
-    pub fn phases(&self) -> &[PhaseName]
-        ensures { result.now ≡ self.now.phases }
-    {
-        self.phases.as_slice()
-    }
-
-    /// The greatest difference between two of the readings, in seconds.
-    pub fn spread(&self) -> u64
-        ensures { result ≡ self.now.spread }
-    {
-        self.spread
-    }
-
-    /// The greatest difference that is allowed, in seconds: the interval of the migration.
-    pub fn interval(&self) -> u64
-        ensures { result ≡ self.now.interval }
-    {
-        self.interval
-    }
-
-    /// Whether the readings differ by no more than the interval.
-    pub fn near(&self) -> bool
-        ensures { result ≡ self.now.near }
-    {
-        self.near
-    }
-
-    /// Equal advice.
-    pub fn copy(&self) -> Result<Advice, AllocError>
-        ensures { IfOk result (λ advice. advice ≡ self.now) }
-    {
-        Ok(Advice {
-            phases: self.phases.clone()?,
-            spread: self.spread,
-            interval: self.interval,
-            near: self.near,
-        })
-    }
-}
-
-/// The phase of each reading.
-fn phases_at(
-    alloc: Global,
-    schedule: Schedule,
-    readings: &[u64],
-) -> Result<Vec<PhaseName>, AllocError>
-    ensures { IfOk result (λ phases. phases.items ≡ map (phase_of schedule) readings.now) }
+/// The readings of each phase of each hop of a configuration.
+#[tactic(auto, using(crate::proofs::TimelineLemmas::entries))]
+pub fn timeline(config: &Config) -> ChainTimes
+    ensures value { result ≡ timeline_of config.now.schedule }
+    ensures hops { length result ≡ length config.now.schedule }
+    ensures phases { TellsPhases config.now.schedule result }
 {
-    let mut phases = Vec::with_capacity(alloc, readings.len())?;
-    for reading in readings {
-        phases.push(judge(schedule, *reading).name())?;
+    phase_ranges();
+    ChainTimes {
+        schedule: config.schedule(),
     }
-    Ok(phases)
-}
-
-/// What the readings of a fleet's clocks say, in seconds since the epoch.
-pub fn advise(alloc: Global, config: &Config, readings: &[u64]) -> Result<Advice, PlanError>
-    ensures advice { IfOk result (λ advice. advice ≡ advice_of config.now.schedule readings.now) }
-    ensures refused { IfErr result (λ e. e ≡ OutOfMemory) }
-{
-    let schedule = config.schedule();
-    let phases = phases_at(alloc, schedule, readings)?;
-    let spread = Readings::new(Vec::from_slice(alloc, readings)?).spread();
-    let interval = schedule.least_interval();
-    Ok(Advice {
-        phases,
-        spread,
-        interval,
-        near: spread <= interval,
-    })
 }

@@ -1,0 +1,2 @@
+-- Words of inner functions. No clause of a public call cites these definitions.
+pub mod TimesAt
