@@ -3,8 +3,8 @@
 #![tactic(auto)]
 
 pub use mr_configs::{
-    Advice, Config, DEFAULT_INTERVAL, PhaseTimes, PlanError, RequestPlan, Span, advise, plan,
-    timeline,
+    Advice, ChainTimes, Config, DEFAULT_INTERVAL, NewOnlyTime, PhaseTimes, PlanError, RequestPlan,
+    Span, Standing, advise, plan, timeline,
 };
 pub use mr_scripts::{MAX_EVENTS, MAX_HELD, MAX_PROXIES, MAX_SCRIPT, Script, read_events};
 pub use mr_shown::KeptVerdict;
