@@ -1,8 +1,8 @@
 //! Configurations and what follows from one, scripts, and the transcripts of their plays.
 use super::text::get;
 use mr_plan::{
-    Advice, Checked, Config, KeptVerdict, Outcome, PhaseTimes, PlanError, RequestPlan, Script,
-    advise, check_transcript, plan, read_events, timeline, write_transcript,
+    Advice, ChainTimes, Checked, Config, KeptVerdict, NewOnlyTime, Outcome, PhaseTimes, PlanError,
+    RequestPlan, Script, Standing, advise, check_transcript, plan, read_events, timeline, write_transcript,
 };
 use std::alloc::Global;
 use std::test::Fail;
@@ -29,7 +29,17 @@ fn count_legs(alloc: Global, config: &Config) -> Result<usize, Fail> {
 /// Whether two readings are near enough to each other.
 fn are_near(alloc: Global, config: &Config, readings: &[u64]) -> Result<bool, PlanError> {
     let advice: Advice = advise(alloc, config, readings)?;
-    Ok(advice.near())
+    let standings: &[Standing] = advice.standings();
+    Ok(advice.near() && standings.len() == readings.len())
+}
+
+/// The first second of the last phase.
+fn end(times: &ChainTimes) -> Result<NewOnlyTime, Fail> {
+    if times.hops() != 1 {
+        return Err(Fail::from("another number of migrations"));
+    }
+    let first: PhaseTimes = times.of(0);
+    Ok(first.new_only)
 }
 
 #[test]
@@ -37,8 +47,7 @@ fn a_configuration_is_planned_with(rt: HostRuntime) -> Result<(), Fail> {
     let config = config(rt.alloc())?;
     assert_eq!(rt; count_legs(rt.alloc(), &config)?, 1);
     assert!(rt; !are_near(rt.alloc(), &config, &[999, 1100])?);
-    let times: PhaseTimes = timeline(&config);
-    assert_eq!(rt; times.new_only, 1200);
+    assert_eq!(rt; end(&timeline(&config))?, NewOnlyTime::Since(1200));
     Ok(())
 }
 

@@ -4,7 +4,8 @@ mod configs;
 mod scripts;
 
 use super::is;
-use mr_pools::{NodeName, Pool};
+use mr_phases::Schedule;
+use mr_pools::{NodeName, Pool, Routing};
 use std::alloc::{AllocError, Global};
 use std::fmt::Debug;
 use std::process::Abort;
@@ -36,6 +37,19 @@ fn are_names(names: &[NodeName], wanted: &[&str]) -> bool {
         }
     }
     true
+}
+
+/// When the first migration of a schedule starts, and how long each of its middle phases lasts.
+fn first_hop(schedule: Schedule) -> (u64, u64) {
+    let _hops = schedule.hops();
+    (schedule.start(0), schedule.interval(0))
+}
+
+/// Asserts which nodes the pools of the first migration have.
+fn moves_between(rt: &impl Abort, routing: &Routing, old: &[&str], new: &[&str]) {
+    is(rt, routing.hops(), 1);
+    names_are(rt, routing.old_pool(0), old);
+    names_are(rt, routing.new_pool(0), new);
 }
 
 /// Asserts that a pool has these names in this order.

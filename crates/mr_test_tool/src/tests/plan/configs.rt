@@ -1,7 +1,8 @@
 //! Configurations, plans, timelines, scripts and transcripts.
-use super::{is, is_for, names_are};
+use super::{first_hop, is, is_for, moves_between};
 use mr_configs::{
-    Advice, Config, PhaseTimes, PlanError, RequestPlan, Span, advise, plan, timeline,
+    Advice, Config, NewOnlyTime, PhaseTimes, PlanError, RequestPlan, Span, Standing, advise, plan,
+    timeline,
 };
 use mr_history::OpId;
 use mr_phases::{PhaseName, ScheduleError, Side};

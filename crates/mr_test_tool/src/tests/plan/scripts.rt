@@ -1,6 +1,6 @@
 //! What a script says once it is read, and the refusals that the program doesn't print whole. Most texts are one script with
 //! a part changed.
-use super::{is, is_for, names_are, replace_part};
+use super::{first_hop, is, is_for, moves_between, replace_part};
 use crate::tests::must;
 use mr_configs::PlanError;
 use mr_history::OpId;
@@ -81,15 +81,19 @@ fn is_held(item: &HeldItem) -> bool {
 
 /// Whether a schedule starts then, and its phases last so long.
 fn is_schedule(schedule: Schedule, start: u64, interval: u64) -> bool {
-    schedule.start(0) == start && schedule.interval(0) == interval
+    first_hop(schedule) == (start, interval)
 }
 
 /// Asserts that a proxy has the script's common configuration.
 fn is_common(rt: &impl Abort, proxy: &ProxySetup) {
     is(rt, is_schedule(proxy.schedule, 1000, 100), true);
     is(rt, proxy.routing.hash() == NamedHash::Sum, true);
-    names_are(rt, proxy.routing.old_pool(0), &["7001", "7002"]);
-    names_are(rt, proxy.routing.new_pool(0), &["7101", "7102", "7103"]);
+    moves_between(
+        rt,
+        &proxy.routing,
+        &["7001", "7002"],
+        &["7101", "7102", "7103"],
+    );
 }
 
 /// Asserts what the script says of its setup.
@@ -115,8 +119,7 @@ fn a_setup_is_read(rt: HostRuntime) {
 fn is_own(rt: &impl Abort, proxy: &ProxySetup) {
     is(rt, is_schedule(proxy.schedule, 7, 3600), true);
     is(rt, proxy.routing.hash() == NamedHash::Fnv, true);
-    names_are(rt, proxy.routing.old_pool(0), &["x"]);
-    names_are(rt, proxy.routing.new_pool(0), &["7101"]);
+    moves_between(rt, &proxy.routing, &["x"], &["7101"]);
 }
 
 /// Two proxies, of which the second has a configuration of its own.

@@ -77,6 +77,23 @@ fn held_items(alloc: Global, holders: &[&[u8]]) -> Result<Vec<HeldItem>, Fail> {
     Ok(items)
 }
 
+/// The setup of one proxy whose routing has two pools, and whose schedule two hops.
+pub fn setup_of_two_hops(alloc: Global, capacity: usize) -> Result<Setup, Fail>
+    ensures { IfOk result (λ setup. length setup.proxies ≡ 1) }
+{
+    let Ok(schedule) = Schedule::new(1000, 100)?.then(1200, 50) else {
+        return Err(Fail::from("a second migration was refused"));
+    };
+    let proxy = ProxySetup {
+        routing: routing(alloc)?,
+        schedule,
+        room: 4,
+        reading: 999,
+    };
+    let proxies = vec![in alloc; proxy]?;
+    Ok(Setup::new(proxies, capacity, Vec::new(alloc)))
+}
+
 impl Fleet {
     /// The setup of the fleet.
     pub fn setup(&self, alloc: Global) -> Result<Setup, Fail> {

@@ -1,5 +1,5 @@
 //! What is refused, what is copied, and runs that stop.
-use super::fleets::Fleet;
+use super::fleets::{Fleet, setup_of_two_hops};
 use super::holds;
 use super::moves::{Asked, DELETE, GET, Move, Row, events_of, first_other, note_of};
 use super::playing::{Run, Shown, goes};
@@ -42,13 +42,14 @@ fn what_is_not_there_is_refused(rt: HostRuntime) {
     goes(&rt, rt.alloc(), &NOT_THERE);
 }
 
-static NUMBERS: [(WorldError, u8); 6] = [
+static NUMBERS: [(WorldError, u8); 7] = [
     (WorldError::NoSuchProxy, 1),
     (WorldError::NoSuchNode, 2),
     (WorldError::NoSuchMessage, 3),
     (WorldError::IssueRefused(ProxyError::NoRoom), 4),
     (WorldError::OutOfMemory, 5),
     (WorldError::NoSuchOp, 6),
+    (WorldError::HopsDiffer, 7),
 ];
 
 #[test]
@@ -95,6 +96,19 @@ const STRAY: Fleet = Fleet {
 fn a_setup_needs_its_nodes(rt: HostRuntime) {
     let refusal = must(&rt, STRAY.world_or_refusal(rt.alloc())).err();
     holds(&rt, refusal == Some(WorldError::NoSuchNode), "no such node");
+}
+
+/// Why there is no world of a proxy with two pools and two hops, on nodes of a capacity of 0 too.
+fn differ(rt: &impl Abort, alloc: Global, capacity: usize) {
+    let setup = must(rt, setup_of_two_hops(alloc, capacity));
+    let refusal = World::new(alloc, setup).err();
+    holds(rt, refusal == Some(WorldError::HopsDiffer), "hops differ");
+}
+
+#[test]
+fn a_routing_and_a_schedule_have_as_many_hops(rt: HostRuntime) {
+    differ(&rt, rt.alloc(), 4);
+    differ(&rt, rt.alloc(), 0);
 }
 
 /// How many items the copy of a setup holds.

@@ -40,18 +40,21 @@ fn a_refusal_carries_that_of_the_layer_below(rt: HostRuntime) {
 
 /// Asserts what the configuration of the worked examples says.
 fn is_worked(rt: &impl Abort, config: &Config) {
-    is(rt, config.schedule().start(0), 1000);
-    is(rt, config.schedule().interval(0), 100);
+    is(rt, first_hop(config.schedule()), (1000, 100));
     is(rt, config.routing().hash() == NamedHash::Sum, true);
-    names_are(rt, config.routing().old_pool(0), &["7001", "7002"]);
-    names_are(rt, config.routing().new_pool(0), &["7101", "7102", "7103"]);
+    moves_between(
+        rt,
+        config.routing(),
+        &["7001", "7002"],
+        &["7101", "7102", "7103"],
+    );
 }
 
 /// Asserts that a copy says the same.
 fn is_copied(rt: &impl Abort, config: &Config) {
     let copied = must(rt, config.copy());
     is(rt, copied.routing().same_as(config.routing()), true);
-    is(rt, copied.schedule().start(0), 1000);
+    is(rt, first_hop(copied.schedule()), (1000, 100));
 }
 
 #[test]

@@ -28,7 +28,7 @@ fn is_read(rt: &(impl Abort + Env), alloc: Global, text: &str, refusal: Option<P
     );
     is_for(rt, read.as_ref().err().copied(), refusal, text);
     if let Ok(config) = read {
-        is(rt, config.schedule().interval(0), 100);
+        is(rt, first_hop(config.schedule()), (1000, 100));
     }
 }
 

@@ -79,7 +79,7 @@ fn are_legs(sheets: &[LegSheet], legs: &[(Side, u32)]) -> bool {
 /// Asserts what a plan says.
 pub(super) fn plan_is(rt: &impl Abort, plan: &RequestPlan, row: Row) {
     let (_, at, phase, legs) = row;
-    is(rt, plan.phase() == phase, true);
+    is(rt, (plan.hop(), plan.phase()), (0, phase));
     is(rt, plan.reading(), at);
     is(rt, are_legs(plan.sheets(), legs), true);
 }
@@ -116,7 +116,11 @@ const fn span(first: u64, last: u64) -> Span {
 
 /// Asserts which timeline a configuration has.
 fn timeline_is(rt: &impl Abort, config: &Config, wanted: PhaseTimes) {
-    assert_eq!(rt; timeline(config), wanted);
+    let times = timeline(config);
+    if times.hops() != 1 {
+        rt.panic("another number of migrations");
+    }
+    assert_eq!(rt; times.of(0), wanted);
 }
 
 #[test]
@@ -128,7 +132,7 @@ fn the_timeline_has_four_spans(rt: HostRuntime) {
             old_only: Some(span(0, 999)),
             both_read_old: span(1000, 1099),
             both_read_new: span(1100, 1199),
-            new_only: 1200,
+            new_only: NewOnlyTime::Since(1200),
         },
     );
 }
@@ -149,8 +153,17 @@ fn spread_is(rt: &impl Abort, advice: &Advice, spread: u64, near: bool) {
 
 /// Asserts what is told of clocks too far apart.
 pub(super) fn far_is_told(rt: &impl Abort, advice: &Advice) {
-    let phases = [PhaseName::OldOnly, PhaseName::BothReadNew];
-    is(rt, advice.phases() == phases.as_slice(), true);
+    let standings = [
+        Standing {
+            hop: 0,
+            phase: PhaseName::OldOnly,
+        },
+        Standing {
+            hop: 0,
+            phase: PhaseName::BothReadNew,
+        },
+    ];
+    is(rt, advice.standings() == standings.as_slice(), true);
     spread_is(rt, advice, 101, false);
     is(rt, advice.interval(), 100);
 }
