@@ -4,7 +4,7 @@ use Rattle.std.proofs.lemmas.List.{length-map}
 use Rattle.mr_text.specs.declared.request.Request.{Request}
 use Rattle.mr_text.specs.declared.request.Request.TheVariants as request
 use Rattle.mr_history.specs.declared.op_id.OpId.{OpId}
-use Rattle.mr_phases.specs.Schedule.{Hop, phase_of}
+use Rattle.mr_phases.specs.Schedule.{Hop, hop_of, phase_of}
 use Rattle.mr_phases.specs.Sides.{read_side_of, delete_sides_of}
 use Rattle.mr_phases.specs.declared.phase_name.PhaseName.{PhaseName}
 use Rattle.mr_phases.specs.declared.phase_name.PhaseName.TheVariants.{OldOnly, BothReadOld, BothReadNew, NewOnly}
@@ -49,10 +49,10 @@ few_sides NewOnly = omega arith
 
 few_legs : (routing : RoutingView) (hops : List Hop) (op : OpId) (u : ℕ) (q : Request) → length (sheets_by routing hops op u q) ≤ most_legs q
 few_legs routing hops op u (request.Get keys) =
-    let all = get_length routing op (read_side_of (phase_of hops u)) keys in omega (arith, all)
+    let all = get_length routing (hop_of hops u) op (read_side_of (phase_of hops u)) keys in omega (arith, all)
 few_legs routing hops op u (request.Set key flags exptime block noreply) = omega arith
 few_legs routing hops op u (request.Delete key noreply) =
-    let all = delete_length routing op (delete_sides_of (phase_of hops u)) (Delete key) in
+    let all = delete_length routing (hop_of hops u) op (delete_sides_of (phase_of hops u)) (Delete key) in
     let few = few_sides (phase_of hops u) in
     omega (arith, all, few)
 few_legs routing hops op u request.Quit = omega arith
@@ -85,7 +85,7 @@ same_command request.Quit place one other is is' = absurd is
 equal_sheets : (one other : LegSheet) → one.id ≡ other.id → destination_of one ≡ destination_of other → one.command ≡ other.command → one ≡ other
 equal_sheets one other id goes command =
     ap (λ (i : LegId). record one { id = i }) id
-    ∙ ap (λ (d : Destination). record one { id = other.id; side = d.side; node = d.node }) goes
+    ∙ ap (λ (d : Destination). record one { id = other.id; hop = d.hop; side = d.side; node = d.node }) goes
     ∙ ap (λ (c : NodeCommand). record other { command = c }) command
 
 -- the leg of a place that goes to the same node is the same

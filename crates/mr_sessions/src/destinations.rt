@@ -11,7 +11,9 @@ use mr_text::Request;
 /// The node that a leg goes to.
 #[derive(Clone, Copy, Drop)]
 pub(crate) struct Destination {
-    /// The side whose pool has the node.
+    /// The migration, counted from 0.
+    hop: u32,
+    /// The side of that migration whose pool has the node.
     side: Side,
     /// The node's index in that pool.
     node: u32,
@@ -22,6 +24,7 @@ fn destination_of(sheet: &LegSheet) -> Destination
     ensures { result ≡ destination_of sheet.now }
 {
     Destination {
+        hop: sheet.hop,
         side: sheet.side,
         node: sheet.node,
     }
@@ -50,6 +53,15 @@ pub(crate) fn note_destinations(destinations: &mut Vec<Destination>, legs: &[Leg
     }
 }
 
+/// Whether this is the node that a leg goes to.
+fn goes_to(sheet: &LegSheet, destination: &Destination) -> bool
+    ensures { IsTrue result ↔ (destination_of sheet.now ≡ destination.now) }
+{
+    sheet.hop == destination.hop
+        && sheet.side == destination.side
+        && sheet.node == destination.node
+}
+
 /// Whether the legs of an answer went to these nodes, in order.
 fn went_to(slots: &[Slot], destinations: &[Destination]) -> bool
     ensures { IsTrue result ↔ (map slot_destination slots.now ≡ destinations.now) }
@@ -58,8 +70,7 @@ fn went_to(slots: &[Slot], destinations: &[Destination]) -> bool
         return false;
     }
     for (place, slot) in slots.iter().enumerate() {
-        let destination = &destinations[place];
-        if slot.sheet.side != destination.side || slot.sheet.node != destination.node {
+        if !goes_to(&slot.sheet, &destinations[place]) {
             return false;
         }
     }

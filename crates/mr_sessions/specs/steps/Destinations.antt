@@ -20,7 +20,7 @@ most_legs request.Quit = 0
 
 -- the node that a leg goes to
 abbrev pub destination_of : LegSheet → Destination
-destination_of sheet = record { side = sheet.side; node = sheet.node }
+destination_of sheet = record { hop = sheet.hop; side = sheet.side; node = sheet.node }
 
 abbrev pub slot_destination : Slot → Destination
 slot_destination slot = destination_of (sheet_of slot)
