@@ -1,42 +1,31 @@
 -- The nodes that are looked up in the JSON values of a setup are those of the proxies that the values are.
-use Rattle.std.proofs.Common.{rules, ◌≡◌, ℕ, ◌||◌, ◌&&◌, List, [], ◌∷◌, Bool, true, false, nat_le, if◌then◌else◌, Option, Some, None, Ok, Err, Result, refl, sym, ap, ◌∙◌}
-use Rattle.std.specs.Prelude.{IsOk, is_ok, ok_or, option_and_then, option_map, unwrap_or, codes}
+use Rattle.std.proofs.Common.{rules, ◌≡◌, ℕ, zero, suc, ◌||◌, ◌&&◌, ◌++◌, List, [], ◌∷◌, Bool, true, false, nat_le, if◌then◌else◌, Option, Some, None, Ok, Err, Result, refl, sym, ap, ◌∙◌}
+use Rattle.std.specs.Prelude.{IsOk, is_ok, is_some, ok_or, option_and_then, option_map, unwrap_or, codes}
+use Rattle.std.proofs.lemmas.List.{map-append}
 use Rattle.serde_json.specs.Data.{Data, Items}
 use Rattle.serde_json.specs.Find.{get, as_str, as_array}
-use Rattle.mr_phases.specs.Schedule.{Hop}
+use Rattle.mr_phases.specs.Schedule.{most_hops}
 use Rattle.mr_pools.specs.Routing.{RoutingView}
 use Rattle.mr_pools.specs.declared.hash.NamedHash.{NamedHash}
 use Rattle.mr_world.specs.Setup.{SetupView}
 use Rattle.mr_world.specs.declared.error.WorldError.TheVariants.{NoSuchNode}
 use Rattle.mr_world.specs.declared.setup.HeldItem.{HeldItem}
 use Rattle.mr_world.specs.declared.setup.ProxySetup.{ProxySetup}
+use Rattle.mr_configs.specs.Chain.{Migration, Chain, chain_at, chain_with, pools_of, schedule_of}
 use Rattle.mr_configs.specs.Checking.{◌>>=◌, only_if}
-use Rattle.mr_configs.specs.Config.{ConfigView, config_of, config_keys, config_between, hash_of}
+use Rattle.mr_configs.specs.Config.{ConfigView, config_of, config_keys, routing_of, hash_of}
 use Rattle.mr_configs.specs.Fields.{Text, object_check, field, list_of, values_in, whole_number, text_of}
-use Rattle.mr_scripts.specs.Homes.{servers_at, names_at, pools_at, config_at, values_name, node_at, are_housed, values_have_room}
+use Rattle.mr_scripts.specs.Homes.{servers_at, names_behind, names_after, pools_by, pools_along, pools_at, config_at, values_name, node_at, are_housed, values_have_room}
 use Rattle.mr_scripts.specs.Lists.{all_of}
 use Rattle.mr_configs.specs.Pools.{names_in, texts_of, pool_of_names, pool_in, pools_check}
-use Rattle.mr_configs.specs.Route.{Migration, name_pointed_to, pool_behind, migration_of, is_migration, route_keys, interval_of, schedule_of}
+use Rattle.mr_configs.specs.Route.{name_pointed_to, pool_named, pool_behind, is_migration, route_keys, interval_of, chain_before, chain_of}
 use Rattle.mr_scripts.specs.Setups.{held_of, proxy_of, config_or, proxy_keys, held_keys, pools_name, proxies_name, have_homes, have_room}
 use Rattle.mr_scripts.specs.Numbers.{small_number}
 use Rattle.mr_scripts.specs.SetupDraft.{setup_between}
 use Rattle.mr_scripts.specs.Texts.{key_of, block_of, node_name_of, node_name_of_text}
 use Rattle.mr_configs.specs.declared.error.PlanError.{PlanError}
 use Rattle.mr_configs.specs.declared.error.PlanError.TheVariants.{WrongKind, MissingKey, BadRoute, BadSetup}
-
--- what a check gave, and what the next made of it
-pub record Taken {X Y E : Type 0} (given : Result X E) (next : X → Result Y E) (made : Y) : Type 0 where
-  pub value : X
-  pub gave : given ≡ Ok value
-  pub went : next value ≡ Ok made
-
-pub taken : {X Y E : Type 0} (given : Result X E) (next : X → Result Y E) (made : Y) → (given >>= next) ≡ Ok made → Taken given next made
-taken (Ok value) next made e = record { value = value; gave = refl; went = e }
-taken (Err refusal) next made e = cc
-
-pub there : {X E : Type 0} (given : Option X) (refusal : E) (value : X) → ok_or given refusal ≡ Ok value → given ≡ Some value
-there None refusal value e = cc
-there (Some other) refusal value e = cc
+use Rattle.mr_configs.proofs.CheckingLemmas.{taken, there}
 
 -- the names of the nodes that a pool lists
 abbrev names_listed : Option Data → List Text
@@ -70,104 +59,137 @@ pool_names value names e =
     go None e = cc
     go (Some items) e = ap names_in (cc)
 
--- the pool that a value of a route points to
-behind_names : (config pools route value : Data) (key : Text) (names : List Text) →
-    get (codes "pools") config ≡ Some pools → get (codes "route") config ≡ Some route → get key route ≡ Some value →
-    pool_behind pools value ≡ Ok names → names_at key config ≡ names
-behind_names config pools route value key names is_pools is_route is_value e =
-    let pool = taken (ok_or (option_and_then (λ name. get name pools) (option_and_then name_pointed_to (as_str value))) BadRoute) pool_in names e in
-    let found : option_and_then (λ name. get name pools) (option_and_then name_pointed_to (as_str value)) ≡ Some pool.value =
-    there (option_and_then (λ name. get name pools) (option_and_then name_pointed_to (as_str value))) BadRoute pool.value pool.gave in
-    rw is_route (rw is_value (go (option_and_then name_pointed_to (as_str value)) found (pool_names pool.value names pool.went)))
+-- the pool that a text points to
+named_names : (config pools : Data) (text : Text) (names : List Text) → get (codes "pools") config ≡ Some pools → pool_named pools text ≡ Ok names →
+    unwrap_or (option_map (λ items. names_in (values_in items)) (option_and_then (servers_at config) (name_pointed_to text))) [] ≡ names
+named_names config pools text names is_pools e =
+    let pool = taken (ok_or (option_and_then (λ name. get name pools) (name_pointed_to text)) BadRoute) pool_in names e in
+    let found : option_and_then (λ name. get name pools) (name_pointed_to text) ≡ Some pool.value =
+    there (option_and_then (λ name. get name pools) (name_pointed_to text)) BadRoute pool.value pool.gave in
+    go (name_pointed_to text) found (pool_names pool.value names pool.went)
   where
     go : (name : Option Text) {pool : Data} → option_and_then (λ name. get name pools) name ≡ Some pool → names_listed (Some pool) ≡ names →
         unwrap_or (option_map (λ items. names_in (values_in items)) (option_and_then (servers_at config) name)) [] ≡ names
     go None at listed = cc
     go (Some name) at listed = rw is_pools (rw at listed)
 
--- the pools that a route names, by the values that it has for them
-record AreBehind (pools route : Data) (migration : Migration) : Type 0 where
-  from : Data
-  to : Data
-  has_from : get (codes "from") route ≡ Some from
-  has_to : get (codes "to") route ≡ Some to
-  old : pool_behind pools from ≡ Ok migration.old
-  new : pool_behind pools to ≡ Ok migration.new
+-- the pool that a value points to
+behind_names : (config pools value : Data) (names : List Text) → get (codes "pools") config ≡ Some pools → pool_behind pools value ≡ Ok names →
+    names_behind config value ≡ names
+behind_names config pools value names is_pools e =
+    let text = taken (ok_or (as_str value) BadRoute) (pool_named pools) names e in
+    rw (there (as_str value) BadRoute text.value text.gave) (named_names config pools text.value names is_pools text.went)
+
+-- what leads to the pool that a migration leaves
+before_names : (config pools from : Data) (inner : Data → List (List Text)) (chain : Result Chain PlanError) (before : Chain) →
+    get (codes "pools") config ≡ Some pools → ((made : Chain) → chain ≡ Ok made → inner from ≡ pools_of made) →
+    chain_before pools (as_str from) chain ≡ Ok before → pools_by inner config (Some from) ≡ pools_of before
+before_names config pools from inner chain before is_pools along e = go (as_str from) refl e
+  where
+    pool_alone : (text : Text) → (pool_named pools text >>= λ first. Ok (chain_at first)) ≡ Ok before →
+        unwrap_or (option_map (λ items. names_in (values_in items)) (option_and_then (servers_at config) (name_pointed_to text))) [] ∷ [] ≡ pools_of before
+    pool_alone text is =
+        let first = taken (pool_named pools text) (λ first. Ok (chain_at first)) before is in
+        let same : chain_at first.value ≡ before = cc in
+        ap (λ (pool : List Text). pool ∷ []) (named_names config pools text first.value is_pools first.gave) ∙ ap pools_of same
+
+    go : (text : Option Text) → as_str from ≡ text → chain_before pools text chain ≡ Ok before →
+        (if is_some (as_str from) then names_behind config from ∷ [] else inner from) ≡ pools_of before
+    go None at is = rw at (along before is)
+    go (Some text) at is = rw at (pool_alone text is)
+
+-- the pools of a chain with one migration more
+one_onto : (chain : Chain) (migration : Migration) → pools_of (chain_with chain migration) ≡ pools_of chain ++ migration.new ∷ []
+one_onto chain migration =
+    ap (λ (pools : List (List Text)). chain.first ∷ pools) (map-append (λ (m : Migration). m.new) chain.migrations (migration ∷ []))
 
 -- what comes of a route once its pools are there
-abbrev with_pools : Data → Data → List Text → List Text → Result Migration PlanError
-with_pools route start_time old new =
-    whole_number start_time >>= λ start.
-    interval_of (get (codes "interval") route) >>= λ interval.
-    schedule_of start interval >>= λ schedule.
-    Ok (record { old = old; new = new; schedule = schedule })
+abbrev with_start : Data → Chain → List Text → ℕ → Result Chain PlanError
+with_start route before new start =
+    interval_of (get (codes "interval") route) >>= λ interval. Ok (chain_with before (record { new = new; start = start; interval = interval }))
 
-pools_kept : (route start_time : Data) (old new : List Text) (migration : Migration) → with_pools route start_time old new ≡ Ok migration →
-    (old ≡ migration.old) × (new ≡ migration.new)
-pools_kept route start_time old new migration e = go (whole_number start_time) (interval_of (get (codes "interval") route)) e
-  where
-    end : (schedule : Result (List Hop) PlanError) → (schedule >>= λ schedule. Ok (record { old = old; new = new; schedule = schedule })) ≡ Ok migration →
-        (old ≡ migration.old) × (new ≡ migration.new)
-    end (Ok schedule) is = let same : record { old = old; new = new; schedule = schedule } ≡ migration = cc in
-        (ap (λ (m : Migration). m.old) same, ap (λ (m : Migration). m.new) same)
-    end (Err refusal) is = absurd (cc)
+abbrev with_new : Data → Data → Chain → List Text → Result Chain PlanError
+with_new route start_time before new = whole_number start_time >>= with_start route before new
 
-    go : (start interval : Result ℕ PlanError) →
-        (start >>= λ start. interval >>= λ interval. schedule_of start interval >>= λ schedule. Ok (record { old = old; new = new; schedule = schedule })) ≡ Ok migration →
-        (old ≡ migration.old) × (new ≡ migration.new)
-    go (Ok start) (Ok interval) is = end (schedule_of start interval) is
-    go (Ok start) (Err refusal) is = absurd (cc)
-    go (Err refusal) interval is = absurd (cc)
+-- once what leads to it is there
+abbrev with_before : Data → Data → Data → Data → Chain → Result Chain PlanError
+with_before pools route to start_time before = pool_behind pools to >>= with_new route start_time before
 
--- once the keys are there
-abbrev with_keys : Data → Data → Data → Data → Data → Result Migration PlanError
-with_keys pools route from to start_time =
-    pool_behind pools from >>= λ old. pool_behind pools to >>= λ new. with_pools route start_time old new
+-- once its keys are there
+abbrev with_keys : (Data → Result Chain PlanError) → Data → Data → Data → Data → Data → Result Chain PlanError
+with_keys inner pools route from to start_time = chain_before pools (as_str from) (inner from) >>= with_before pools route to start_time
 
-abbrev after_check : Data → Data → Result Migration PlanError
-after_check pools route =
+abbrev after_check : (Data → Result Chain PlanError) → Data → Data → Result Chain PlanError
+after_check inner pools route =
     field (codes "from") route >>= λ from. field (codes "to") route >>= λ to. field (codes "start_time") route >>= λ start_time.
-    with_keys pools route from to start_time
+    with_keys inner pools route from to start_time
 
-same_pool : {found : Result (List Text) PlanError} {names kept : List Text} → found ≡ Ok names → names ≡ kept → found ≡ Ok kept
-same_pool found same = cc
+-- the pools of a route that leads on from a chain
+joined : (config route from to : Data) (inner : Data → List (List Text)) (before chain : Chain) (migration : Migration) →
+    get (codes "from") route ≡ Some from → get (codes "to") route ≡ Some to →
+    pools_by inner config (Some from) ≡ pools_of before → names_behind config to ≡ migration.new →
+    ◌≡◌ {A = Result Chain PlanError} (Ok (chain_with before migration)) (Ok chain) →
+    pools_by inner config (get (codes "from") route) ++ names_after config route ∷ [] ≡ pools_of chain
+joined config route from to inner before chain migration has_from has_to first last e =
+    let same : chain_with before migration ≡ chain = cc in
+    let left : pools_by inner config (get (codes "from") route) ≡ pools_of before = ap (pools_by inner config) has_from ∙ first in
+    let right : names_after config route ≡ migration.new = ap (λ (o : Option Data). unwrap_or (option_map (names_behind config) o) []) has_to ∙ last in
+    ap (λ (pools : List (List Text)). pools ++ names_after config route ∷ []) left
+    ∙ ap (λ (pool : List Text). pools_of before ++ pool ∷ []) right
+    ∙ sym (one_onto before migration) ∙ ap pools_of same
 
-migration_behind : (pools route : Data) (migration : Migration) → migration_of pools route ≡ Ok migration → AreBehind pools route migration
-migration_behind pools route migration e =
-    let kind = taken (only_if (is_migration route) BadRoute) (λ _. object_check route_keys route >>= λ _. after_check pools route) migration e in
-    let keys = taken (object_check route_keys route) (λ _. after_check pools route) migration kind.went in
+-- the pools of a chain are those that its route names
+along_names : (routes : ℕ) (config pools route : Data) (chain : Chain) → get (codes "pools") config ≡ Some pools → chain_of routes pools route ≡ Ok chain →
+    pools_along routes config route ≡ pools_of chain
+unfolding chain_of pools_along
+along_names zero config pools route chain is_pools e = absurd (cc)
+along_names (suc fewer) config pools route chain is_pools e =
+    let kind = taken (only_if (is_migration route) BadRoute) (λ _. object_check route_keys route >>= λ _. after_check (chain_of fewer pools) pools route) chain e in
+    let keys = taken (object_check route_keys route) (λ _. after_check (chain_of fewer pools) pools route) chain kind.went in
     let from = taken (field (codes "from") route)
-    (λ from. field (codes "to") route >>= λ to. field (codes "start_time") route >>= λ start_time. with_keys pools route from to start_time) migration keys.went in
+    (λ from. field (codes "to") route >>= λ to. field (codes "start_time") route >>= λ start_time. with_keys (chain_of fewer pools) pools route from to start_time) chain keys.went in
     let to = taken (field (codes "to") route)
-    (λ to. field (codes "start_time") route >>= λ start_time. with_keys pools route from.value to start_time) migration from.went in
-    let start_time = taken (field (codes "start_time") route) (λ start_time. with_keys pools route from.value to.value start_time) migration to.went in
-    let old = taken (pool_behind pools from.value) (λ old. pool_behind pools to.value >>= λ new. with_pools route start_time.value old new) migration start_time.went in
-    let new = taken (pool_behind pools to.value) (λ new. with_pools route start_time.value old.value new) migration old.went in
-    let kept = pools_kept route start_time.value old.value new.value migration new.went in
-    record {
-      from = from.value;
-      to = to.value;
-      has_from = there (get (codes "from") route) MissingKey from.value from.gave;
-      has_to = there (get (codes "to") route) MissingKey to.value to.gave;
-      old = same_pool {found = pool_behind pools from.value} {names = old.value} old.gave kept.0;
-      new = same_pool {found = pool_behind pools to.value} {names = new.value} new.gave kept.1;
-    }
+    (λ to. field (codes "start_time") route >>= λ start_time. with_keys (chain_of fewer pools) pools route from.value to start_time) chain from.went in
+    let start_time = taken (field (codes "start_time") route) (λ start_time. with_keys (chain_of fewer pools) pools route from.value to.value start_time) chain to.went in
+    let before = taken (chain_before pools (as_str from.value) (chain_of fewer pools from.value)) (with_before pools route to.value start_time.value) chain start_time.went in
+    let new = taken (pool_behind pools to.value) (with_new route start_time.value before.value) chain before.went in
+    let start = taken (whole_number start_time.value) (with_start route before.value new.value) chain new.went in
+    let interval = taken (interval_of (get (codes "interval") route))
+    (λ interval. Ok (chain_with before.value (record { new = new.value; start = start.value; interval = interval }))) chain start.went in
+    joined config route from.value to.value (pools_along fewer config) before.value chain (record { new = new.value; start = start.value; interval = interval.value })
+    (there (get (codes "from") route) MissingKey from.value from.gave) (there (get (codes "to") route) MissingKey to.value to.gave)
+    (before_names config pools from.value (pools_along fewer config) (chain_of fewer pools from.value) before.value is_pools
+    (λ made is. along_names fewer config pools from.value made is_pools is) before.gave)
+    (behind_names config pools to.value new.value is_pools new.gave) interval.went
 
-between_pools : (migration : Migration) (hash : NamedHash) (config : ConfigView) → config_between migration hash ≡ Ok config →
-    config.routing.pools ≡ migration.old ∷ migration.new ∷ []
-between_pools migration hash config e = search (rules, e)
+routed_pools : (pools : List (List Text)) (hash : NamedHash) (routing : RoutingView) → routing_of pools hash ≡ Ok routing → routing.pools ≡ pools
+routed_pools pools hash routing e = search (rules, e)
 
-same_pools : {pools : List (List Text)} {old new named_old named_new : List Text} → pools ≡ old ∷ new ∷ [] → named_old ≡ old → named_new ≡ new →
-    pools ≡ named_old ∷ named_new ∷ []
-same_pools pools old new = cc
+-- what comes of a configuration once its route was looked at
+abbrev after_route : Data → Chain → Result ConfigView PlanError
+after_route value chain =
+    schedule_of chain.migrations >>= λ schedule.
+    hash_of (get (codes "hash") value) >>= λ hash.
+    routing_of (pools_of chain) hash >>= λ routing.
+    Ok (record { routing = routing; schedule = schedule })
 
--- what comes of a configuration once its pools were looked at
-abbrev after_pools : Data → Data → Data → Result ConfigView PlanError
-after_pools value pools route = migration_of pools route >>= λ migration. hash_of (get (codes "hash") value) >>= config_between migration
+routing_kept : (value : Data) (chain : Chain) (config : ConfigView) → after_route value chain ≡ Ok config → config.routing.pools ≡ pools_of chain
+routing_kept value chain config e =
+    let schedule = taken (schedule_of chain.migrations) _ config e in
+    let hash = taken (hash_of (get (codes "hash") value)) _ config schedule.went in
+    let routing = taken (routing_of (pools_of chain) hash.value) (λ routing. Ok (record { routing = routing; schedule = schedule.value })) config hash.went in
+    let same : record { routing = routing.value; schedule = schedule.value } ≡ config = cc in
+    ap (λ (c : ConfigView). c.routing.pools) (sym same) ∙ routed_pools (pools_of chain) hash.value routing.value routing.gave
 
 -- once its keys are there
 abbrev after_keys : Data → Data → Data → Result ConfigView PlanError
-after_keys value pools route = pools_check pools >>= λ _. after_pools value pools route
+after_keys value pools route = pools_check pools >>= λ _. chain_of most_hops pools route >>= after_route value
+
+named_at : (value route : Data) (made pools : List (List Text)) → get (codes "route") value ≡ Some route → made ≡ pools →
+    pools_along most_hops value route ≡ pools → made ≡ pools_at value
+named_at value route made pools is_route same along =
+    let named : pools_at value ≡ pools_along most_hops value route = ap (λ (o : Option Data). unwrap_or (option_map (pools_along most_hops value) o) []) is_route in
+    cc
 
 -- the pools of a configuration are those that its value names
 pub config_pools : (value : Data) (config : ConfigView) → config_of value ≡ Ok config → config.routing.pools ≡ pools_at value
@@ -176,17 +198,12 @@ config_pools value config e =
     (λ _. field (codes "pools") value >>= λ pools. field (codes "route") value >>= λ route. after_keys value pools route) config e in
     let pools = taken (field (codes "pools") value) (λ pools. field (codes "route") value >>= λ route. after_keys value pools route) config keys.went in
     let route = taken (field (codes "route") value) (λ route. after_keys value pools.value route) config pools.went in
-    let checked = taken (pools_check pools.value) (λ _. after_pools value pools.value route.value) config route.went in
-    let migration = taken (migration_of pools.value route.value) (λ migration. hash_of (get (codes "hash") value) >>= config_between migration) config checked.went in
-    let hash = taken (hash_of (get (codes "hash") value)) (config_between migration.value) config migration.went in
-    let behind = migration_behind pools.value route.value migration.value migration.gave in
+    let checked = taken (pools_check pools.value) (λ _. chain_of most_hops pools.value route.value >>= after_route value) config route.went in
+    let chain = taken (chain_of most_hops pools.value route.value) (after_route value) config checked.went in
     let is_pools = there (get (codes "pools") value) MissingKey pools.value pools.gave in
     let is_route = there (get (codes "route") value) MissingKey route.value route.gave in
-    let old : names_at (codes "from") value ≡ migration.value.old =
-    behind_names value pools.value route.value behind.from (codes "from") migration.value.old is_pools is_route behind.has_from behind.old in
-    let new : names_at (codes "to") value ≡ migration.value.new =
-    behind_names value pools.value route.value behind.to (codes "to") migration.value.new is_pools is_route behind.has_to behind.new in
-    same_pools {old = migration.value.old} {new = migration.value.new} (between_pools migration.value hash.value config hash.went) old new
+    named_at value route.value config.routing.pools (pools_of chain.value) is_route (routing_kept value chain.value config chain.went)
+    (along_names most_hops value pools.value route.value chain.value is_pools chain.gave)
 
 -- ---- the proxies and the items
 

@@ -3,6 +3,7 @@ pub mod HomeIndexLemmas
 pub mod HomeLemmas
 pub mod ListLemmas
 pub mod OrderLemmas
+pub mod PoolsAlongLemmas
 pub mod ReadingLemmas
 pub mod RefusalLemmas
 pub mod ScriptLemmas

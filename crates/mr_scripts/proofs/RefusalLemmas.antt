@@ -71,5 +71,5 @@ not_settled setup e false is refused = cc
 pub refused_has_no_fleet : (setup : SetupView) (e : PlanError) → checked_setup setup ≡ Err e → CanBeMade setup → ⊥
 refused_has_no_fleet setup e refused can =
     not_settled setup e (have_room setup.capacity setup.proxies && have_homes setup.proxies setup.held)
-    (both (have_room setup.capacity setup.proxies) (have_homes setup.proxies setup.held) (room_found setup.capacity setup.proxies can.not_zero)
-    (homes_found setup.proxies setup.held can.named)) refused
+    (both (have_room setup.capacity setup.proxies) (have_homes setup.proxies setup.held) (room_found setup.capacity setup.proxies can.homes.not_zero)
+    (homes_found setup.proxies setup.held can.homes.named)) refused

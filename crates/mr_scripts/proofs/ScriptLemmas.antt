@@ -18,7 +18,8 @@ use Rattle.mr_scripts.specs.SetupDraft.{setup_between, setup_drafted}
 use Rattle.mr_scripts.specs.Setups.{held_of, proxy_of, checked_setup}
 use Rattle.mr_configs.specs.declared.error.PlanError.{PlanError}
 use Rattle.mr_scripts.specs.declared.script.ScriptDraft.{ScriptDraft}
-use Rattle.mr_scripts.proofs.HomeLemmas.{taken, read_as}
+use Rattle.mr_configs.proofs.CheckingLemmas.{taken}
+use Rattle.mr_scripts.proofs.HomeLemmas.{read_as}
 
 one_counted : {Y : Type 0} (first : Y) (rest items : List Y) {count : ℕ} → count ≡ length rest → ◌≡◌ {A = Result (List Y) PlanError} (Ok (first ∷ rest)) (Ok items) →
     suc count ≡ length items

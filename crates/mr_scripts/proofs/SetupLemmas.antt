@@ -1,26 +1,28 @@
 -- The tests of a setup say whether the fleet can be made.
-use Rattle.std.proofs.Common.{◌≡◌, ℕ, zero, suc, ◌<◌, ◌≤◌, ◌||◌, ◌&&◌, Bool, true, false, List, [], ◌∷◌, length, slice_index_or, nat_le, Result, Ok, Err, if◌then◌else◌, All, Contains, inl, inr, ◌⊎◌, refl, subst, arith, leb-true}
+use Rattle.std.proofs.Common.{◌≡◌, ℕ, zero, suc, ◌<◌, ◌≤◌, ◌||◌, ◌&&◌, Bool, true, false, List, [], ◌∷◌, length, slice_index_or, nat_le, Option, Some, None, Result, Ok, Err, if◌then◌else◌, All, Contains, inl, inr, ◌⊎◌, refl, subst, arith, leb-true}
 use Rattle.std.specs.Prelude.{codes}
 use Rattle.serde_json.specs.Data.{Data}
+use Rattle.serde_json.specs.Find.{get}
 use Rattle.serde_json.specs.View.{view}
 use Rattle.std.specs.Str.{bytes_eq}
 use Rattle.std.proofs.lemmas.Slice.Eq.{bytes_eq-Decides}
-use Rattle.mr_world.specs.Setup.{SetupView, CanBeMade, IsNamed}
+use Rattle.mr_proxy.specs.Sheets.{HaveAsManyHops}
+use Rattle.mr_world.specs.Setup.{SetupView, CanBeMade, HasHomes, ChainsMatch, IsNamed}
 use Rattle.mr_world.specs.declared.error.WorldError.TheVariants.{NoSuchNode}
 use Rattle.mr_world.specs.declared.event.Event.{Event}
 use Rattle.mr_world.specs.declared.setup.HeldItem.{HeldItem}
 use Rattle.mr_world.specs.declared.setup.ProxySetup.{ProxySetup}
 use Rattle.mr_configs.specs.Checking.{◌>>=◌, only_if}
-use Rattle.mr_configs.specs.Config.{config_of}
+use Rattle.mr_configs.specs.Config.{ConfigView, config_of}
 use Rattle.mr_scripts.specs.Events.{events_of}
 use Rattle.mr_configs.specs.Fields.{Text, is_one_of, object_check, field, whole_number, list_of}
 use Rattle.mr_scripts.specs.Limits.{most_events, most_held, most_proxies}
 use Rattle.mr_scripts.specs.Lists.{all_of}
 use Rattle.mr_scripts.specs.Script.{ScriptParts, ScriptView, script_keys, format_check, count_in, counts_check, script_in, IsScript, IsPlayable}
-use Rattle.mr_scripts.specs.Setups.{pools_name, proxies_name, have_homes, have_room, checked_setup, held_of, proxy_of, setup_keys, setup_of}
+use Rattle.mr_scripts.specs.Setups.{pools_name, proxies_name, have_homes, have_room, checked_setup, held_of, config_or, proxy_keys, proxy_of, setup_keys, setup_of}
 use Rattle.mr_configs.specs.declared.error.PlanError.{PlanError}
 use Rattle.mr_configs.specs.declared.error.PlanError.TheVariants.{BadSetup, TooLarge}
-use Rattle.mr_scripts.proofs.HomeLemmas.{taken}
+use Rattle.mr_configs.proofs.CheckingLemmas.{taken}
 
 left_true : (a b : Bool) → (a && b) ≡ true → a ≡ true
 left_true true b e = refl
@@ -82,24 +84,59 @@ not_zero : (capacity : ℕ) (proxies : List ProxySetup) → have_room capacity p
 not_zero capacity [] e = inl refl
 not_zero capacity (proxy ∷ proxies) e = inr (leb-true 1 capacity e)
 
--- a setup that passes the tests can be made
-passes : (setup : SetupView) → (have_room setup.capacity setup.proxies && have_homes setup.proxies setup.held) ≡ true → CanBeMade setup
+-- each item of a setup that passes the tests has a node
+passes : (setup : SetupView) → (have_room setup.capacity setup.proxies && have_homes setup.proxies setup.held) ≡ true → HasHomes setup
 passes setup e = record {
   not_zero = not_zero setup.capacity setup.proxies (left_true (have_room setup.capacity setup.proxies) (have_homes setup.proxies setup.held) e);
   named = are_named setup.proxies setup.held (right_true (have_room setup.capacity setup.proxies) (have_homes setup.proxies setup.held) e);
 }
 
-settled_passes : (setup made : SetupView) → checked_setup setup ≡ Ok made → (have_room made.capacity made.proxies && have_homes made.proxies made.held) ≡ true
-settled_passes setup made e = go (have_room setup.capacity setup.proxies && have_homes setup.proxies setup.held) refl e
+-- the hops of a proxy's configuration, and so of the proxy, are as many by its pools as by its schedule
+abbrev pub ConfigurationsMatch : Type 0
+ConfigurationsMatch = (value : Data) (config : ConfigView) → config_of value ≡ Ok config → HaveAsManyHops config.routing config.schedule
+
+config_matches : ConfigurationsMatch → (common : ConfigView) (own : Option Data) (config : ConfigView) → HaveAsManyHops common.routing common.schedule →
+    config_or common own ≡ Ok config → HaveAsManyHops config.routing config.schedule
+config_matches matches common None config matched e =
+    let same : common ≡ config = cc in let P : ConfigView → Type 0 = λ c. HaveAsManyHops c.routing c.schedule in subst P same matched
+config_matches matches common (Some own) config matched e = matches own config e
+
+proxy_matches : ConfigurationsMatch → (common : ConfigView) (value : Data) (proxy : ProxySetup) → HaveAsManyHops common.routing common.schedule →
+    proxy_of common value ≡ Ok proxy → HaveAsManyHops proxy.routing proxy.schedule
+proxy_matches matches common value proxy matched e =
+    let keys = taken (object_check proxy_keys value) _ proxy e in
+    let reading_at = taken (field (codes "reading") value) _ proxy keys.went in
+    let room_at = taken (field (codes "room") value) _ proxy reading_at.went in
+    let config = taken (config_or common (get (codes "config") value)) _ proxy room_at.went in
+    let reading = taken (whole_number reading_at.value) _ proxy config.went in
+    let room = taken (whole_number room_at.value)
+    (λ room. Ok (record { routing = config.value.routing; schedule = config.value.schedule; room = room; reading = reading.value })) proxy reading.went in
+    let same : record { routing = config.value.routing; schedule = config.value.schedule; room = room.value; reading = reading.value } ≡ proxy = cc in
+    let P : ProxySetup → Type 0 = λ p. HaveAsManyHops p.routing p.schedule in
+    subst P same (config_matches matches common (get (codes "config") value) config.value matched config.gave)
+
+proxies_match : ConfigurationsMatch → (common : ConfigView) (values : List Data) (proxies : List ProxySetup) → HaveAsManyHops common.routing common.schedule →
+    all_of (proxy_of common) values ≡ Ok proxies → ChainsMatch proxies
+proxies_match matches common [] proxies matched e =
+    let none : [] ≡ proxies = cc in subst ChainsMatch none (λ k d within. absurd (omega arith))
+proxies_match matches common (value ∷ values) proxies matched e =
+    let first = taken (proxy_of common value) (λ proxy. all_of (proxy_of common) values >>= λ fleet. Ok (proxy ∷ fleet)) proxies e in
+    let rest = taken (all_of (proxy_of common) values) (λ fleet. Ok (first.value ∷ fleet)) proxies first.went in
+    let same : first.value ∷ rest.value ≡ proxies = cc in
+    subst ChainsMatch same (both first.value rest.value (proxy_matches matches common value first.value matched first.gave) (proxies_match matches common values rest.value matched rest.gave))
+  where
+    both : (first : ProxySetup) (rest : List ProxySetup) → HaveAsManyHops first.routing first.schedule → ChainsMatch rest → ChainsMatch (first ∷ rest)
+    both first rest here later zero d within = here
+    both first rest here later (suc k) d within = later k d (omega arith)
+
+-- a setup that is settled can be made
+settled_made : (setup made : SetupView) → ChainsMatch setup.proxies → checked_setup setup ≡ Ok made → CanBeMade made
+settled_made setup made chains e = go (have_room setup.capacity setup.proxies && have_homes setup.proxies setup.held) refl e
   where
     go : (test : Bool) → (have_room setup.capacity setup.proxies && have_homes setup.proxies setup.held) ≡ test →
-        (if test then Ok setup else Err (BadSetup NoSuchNode)) ≡ Ok made → (have_room made.capacity made.proxies && have_homes made.proxies made.held) ≡ true
-    go true is same = let kept : setup ≡ made = cc in
-        let P : SetupView → Type 0 = λ s. (have_room s.capacity s.proxies && have_homes s.proxies s.held) ≡ true in subst P kept is
+        (if test then Ok setup else Err (BadSetup NoSuchNode)) ≡ Ok made → CanBeMade made
+    go true is same = let kept : setup ≡ made = cc in subst CanBeMade kept (record { chains = chains; homes = passes setup is })
     go false is same = absurd (cc)
-
-pub settled_made : (setup made : SetupView) → checked_setup setup ≡ Ok made → CanBeMade made
-settled_made setup made e = passes made (settled_passes setup made e)
 
 -- what comes of a setup's values
 abbrev with_values : Data → Data → Data → Data → Result SetupView PlanError
@@ -110,8 +147,8 @@ with_values capacity config held proxies =
     list_of proxies >>= all_of (proxy_of common) >>= λ proxies.
     checked_setup (record { proxies = proxies; capacity = capacity; held = held })
 
-values_made : (capacity config held proxies : Data) (setup : SetupView) → with_values capacity config held proxies ≡ Ok setup → CanBeMade setup
-values_made capacity config held proxies setup e =
+values_made : ConfigurationsMatch → (capacity config held proxies : Data) (setup : SetupView) → with_values capacity config held proxies ≡ Ok setup → CanBeMade setup
+values_made matches capacity config held proxies setup e =
     let number = taken (whole_number capacity) (λ capacity. config_of config >>= λ common. list_of held >>= all_of held_of >>= λ held.
     list_of proxies >>= all_of (proxy_of common) >>= λ proxies. checked_setup (record { proxies = proxies; capacity = capacity; held = held })) setup e in
     let common = taken (config_of config) (λ common. list_of held >>= all_of held_of >>= λ held.
@@ -120,7 +157,9 @@ values_made capacity config held proxies setup e =
     list_of proxies >>= all_of (proxy_of common.value) >>= λ proxies. checked_setup (record { proxies = proxies; capacity = number.value; held = held })) setup common.went in
     let fleet = taken (list_of proxies >>= all_of (proxy_of common.value))
     (λ proxies. checked_setup (record { proxies = proxies; capacity = number.value; held = items.value })) setup items.went in
-    settled_made (record { proxies = fleet.value; capacity = number.value; held = items.value }) setup fleet.went
+    let values = taken (list_of proxies) (all_of (proxy_of common.value)) fleet.value fleet.gave in
+    settled_made (record { proxies = fleet.value; capacity = number.value; held = items.value }) setup
+    (proxies_match matches common.value values.value fleet.value (matches config common.value common.gave) values.went) fleet.went
 
 abbrev with_fleet : Data → SetupView → Result ScriptParts PlanError
 with_fleet events setup =
@@ -147,8 +186,8 @@ playable setup events parts e made few =
     let P : ScriptParts → Type 0 = λ parts. IsPlayable parts.setup in
     subst P same (record { made = made; few = few })
 
-setup_made : (value : Data) (setup : SetupView) → setup_of value ≡ Ok setup → CanBeMade setup
-setup_made value setup e =
+setup_made : ConfigurationsMatch → (value : Data) (setup : SetupView) → setup_of value ≡ Ok setup → CanBeMade setup
+setup_made matches value setup e =
     let keys = taken (object_check setup_keys value)
     (λ _. field (codes "capacity") value >>= λ capacity. field (codes "config") value >>= λ config. field (codes "held") value >>= λ held.
     field (codes "proxies") value >>= λ proxies. with_values capacity config held proxies) setup e in
@@ -160,10 +199,10 @@ setup_made value setup e =
     let held = taken (field (codes "held") value)
     (λ held. field (codes "proxies") value >>= λ proxies. with_values capacity.value config.value held proxies) setup config.went in
     let proxies = taken (field (codes "proxies") value) (λ proxies. with_values capacity.value config.value held.value proxies) setup held.went in
-    values_made capacity.value config.value held.value proxies.value setup proxies.went
+    values_made matches capacity.value config.value held.value proxies.value setup proxies.went
 
-pub parts_playable : (value : Data) (parts : ScriptParts) → script_in value ≡ Ok parts → IsPlayable parts.setup
-parts_playable value parts e =
+pub parts_playable : ConfigurationsMatch → (value : Data) (parts : ScriptParts) → script_in value ≡ Ok parts → IsPlayable parts.setup
+parts_playable matches value parts e =
     let events = taken (field (codes "events") value)
     (λ events. field (codes "format") value >>= λ format. field (codes "setup") value >>= λ setup. with_setup events format setup) parts e in
     let format = taken (field (codes "format") value)
@@ -174,12 +213,12 @@ parts_playable value parts e =
     let counts = taken (counts_check (length fleet.value.held) (length fleet.value.proxies) (count_in events.value))
     (λ _. list_of events.value >>= events_of 0 >>= λ events. Ok (record { setup = fleet.value; events = events })) parts fleet.went in
     let happened = taken (list_of events.value >>= events_of 0) (λ events. Ok (record { setup = fleet.value; events = events })) parts counts.went in
-    playable fleet.value happened.value parts happened.went (setup_made setup.value fleet.value fleet.gave)
+    playable fleet.value happened.value parts happened.went (setup_made matches setup.value fleet.value fleet.gave)
     (few_proxies (length fleet.value.held) (length fleet.value.proxies) (count_in events.value) counts.value counts.gave)
 
-pub script_playable : (script : ScriptView) → IsScript script → IsPlayable script.setup
-script_playable script is =
+pub script_playable : ConfigurationsMatch → (script : ScriptView) → IsScript script → IsPlayable script.setup
+script_playable matches script is =
     let value = view script.json in
     let parts : ScriptParts = record { setup = script.setup; events = script.events } in
     let keys = taken (object_check script_keys value) (λ _. script_in value) parts is.says in
-    parts_playable value parts keys.went
+    parts_playable matches value parts keys.went

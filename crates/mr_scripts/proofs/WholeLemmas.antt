@@ -1,5 +1,5 @@
 -- What is a script has no number that isn't whole: each of its readers refuses one by its kind.
-use Rattle.std.proofs.Common.{◌≡◌, ℕ, ◌+◌, ◌&&◌, ◌||◌, Bool, true, false, List, [], ◌∷◌, length, Option, Some, Result, Ok, Err, refl, sym, ◌∙◌, subst, if◌then◌else◌, codes}
+use Rattle.std.proofs.Common.{◌≡◌, ℕ, zero, suc, ◌+◌, ◌&&◌, ◌||◌, Bool, true, false, List, [], ◌∷◌, length, Option, Some, Result, Ok, Err, refl, sym, ◌∙◌, subst, if◌then◌else◌, codes}
 use Rattle.std.specs.Prelude.{⊤, is_ok, is_some, option_and_then, option_map, unwrap_or}
 use Rattle.std.specs.Str.{bytes_eq}
 use Rattle.std.proofs.lemmas.Slice.Eq.{bytes_eq-Decides}
@@ -9,11 +9,13 @@ use Rattle.serde_json.specs.Written.{has_float, items_have_float, members_have_f
 use Rattle.mr_text.specs.declared.request.Request.{Request}
 use Rattle.mr_world.specs.declared.event.Event.{Event}
 use Rattle.mr_world.specs.declared.event.Event.TheVariants.{Return, GiveUp, NodeRestart, ProxyRestart}
+use Rattle.mr_phases.specs.Schedule.{most_hops}
+use Rattle.mr_configs.specs.Chain.{Chain, schedule_of}
 use Rattle.mr_configs.specs.Checking.{◌>>=◌, only_if}
 use Rattle.mr_configs.specs.Config.{ConfigView, IsJson, config_of, config_keys, hash_of}
 use Rattle.mr_configs.specs.Fields.{Text, is_one_of, have_only, object_check, field, whole_number, text_of, list_of, values_in}
 use Rattle.mr_configs.specs.Pools.{texts_of, are_texts, pool_in, are_pools, pools_check}
-use Rattle.mr_configs.specs.Route.{is_migration, migration_of, pool_behind, interval_of, route_keys}
+use Rattle.mr_configs.specs.Route.{is_migration, pool_behind, interval_of, route_keys, chain_before, chain_of}
 use Rattle.mr_configs.specs.declared.error.PlanError.{PlanError}
 use Rattle.mr_configs.specs.declared.error.PlanError.TheVariants.{BadRoute, MissingKey, UnknownKey, WrongKind}
 use Rattle.mr_scripts.specs.Events.{op_of, clock_of, clock_keys, client_of, client_keys, deliver_of, deliver_keys, return_of, give_up_of, node_restart_of, proxy_restart_of, event_of, event_at, events_of}
@@ -23,7 +25,7 @@ use Rattle.mr_scripts.specs.Requests.{are_keys, keys_of, get_of, get_keys, set_o
 use Rattle.mr_scripts.specs.Script.{ScriptParts, count_in, counts_check, format_check, script_of, script_keys}
 use Rattle.mr_scripts.specs.Setups.{held_of, held_keys, config_or, proxy_of, proxy_keys, setup_of, setup_keys}
 use Rattle.mr_scripts.specs.Texts.{key_of, block_of, node_name_of}
-use Rattle.mr_scripts.proofs.HomeLemmas.{taken, there}
+use Rattle.mr_configs.proofs.CheckingLemmas.{taken, there}
 use Rattle.mr_scripts.proofs.OrderLemmas.{IsInOrder, ItemsAreInOrder, MembersAreInOrder, found_first, found_in_order, found_later, read_in_order}
 
 -- what stands under the key, if anything does, has no float
@@ -301,20 +303,30 @@ type_whole route unit e found at = by_kind found (subst (λ o. is_kind o ≡ tru
     by_kind (array items) e = cc
     by_kind (object _) e = cc
 
-migration_whole : (pools : Data) → ReadsWhole (migration_of pools)
-migration_whole pools route made order e =
+before_whole : (pools : Data) (reads : Data → Result Chain PlanError) → ReadsWhole reads → ReadsWhole (λ from. chain_before pools (as_str from) (reads from))
+before_whole pools reads whole null made order e = refl
+before_whole pools reads whole (boolean b) made order e = refl
+before_whole pools reads whole (number n) made order e = whole (number n) made order e
+before_whole pools reads whole (string s) made order e = refl
+before_whole pools reads whole (array items) made order e = whole (array items) made order e
+before_whole pools reads whole (object members) made order e = whole (object members) made order e
+
+chain_whole : (routes : ℕ) (pools : Data) → ReadsWhole (chain_of routes pools)
+unfolding chain_of
+chain_whole zero pools route made order e = cc
+chain_whole (suc fewer) pools route made order e =
     let kind = taken (only_if (is_migration route) BadRoute) _ made e in
     let keys = taken (object_check route_keys route) _ made kind.went in
     let from = taken (field (codes "from") route) _ made keys.went in
     let to = taken (field (codes "to") route) _ made from.went in
     let start_time = taken (field (codes "start_time") route) _ made to.went in
-    let old = taken (pool_behind pools from.value) _ made start_time.went in
-    let new = taken (pool_behind pools to.value) _ made old.went in
+    let before = taken (chain_before pools (as_str from.value) (chain_of fewer pools from.value)) _ made start_time.went in
+    let new = taken (pool_behind pools to.value) _ made before.went in
     let start = taken (whole_number start_time.value) _ made new.went in
     let interval = taken (interval_of (get (codes "interval") route)) _ made start.went in
     object_whole route_keys route keys.value keys.gave order (
     type_whole route kind.value kind.gave
-    also key_taken (codes "from") route from.value (pool_behind pools) old.value (end_whole pools) order from.gave old.gave
+    also key_taken (codes "from") route from.value (λ d. chain_before pools (as_str d) (chain_of fewer pools d)) before.value (before_whole pools (chain_of fewer pools) (chain_whole fewer pools)) order from.gave before.gave
     also key_taken (codes "to") route to.value (pool_behind pools) new.value (end_whole pools) order to.gave new.gave
     also key_taken (codes "start_time") route start_time.value whole_number start.value number_whole order start_time.gave start.gave
     also key_maybe (codes "interval") route interval_of interval.value number_whole order interval.gave
@@ -327,12 +339,13 @@ config_whole value made order e =
     let pools = taken (field (codes "pools") value) _ made keys.went in
     let route = taken (field (codes "route") value) _ made pools.went in
     let checked = taken (pools_check pools.value) _ made route.went in
-    let migration = taken (migration_of pools.value route.value) _ made checked.went in
-    let hash = taken (hash_of (get (codes "hash") value)) _ made migration.went in
+    let chain = taken (chain_of most_hops pools.value route.value) _ made checked.went in
+    let schedule = taken (schedule_of chain.value.migrations) _ made chain.went in
+    let hash = taken (hash_of (get (codes "hash") value)) _ made schedule.went in
     object_whole config_keys value keys.value keys.gave order (
     key_maybe (codes "hash") value hash_of hash.value hash_whole order hash.gave
     also key_taken (codes "pools") value pools.value pools_check checked.value pools_whole order pools.gave checked.gave
-    also key_taken (codes "route") value route.value (migration_of pools.value) migration.value (migration_whole pools.value) order route.gave migration.gave
+    also key_taken (codes "route") value route.value (chain_of most_hops pools.value) chain.value (chain_whole most_hops pools.value) order route.gave chain.gave
     also tt
     )
 

@@ -12,6 +12,7 @@ use crate::events::{check_events, make_events};
 use crate::limits::{MAX_EVENTS, MAX_HELD, MAX_PROXIES, MAX_SCRIPT};
 use crate::setups::{SetupDraft, setup_draft};
 use mr_configs::fields::{check_object, field, list, whole_number};
+use mr_configs::laws::configurations_match;
 use mr_configs::{PlanError, json_of};
 use mr_world::{Event, Setup};
 use serde_json::Value;
@@ -140,6 +141,7 @@ pub fn read_parts(alloc: Global, value: &Value) -> Result<(Setup, Vec<Event>), P
     ensures playable { IfOk result (λ parts. IsPlayable parts.0) }
     ensures refused { IfErr result (λ e. RefusesParts (view value.now) e) }
 {
+    configurations_match();
     match parts_draft(alloc, value) {
         Ok(draft) => Ok(draft.make(alloc)?),
         Err(refusal) => Err(refusal),
@@ -165,6 +167,7 @@ impl Script {
         ensures playable { IsPlayable result.now }
         ensures script { IsScript self.now }
     {
+        configurations_match();
         &self.setup
     }
 
