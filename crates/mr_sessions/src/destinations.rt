@@ -57,9 +57,7 @@ pub(crate) fn note_destinations(destinations: &mut Vec<Destination>, legs: &[Leg
 fn goes_to(sheet: &LegSheet, destination: &Destination) -> bool
     ensures { IsTrue result ↔ (destination_of sheet.now ≡ destination.now) }
 {
-    sheet.hop == destination.hop
-        && sheet.side == destination.side
-        && sheet.node == destination.node
+    sheet.hop == destination.hop && sheet.side == destination.side && sheet.node == destination.node
 }
 
 /// Whether the legs of an answer went to these nodes, in order.
