@@ -71,7 +71,12 @@ fn has_spots(rt: &impl Abort, row: usize, key: &Key, it: &Row) {
 /// Asserts which places a routing gives a key, and which nodes these are.
 fn places(rt: &impl Abort, row: usize, routing: &Routing, key: &Key, it: &Row) {
     is(rt, row, routing.hops(), 1);
-    count_is(rt, row, routing.old_pool(0).pick(&SumHash, key), it.by_sum.0);
+    count_is(
+        rt,
+        row,
+        routing.old_pool(0).pick(&SumHash, key),
+        it.by_sum.0,
+    );
     count_is(
         rt,
         row,
@@ -271,8 +276,18 @@ static MORE: [More; 6] = [
     (&[], "7001", Some(PoolError::SharedName), 5),
     (&["7201"], "7102", Some(PoolError::SharedName), 5),
     (&["7201", "7301"], "7201", Some(PoolError::SharedName), 5),
-    (&["7201", "7301", "7401"], "7501", Some(PoolError::TooManyPools), 7),
-    (&["7201", "7301", "7401"], "7001", Some(PoolError::TooManyPools), 7),
+    (
+        &["7201", "7301", "7401"],
+        "7501",
+        Some(PoolError::TooManyPools),
+        7,
+    ),
+    (
+        &["7201", "7301", "7401"],
+        "7001",
+        Some(PoolError::TooManyPools),
+        7,
+    ),
 ];
 
 /// Asserts whether a routing may go on to such a pool, and that a refusal hands both back.

@@ -2,7 +2,8 @@
 use super::text::get;
 use mr_plan::{
     Advice, ChainTimes, Checked, Config, KeptVerdict, NewOnlyTime, Outcome, PhaseTimes, PlanError,
-    RequestPlan, Script, Standing, advise, check_transcript, plan, read_events, timeline, write_transcript,
+    RequestPlan, Script, Standing, advise, check_transcript, plan, read_events, timeline,
+    write_transcript,
 };
 use std::alloc::Global;
 use std::test::Fail;
