@@ -4,6 +4,7 @@ pub mod Devices
 pub mod ExplainCommand
 pub mod Fault
 pub mod GivenText
+pub mod HopText
 pub mod Input
 pub mod InputSteps
 pub mod PlanCommand

@@ -5,7 +5,7 @@ ghost use Rattle.mr_proxy.specs.Sheets.{IsPlaced};
 ghost use Rattle.mr_tool.specs.PlanText.{leg_lines, plan_shown, plan_text};
 ghost use Rattle.mr_tool.specs.Printing.{WritesAtOnce};
 
-use crate::line::{push_leg_line, push_phase_line};
+use crate::line::{push_leg_line, push_phase_line, told_hop};
 use crate::printing::{PrintFault, write_at_once};
 use mr_configs::{Config, RequestPlan};
 use mr_pools::Routing;
@@ -29,19 +29,20 @@ fn push_leg_lines(
 }
 
 /// The text of a plan, whole. The routing has its nodes.
-fn text_of_plan(alloc: Global, routing: &Routing, plan: &RequestPlan) -> Result<Vec<u8>, AllocError>
-    requires { All (IsPlaced routing.now) plan.now.sheets }
-    ensures { IfOk result (λ text. text.items ≡ plan_text routing.now plan.now) }
+fn text_of_plan(alloc: Global, config: &Config, plan: &RequestPlan) -> Result<Vec<u8>, AllocError>
+    requires { All (IsPlaced config.now.routing) plan.now.sheets }
+    ensures { IfOk result (λ text. text.items ≡ plan_text config.now plan.now) }
 {
     let mut text = Vec::new(alloc);
-    push_phase_line(&mut text, plan.phase(), plan.reading())?;
-    push_leg_lines(&mut text, routing, plan.sheets())?;
+    let hop = told_hop(config.schedule().hops(), plan.hop());
+    push_phase_line(&mut text, plan.phase(), hop, plan.reading())?;
+    push_leg_lines(&mut text, config.routing(), plan.sheets())?;
     Ok(text)
 }
 
-/// Writes where a request goes at a reading of a clock, in seconds since the epoch: the phase, and below it each leg
-/// with its place, its side and the name of its node. A quit has no legs. The text is whole before the one call that
-/// writes it.
+/// Writes where a request goes at a reading of a clock, in seconds since the epoch: the phase, with the hop that it is of
+/// where there is more than one, and below it each leg with its place, its side and the name of its node. A quit has no
+/// legs. The text is whole before the one call that writes it.
 pub fn write_plan<W: Sink>(
     alloc: Global,
     config: &Config,
@@ -57,6 +58,6 @@ pub fn write_plan<W: Sink>(
     let Ok(plan) = mr_configs::plan(alloc, config, at, request) else {
         return Err(PrintFault::Memory);
     };
-    let text = text_of_plan(alloc, config.routing(), &plan)?;
+    let text = text_of_plan(alloc, config, &plan)?;
     write_at_once(text.as_slice(), writer)
 }

@@ -4,5 +4,5 @@ use Rattle.mr_tool.proofs.timeline.push_reading_lines.Given as goal
 
 abbrev pub invariant-loop-place : goal.invariant-loop-place
 invariant-loop-place l =
-    l.text.items ++ reading_lines l.place (drop l.place l.readings) (drop l.place l.phases)
-    ≡ l.initial.text.items ++ reading_lines 0 l.readings l.phases
+    l.text.items ++ reading_lines l.hops l.place (drop l.place l.readings) (drop l.place l.standings)
+    ≡ l.initial.text.items ++ reading_lines l.hops 0 l.readings l.standings
