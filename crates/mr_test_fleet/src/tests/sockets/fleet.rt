@@ -1,5 +1,7 @@
 //! The worked fleet: two old nodes, three new ones, a proxy and its client. The key `k` is kept by the second old node, so the
 //! other nodes get no leg.
+ghost use Rattle.std.specs.Prelude.{◌≡◌, length};
+
 use super::{
     address_of, core_of, listener, node, node_serves, play_client, proxy_serves, routing, were_told,
 };
@@ -89,7 +91,9 @@ fn listeners<R: Net<Listener = TcpListener, Stream = TcpStream> + Abort>(
 fn goes_so<
     N: Net<Listener = TcpListener, Stream = TcpStream> + Abort + Copy + Send + Sync,
     R: Threads + Wait + Clock + Abort + Sync,
->(rt: &R, alloc: Global, net: N, mut old: Vec<TcpListener>, routing: &Routing, row: &Row) {
+>(rt: &R, alloc: Global, net: N, mut old: Vec<TcpListener>, routing: &Routing, row: &Row)
+    requires { length routing.now.pools ≡ 2 }
+{
     let Some(last) = old.pop() else {
         rt.panic("no node");
     };

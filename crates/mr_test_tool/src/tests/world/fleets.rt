@@ -78,7 +78,7 @@ fn held_items(alloc: Global, holders: &[&[u8]]) -> Result<Vec<HeldItem>, Fail> {
 }
 
 /// The setup of one proxy whose routing has two pools, and whose schedule two hops.
-pub fn setup_of_two_hops(alloc: Global, capacity: usize) -> Result<Setup, Fail>
+fn setup_of_two_hops(alloc: Global, capacity: usize) -> Result<Setup, Fail>
     ensures { IfOk result (λ setup. length setup.proxies ≡ 1) }
 {
     let Ok(schedule) = Schedule::new(1000, 100)?.then(1200, 50) else {
@@ -92,6 +92,15 @@ pub fn setup_of_two_hops(alloc: Global, capacity: usize) -> Result<Setup, Fail>
     };
     let proxies = vec![in alloc; proxy]?;
     Ok(Setup::new(proxies, capacity, Vec::new(alloc)))
+}
+
+/// The world of that setup, or why there is none.
+pub fn world_of_two_hops(
+    alloc: Global,
+    capacity: usize,
+) -> Result<Result<World, WorldError>, Fail> {
+    let setup = setup_of_two_hops(alloc, capacity)?;
+    Ok(World::new(alloc, setup))
 }
 
 impl Fleet {

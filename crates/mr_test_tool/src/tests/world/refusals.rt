@@ -1,5 +1,5 @@
 //! What is refused, what is copied, and runs that stop.
-use super::fleets::{Fleet, setup_of_two_hops};
+use super::fleets::{Fleet, world_of_two_hops};
 use super::holds;
 use super::moves::{Asked, DELETE, GET, Move, Row, events_of, first_other, note_of};
 use super::playing::{Run, Shown, goes};
@@ -100,8 +100,7 @@ fn a_setup_needs_its_nodes(rt: HostRuntime) {
 
 /// Why there is no world of a proxy with two pools and two hops, on nodes of a capacity of 0 too.
 fn differ(rt: &impl Abort, alloc: Global, capacity: usize) {
-    let setup = must(rt, setup_of_two_hops(alloc, capacity));
-    let refusal = World::new(alloc, setup).err();
+    let refusal = must(rt, world_of_two_hops(alloc, capacity)).err();
     holds(rt, refusal == Some(WorldError::HopsDiffer), "hops differ");
 }
 
