@@ -30,7 +30,8 @@ pub const PROGRAM_NOTES: &str = notes!(
 pub const PLAN_NOTES: &str = notes!(
     "Seconds are whole seconds since the epoch, 1970-01-01 00:00:00 UTC.\n\
     The standard input holds one request in memcached's text protocol: a key has at most 250 bytes, a value\n\
-    at most 8,192. What follows it is ignored.",
+    at most 8,192. What follows it is ignored. Of several migrations in a row, the phase is printed with the\n\
+    hop that it is of.",
     "printf 'delete k\\r\\n' | migctl plan --config fleet.json --at 1000"
 );
 
@@ -40,6 +41,7 @@ pub const TIMELINE_NOTES: &str = notes!(
     --readings takes one whole number of seconds for each clock, with commas and no spaces between them: 999,1100\n\
     is two clocks that are 101 seconds apart. Then it also says the phase of each, how far they are apart, and\n\
     whether the least interval allows that.\n\
+    Of several migrations in a row, each line begins with its hop, counted from 0.\n\
     The standard input isn't read.",
     "migctl timeline --config fleet.json --readings 999,1100"
 );

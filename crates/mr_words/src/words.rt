@@ -144,7 +144,7 @@ fn timeline_command<'a>(alloc: Global) -> Result<Command<'a>, AllocError>
         "What clocks read, in seconds since the epoch, with commas between them",
     );
     Command::new(alloc, "timeline")
-        .about("Prints when each phase of the migration is")
+        .about("Prints when each phase of each migration is")
         .after_help(TIMELINE_NOTES)
         .arg(config_option(alloc))?
         .arg(readings)
