@@ -1,4 +1,4 @@
-//! Configurations of a migration, which operators hand over as JSON, read in one fixed order of checks; and what follows from
+//! Configurations of migrations, which operators hand over as JSON, read in one fixed order of checks; and what follows from
 //! one: the plan of a request and the timeline.
 #![tactic(auto)]
 
