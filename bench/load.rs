@@ -31,13 +31,16 @@ use std::sync::Barrier;
 use std::thread;
 use std::time::{Duration, Instant};
 
-// How many requests are sent at once where nothing is counted, and by how many connections.
+// How many requests, of how many bytes of values, are sent at once where nothing is counted, and by how many connections.
 const TOGETHER: usize = 64;
+const BYTES_TOGETHER: usize = 1 << 20;
 const FILLERS: usize = 4;
 // How many bytes of a text a fault shows.
 const SHOWN: usize = 300;
 // A prime above every number of keys, so that its multiples come to each place once.
 const JUMP: usize = 2_654_435_761;
+// At how many places of the filling a block may begin.
+const BEGINNINGS: usize = 251;
 
 type Outcome<T> = Result<T, Box<dyn Error + Send + Sync>>;
 
@@ -91,6 +94,8 @@ impl Order {
 
 struct Client<'a> {
     stream: TcpStream,
+    // What blocks are filled with, and how long they are.
+    filling: &'a [u8],
     bytes: usize,
     // The keys that this connection uses: the number of the first, and of each the turn at which it was set, or 0 where it
     // is gone. Values differ by that.
@@ -118,12 +123,13 @@ impl Client<'_> {
         format!("key-{:012}", self.first + place)
     }
 
-    // A block that differs from key to key and from set to set.
-    fn push_block(text: &mut Vec<u8>, key: &str, stamp: u64, bytes: usize) {
+    // A block that differs from key to key and from set to set, and in which bytes that moved are seen.
+    fn push_block(text: &mut Vec<u8>, filling: &[u8], key: &str, stamp: u64, bytes: usize) {
         let begin = text.len();
         let _ = write!(text, "{stamp:010}{key}");
         text.truncate(begin + bytes);
-        text.resize(begin + bytes, b'a' + (stamp % 26) as u8);
+        let more = begin + bytes - text.len();
+        text.extend_from_slice(&filling[stamp as usize % BEGINNINGS..][..more]);
         text.extend_from_slice(b"\r\n");
     }
 
@@ -131,7 +137,7 @@ impl Client<'_> {
         let key = self.name(place);
         self.stamps[place].store(stamp, Ordering::Relaxed);
         let _ = write!(self.sent, "set {key} 0 0 {}\r\n", self.bytes);
-        Self::push_block(&mut self.sent, &key, stamp, self.bytes);
+        Self::push_block(&mut self.sent, self.filling, &key, stamp, self.bytes);
         self.wanted.extend_from_slice(b"STORED\r\n");
     }
 
@@ -149,7 +155,7 @@ impl Client<'_> {
             let _ = write!(self.sent, " {key}");
             if stamp > 0 {
                 let _ = write!(self.wanted, "VALUE {key} 0 {}\r\n", self.bytes);
-                Self::push_block(&mut self.wanted, &key, stamp, self.bytes);
+                Self::push_block(&mut self.wanted, self.filling, &key, stamp, self.bytes);
             }
         }
         self.sent.extend_from_slice(b"\r\n");
@@ -189,8 +195,9 @@ impl Client<'_> {
         let mut count = 0;
         while count < self.wanted.len() {
             let more = self.stream.read(&mut self.read[count..])?;
+            let (place, wanted) = (count, &self.wanted[count..]);
             count += more;
-            if more == 0 || !self.wanted.starts_with(&self.read[..count]) {
+            if more == 0 || !wanted.starts_with(&self.read[place..count]) {
                 return self.fault(count);
             }
         }
@@ -201,9 +208,10 @@ impl Client<'_> {
 
     // Makes requests for places, many at once.
     fn together(&mut self, places: impl Iterator<Item = usize>, add: impl Fn(&mut Self, usize)) -> Outcome<()> {
+        let together = (BYTES_TOGETHER / self.bytes.max(1)).clamp(1, TOGETHER);
         for (count, place) in places.enumerate() {
             add(self, place);
-            if count % TOGETHER == TOGETHER - 1 {
+            if count % together == together - 1 {
                 self.exchange()?;
             }
         }
@@ -268,6 +276,7 @@ impl Client<'_> {
 
 struct Load {
     address: String,
+    filling: Vec<u8>,
     bytes: usize,
     // Of each key, as a client has it.
     stamps: Vec<AtomicU64>,
@@ -282,8 +291,8 @@ impl Load {
         let (first, stamps) = (own.start, &self.stamps[own]);
         let (sent, wanted, read) = (vec![], vec![], vec![0; 65536]);
         let (answered, began, ended, paused) = (0, Instant::now(), Instant::now(), Duration::ZERO);
-        let bytes = self.bytes;
-        Ok(Client { stream, bytes, first, stamps, turn, answered, began, ended, paused, sent, wanted, read })
+        let (filling, bytes) = (&self.filling[..], self.bytes);
+        Ok(Client { stream, filling, bytes, first, stamps, turn, answered, began, ended, paused, sent, wanted, read })
     }
 
     // Connections that have each the keys of its own.
@@ -353,6 +362,12 @@ fn mean_seconds(clients: &[Client]) -> f64 {
     clients.iter().map(seconds).sum::<f64>() / clients.len() as f64
 }
 
+// Bytes of all kinds in no order, the same each time: of each number of a sequence the byte that changes most.
+fn filling(count: usize) -> Vec<u8> {
+    let next = |number: &u64| Some(number.wrapping_mul(6_364_136_223_846_793_005).wrapping_add(1));
+    std::iter::successors(Some(1), next).map(|number| (number >> 56) as u8).take(count).collect()
+}
+
 fn join(threads: Vec<thread::ScopedJoinHandle<'_, Outcome<()>>>) -> Outcome<()> {
     let joined = |thread: thread::ScopedJoinHandle<'_, Outcome<()>>| thread.join().map_err(|_| "a thread broke off")?;
     threads.into_iter().try_for_each(joined)
@@ -363,7 +378,8 @@ fn read_words() -> Option<Load> {
     let [address, keys, bytes] = words.as_slice() else { return None };
     let keys: usize = keys.parse().ok()?;
     let stamps: Vec<AtomicU64> = (0..keys).map(|_| AtomicU64::new(0)).collect();
-    let load = Load { address: address.clone(), bytes: bytes.parse().ok()?, stamps, turn: 1 };
+    let bytes: usize = bytes.parse().ok()?;
+    let load = Load { address: address.clone(), filling: filling(bytes + BEGINNINGS), bytes, stamps, turn: 1 };
     (0 < keys && keys < JUMP).then_some(load)
 }
 

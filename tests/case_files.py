@@ -25,6 +25,7 @@ file, where a case doesn't say otherwise. The fields:
     output added   the same again, but only what the output has beside the JSON of the standard input: of a transcript what
                    came of its script
     checked        what `check` has to say of the wanted output: a run of its own, which ends with 3 where it isn't `accepted`
+    played         what `run` has to tell beside the wanted output, which is a script: a run of its own
     cut            `everywhere`: the input isn't given whole, but in turn each of its beginnings, from none of its bytes to all but
                    the last one; each is a case, that wants the same answer
     faults         the standard error, empty where it isn't given; `...` is any text but the empty one, whose wording isn't ours
@@ -48,7 +49,7 @@ CASES = pathlib.Path(__file__).resolve().parent / "cases"
 SHARED = CASES / "files"
 ANY = object()
 
-FIELD = re.compile(r"(words|files|file \S+(?: of \S+)?|input(?: of \S+)?|output(?: json| added)?|checked|cut|faults|status):(?: (.*))?")
+FIELD = re.compile(r"(words|files|file \S+(?: of \S+)?|input(?: of \S+)?|output(?: json| added)?|checked|played|cut|faults|status):(?: (.*))?")
 INNER = r"\\\([^\n]*?\*\d+(?:\|[^\n]*?)?\)"
 PIECE = re.compile(rf"\\\(((?:{INNER}|[^\n])*?)\*(\d+)(?:\|([^\n]*?))?\)" + r"|\\x([0-9a-fA-F]{2})|\\(.)")
 LETTERS = {"r": "\r", "n": "\n", "t": "\t", "\\": "\\"}
@@ -164,6 +165,11 @@ def checked(case, told):
     return Case(f"{case.name}, and is checked", ["check"], {}, case.stdout, status, told, b"")
 
 
+def played(case, told):
+    """The run of the script that a case wants to be written."""
+    return Case(f"{case.name}, and is run", ["run"], {}, case.stdout, 0, with_members(case.stdout, told), b"")
+
+
 def case_of(name, fields):
     """The case that these fields say: from the name of each, what stands behind its colon and the lines below."""
     words, files, stdin, stdout, stderr, status, added = [], {}, b"", b"", b"", 0, None
@@ -246,6 +252,8 @@ def cases_in(path, word):
                 yield from cuts(case, fields["cut"]) if "cut" in fields else [case]
                 if "checked" in fields:
                     yield checked(case, value(*fields["checked"]))
+                if "played" in fields:
+                    yield played(case, value(*fields["played"]))
     except (BadCase, ValueError) as error:
         raise BadCase(f"{path.relative_to(CASES)}: {error}") from error
 

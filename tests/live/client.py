@@ -137,6 +137,14 @@ class Client:
             return b"", b"<nothing more>"
         return came, b"" if came else b"<end>"
 
+    def all_that_comes(self):
+        """All that comes until the stream ends, and what ended it."""
+        got, end = b"", b""
+        while not end:
+            came, end = self.piece(65536, PATIENCE)
+            got += came
+        return got, end
+
     def rest(self):
         """What comes within a moment, to show it."""
         got, until = b"", time.monotonic() + SETTLING

@@ -136,6 +136,17 @@ class Service:
         words = pathlib.Path(f"/proc/{self.child.pid}/stat").read_text(encoding="ascii").rsplit(") ", 1)[1].split()
         return (int(words[11]) + int(words[12])) / os.sysconf("SC_CLK_TCK")
 
+    def thread_count(self):
+        """How many threads it has."""
+        return len(list(self.threads()))
+
+    def memory(self, name):
+        """How many bytes of memory it has, by this name in the system's table: VmRSS is what is resident, and VmData what it
+        may write to."""
+        lines = pathlib.Path(f"/proc/{self.child.pid}/status").read_text(encoding="ascii").splitlines()
+        kibibytes, = (line.split()[1] for line in lines if line.startswith(f"{name}:"))
+        return int(kibibytes) * 1024
+
     def limit_files(self, most):
         """From now on it may have so many open files."""
         resource.prlimit(self.child.pid, resource.RLIMIT_NOFILE, (most, most))

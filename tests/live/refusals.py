@@ -17,8 +17,8 @@ CLOSING = (
     (b"set k -1 0 1\r\n", b"bad number"),
     (b"set k 4294967296 0 1\r\n", b"bad number"),
     (b"set k 0 +1 1\r\n", b"bad number"),
-    (b"set k 0 0 8193\r\n", b"data too long"),
-    (b"set k 0 0 8193 noreply\r\n", b"data too long"),
+    (b"set k 0 0 1048577\r\n", b"data too long"),
+    (b"set k 0 0 1048577 noreply\r\n", b"data too long"),
     (b"set k 0 0 1\r\nvw", b"bad data end"),
     (b"set k 0 0 1\r\nv\n", b"bad data end"),
 )

@@ -7,17 +7,25 @@ It is written from the documents and not from the program's code, so that a mist
     text, phases, pools, configs    requests; when and where they go, along chains of migrations; configurations
     nodes, proxies, worlds          a cache, a proxy, a fleet of them event by event
     history                         what happened in a fleet, and its judge
-    scripts, transcripts            what a fleet is made of and what happens to it; what came of that, and its check
+    formats, scripts, transcripts   what a fleet is made of and what happens to it; what came of that, and its check
+    upgrades                        scripts of format 1 in format 2
     commands                        from words, files and input to status, output and faults
     drawing, coverage               cases; what they come to, counted
 """
-from . import commands
+from . import commands, upgrades
 from .coverage import kinds_of, missing
-from .drawing import SORTS, Drawn
+from .drawing import SORTS, Drawn, next_of
 
-__all__ = ["SORTS", "Drawn", "answer", "kinds_of", "missing"]
+__all__ = ["SORTS", "Drawn", "answer", "kinds_of", "keeps_what_it_says", "missing", "next_of"]
 
 
 def answer(drawn):
     """What the program has to answer to a drawn case: status, standard output, standard error."""
     return commands.answer(drawn.words, drawn.files, drawn.stdin)
+
+
+def keeps_what_it_says(drawn, answer):
+    """Whether an upgrade, if this was one and is no fault, reads as the script that it was made of: so has its run the same verdict."""
+    if drawn.words[0] != "upgrade" or answer.status != 0:
+        return True
+    return upgrades.says_the_same(commands.given(drawn.words[1:], drawn.files, drawn.stdin), answer.stdout)

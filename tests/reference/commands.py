@@ -6,7 +6,7 @@ cases have. Faults are looked for in the order words, file, configuration or scr
 import re
 from typing import NamedTuple
 
-from . import configs, fields, refusals, text, transcripts
+from . import configs, fields, refusals, text, transcripts, upgrades
 from .phases import PHASES, spread
 from .proxies import Proxy
 
@@ -121,6 +121,10 @@ def run(words, files, stdin):
     return 0, [transcripts.transcript(given(words, files, stdin))]
 
 
+def upgrade(words, files, stdin):
+    return 0, [upgrades.upgrade(given(words, files, stdin))]
+
+
 def check(words, files, stdin):
     checked = transcripts.check(given(words, files, stdin))
     is_accepted = checked.outcome == "accepted"
@@ -138,4 +142,4 @@ def verdict_line(verdict):
     return line
 
 
-COMMANDS = {"plan": plan, "timeline": timeline, "run": run, "check": check}
+COMMANDS = {"plan": plan, "timeline": timeline, "run": run, "check": check, "upgrade": upgrade}

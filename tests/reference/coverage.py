@@ -4,6 +4,7 @@ would agree with any program.
 import json
 import re
 
+from .formats import format_of
 from .history import ACKNOWLEDGES
 from .phases import MOST_HOPS, PHASES
 from .refusals import NUMBERS
@@ -11,7 +12,7 @@ from .scripts import setup_of
 from .transcripts import DIFFERENCES
 
 # What reads a configuration is one kind of command, whichever it is.
-READS = {"plan": "configuration", "timeline": "configuration", "run": "script", "check": "transcript"}
+READS = {"plan": "configuration", "timeline": "configuration", "run": "script", "check": "transcript", "upgrade": "script"}
 
 PREMISES = ("same", "new_empty", "forward", "near")
 PLAN_REFUSALS = list(NUMBERS["plan"])
@@ -29,6 +30,13 @@ PLAY_MARKS = {
     "a restarted proxy": b'"do":"proxy_restart"',
     "a request that is given up": b'"do":"give_up"',
     **{f"an answered {kind}": f'"reply":"{kind}"'.encode() for kind in ("stored", *ACKNOWLEDGES)},
+}
+# What data of format 2 comes to, as an expression.
+DIGITS_MARKS = {
+    "empty data": rb'"data":""',
+    "digits in lower case": rb'"data":"[0-9a-f]*[a-f]',
+    "digits in upper case": rb'"data":"[0-9A-F]*[A-F]',
+    "data of more than 8,192 bytes": rb'"data":"[0-9A-Fa-f]{16386}',
 }
 
 
@@ -77,14 +85,26 @@ def kinds_of_transcript(output):
     for name, mark in PLAY_MARKS.items():
         if mark in output:
             yield f"run: {name}"
+    yield from kinds_of_digits("run", output)
     if PLAY_MARKS["a hit"] in output:
         yield f"run: {verdict} with a hit"
+
+
+def kinds_of_upgrade(output):
+    yield "upgrade: written"
+    yield from kinds_of_digits("upgrade", output)
+
+
+def kinds_of_digits(command, output):
+    for name, mark in DIGITS_MARKS.items():
+        if re.search(mark, output):
+            yield f"{command}: {name}"
 
 
 def kinds_of_hops(transcript):
     """In how many hops requests were asked, by the clocks of their proxies; and where one premise alone is false and a hit is stale,
     in which hop its get was."""
-    proxies = setup_of(transcript["setup"]).proxies
+    proxies = setup_of(transcript["setup"], format_of(transcript["format"])).proxies
     readings = [proxy.reading for proxy in proxies]
     hops = {}
     for event, note in zip(transcript["events"], transcript["notes"]):
@@ -109,7 +129,8 @@ def kinds_of_check(output):
         yield f"check: {name} {holds}"
 
 
-KINDS_OF_OUTPUT = {"plan": kinds_of_plan, "timeline": kinds_of_timeline, "run": kinds_of_transcript, "check": kinds_of_check}
+KINDS_OF_OUTPUT = {"plan": kinds_of_plan, "timeline": kinds_of_timeline, "run": kinds_of_transcript, "check": kinds_of_check,
+                   "upgrade": kinds_of_upgrade}
 
 
 def line_of(layer, name):
@@ -161,6 +182,21 @@ EXPECTED = {
         *(f"run: requests in {count} hops" for count in (1, 2, 3)),
         *(f"run: stale in hop {hop} where {premise} alone is false" for hop in range(MOST_HOPS) for premise in PREMISES),
         *CHECK_LINES,
+    ],
+    "format 2": [
+        *(f"script: {line_of('plan', name)}" for name in NUMBERS["plan"]),
+        *PLAY_LINES,
+        *(f"run: {name}" for name in DIGITS_MARKS),
+        "check: verdict safe",
+        "check: verdict stale",
+        "check: accepted",
+        "check: not accepted: premise false",
+    ],
+    "upgrade": [
+        *(f"script: {line_of('plan', name)}" for name in NUMBERS["plan"]),
+        "upgrade: written",
+        *(f"upgrade: {name}" for name in DIGITS_MARKS),
+        *PLAY_LINES,
     ],
     "transcript": [*(f"transcript: {line_of('plan', name)}" for name in OFTEN_REFUSED), *CHECK_LINES],
     "configuration": [*CONFIG_LINES, *(f"plan: {count} legs" for count in range(3)), f"timeline: {PHASES[0]} none"],

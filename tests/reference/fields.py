@@ -55,9 +55,3 @@ def key(value):
     made = octets(value)
     check_kind(text.is_key(made))
     return made
-
-
-def block(value):
-    made = octets(value)
-    check_kind(text.is_block(made))
-    return made

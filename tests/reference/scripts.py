@@ -2,9 +2,10 @@
 
 The checks stand in the order of that page. An event that can't be made is BadEvent, whatever is wrong with it.
 """
+import functools
 from typing import List, NamedTuple, Tuple, Union
 
-from . import fields, refusals, text
+from . import fields, formats, refusals, text
 from .configs import Config, config_of
 from .pools import is_node_name
 
@@ -66,6 +67,7 @@ class ProxyRestart(NamedTuple):
 
 
 class Script(NamedTuple):
+    format: formats.Format
     setup: Setup
     events: list
     value: dict  # the three members of the script's own JSON
@@ -74,20 +76,21 @@ class Script(NamedTuple):
 def script_of(value, further_keys=()):
     """The script that a JSON value is. A transcript has further keys beside it, which aren't looked at here."""
     fields.check_object(value, (*KEYS, *further_keys))
-    fields.check_kind(fields.number(value["format"]) == 1)
-    setup = setup_of(value["setup"])
+    form = formats.format_of(value["format"])
+    setup = setup_of(value["setup"], form)
     events = value["events"]
     has_many_events = type(events) is list and len(events) > MOST_EVENTS
     if len(setup.held) > MOST_HELD or len(setup.proxies) > MOST_PROXIES or has_many_events:
         raise refusals.plan("TooLarge")
-    return Script(setup, [event_of(event) for event in fields.array(events)], {key: value[key] for key in KEYS})
+    made = [event_of(event, form) for event in fields.array(events)]
+    return Script(form, setup, made, {key: value[key] for key in KEYS})
 
 
-def setup_of(value):
+def setup_of(value, form):
     fields.check_object(value, ("capacity", "config", "held", "proxies"))
     capacity = fields.number(value["capacity"])
     config = config_of(value["config"])
-    held = [held_item(item) for item in fields.array(value["held"])]
+    held = [held_item(item, form) for item in fields.array(value["held"])]
     proxies = [proxy_setup(proxy, config) for proxy in fields.array(value["proxies"])]
     nodes = {name for proxy in proxies for name in proxy.config.routing.nodes()}
     if any(item.node not in nodes for item in held) or proxies and capacity == 0:
@@ -95,9 +98,9 @@ def setup_of(value):
     return Setup(capacity, held, proxies)
 
 
-def held_item(value):
+def held_item(value, form):
     fields.check_object(value, ("data", "flags", "key", "node"))
-    data = fields.block(value["data"])
+    data = form.data(value["data"])
     flags = fields.number(value["flags"], text.FLAGS)
     key = fields.key(value["key"])
     return HeldItem(node_name(value["node"]), key, flags, data)
@@ -114,36 +117,37 @@ def node_name(value):
     return value
 
 
-def event_of(value):
+def event_of(value, form):
     try:
-        fields.check_kind(type(value) is dict and type(value.get("do")) is str and value["do"] in EVENTS)
-        made, readers = EVENTS[value["do"]]
+        events = events_of(form)
+        fields.check_kind(type(value) is dict and type(value.get("do")) is str and value["do"] in events)
+        made, readers = events[value["do"]]
         fields.check_keys(value, ("do", *readers))
         return made(**{key: read(value[key]) for key, read in readers.items()})
     except refusals.Refusal:
         raise refusals.plan("BadEvent") from None
 
 
-def request_of(value):
+def request_of(value, form):
     fields.check_kind(type(value) is dict and type(value.get("kind")) is str and value["kind"] in REQUESTS)
-    return REQUESTS[value["kind"]](value)
+    return REQUESTS[value["kind"]](value, form)
 
 
-def get_of(value):
+def get_of(value, _):
     fields.check_object(value, ("kind", "keys"))
     keys = tuple(map(fields.octets, fields.array(value["keys"])))
     fields.check_kind(text.are_keys(keys))
     return text.Get(keys)
 
 
-def set_of(value):
+def set_of(value, form):
     fields.check_object(value, ("kind", "key", "flags", "exptime", "data"), ("noreply",))
     flags = fields.number(value["flags"], text.FLAGS)
     exptime = fields.number(value["exptime"], text.EXPTIMES)
-    return text.Set(fields.key(value["key"]), flags, exptime, fields.block(value["data"]), noreply_of(value))
+    return text.Set(fields.key(value["key"]), flags, exptime, form.data(value["data"]), noreply_of(value))
 
 
-def delete_of(value):
+def delete_of(value, _):
     fields.check_object(value, ("kind", "key"), ("noreply",))
     return text.Delete(fields.key(value["key"]), noreply_of(value))
 
@@ -165,12 +169,16 @@ def proxy_number(value):
 
 REQUESTS = {"get": get_of, "set": set_of, "delete": delete_of}
 
-EVENTS = {
-    "clock": (Clock, {"proxy": proxy_number, "reading": fields.number}),
-    "client": (Client, {"proxy": proxy_number, "request": request_of}),
-    "deliver": (Deliver, {"message": fields.number, "now": fields.number}),
-    "return": (Return, {"reply": fields.number}),
-    "give_up": (GiveUp, {"op": op_of}),
-    "node_restart": (NodeRestart, {"node": node_name}),
-    "proxy_restart": (ProxyRestart, {"proxy": proxy_number}),
-}
+
+@functools.lru_cache(maxsize=None)
+def events_of(form):
+    """What each kind of event is made as in a format, and what reads its members."""
+    return {
+        "clock": (Clock, {"proxy": proxy_number, "reading": fields.number}),
+        "client": (Client, {"proxy": proxy_number, "request": lambda value: request_of(value, form)}),
+        "deliver": (Deliver, {"message": fields.number, "now": fields.number}),
+        "return": (Return, {"reply": fields.number}),
+        "give_up": (GiveUp, {"op": op_of}),
+        "node_restart": (NodeRestart, {"node": node_name}),
+        "proxy_restart": (ProxyRestart, {"proxy": proxy_number}),
+    }

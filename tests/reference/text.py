@@ -5,7 +5,7 @@ from typing import NamedTuple, Tuple
 from . import refusals
 
 MOST_OF_LINE = 8192
-MOST_OF_BLOCK = 8192
+MOST_OF_BLOCK = 1_048_576
 KEY = re.compile(rb"[!-~\x80-\xff]{1,250}")  # no space, no control character
 FLAGS = range(2**32)
 EXPTIMES = range(-(2**63), 2**63)
@@ -40,10 +40,6 @@ def is_key(word):
 def are_keys(words):
     """Whether these are the keys of a get: one at least, each of them a key, and the get's canonical line isn't too long."""
     return bool(words) and all(map(is_key, words)) and len(b" ".join((b"get", *words))) <= MOST_OF_LINE
-
-
-def is_block(data):
-    return len(data) <= MOST_OF_BLOCK
 
 
 def first_request(data):

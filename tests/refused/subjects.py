@@ -99,12 +99,14 @@ def commands(program):
     yield Command(program, "timeline --config /dev/stdin", config, "no JSON", b"{")
     for script in sorted(it.name for it in EXAMPLES.glob("*.json") if ".transcript." not in it.name and it.name != "fleet.json"):
         yield Command(program, f"run {script}", config)
+        yield Command(program, f"upgrade {script}", config)
     for transcript in sorted(it.name for it in EXAMPLES.glob("*.transcript.json")):
         yield Command(program, f"check {transcript}", config)
     script = (EXAMPLES / "first-get.json").read_bytes()
     safe = (EXAMPLES / "first-get.transcript.json").read_bytes()
     stale = b'{"stale":{"delete":[0,0,0],"get":[0,0,0],"key":"k"}}'
     yield Command(program, "run", config, "the input", script)
+    yield Command(program, "upgrade", config, "the input", script)
     yield Command(program, "run", config, "a refused event", changed(script, b'"message":0', b'"message":7'))
     yield Command(program, "check", config, "another verdict", changed(safe, b'"verdict":"safe"', b'"verdict":' + stale))
     yield Command(program, "explain plan 5", (MEMORY,))

@@ -115,10 +115,12 @@ impl Joining<One> {
             return Err((self, reply));
         }
         let One { awaited, other } = self.state;
-        Ok(match (awaited, other) {
-            (_, None) => Joined::of_one(awaited, reply),
-            (Side::Old, Some(new)) => Joined::of_both(reply, new),
-            (Side::New, Some(old)) => Joined::of_both(old, reply),
+        let Some(other) = other else {
+            return Ok(Joined::of_one(awaited, reply));
+        };
+        Ok(match awaited {
+            Side::Old => Joined::of_both(reply, other),
+            Side::New => Joined::of_both(other, reply),
         })
     }
 

@@ -8,6 +8,8 @@ pub use Rattle.mr_configs.specs.PlanError
 pub use Rattle.mr_configs.specs.Pools
 pub use Rattle.mr_configs.specs.Route
 pub use Rattle.mr_configs.specs.Timeline
+pub use Rattle.mr_format.specs.Data
+pub use Rattle.mr_format.specs.Format
 pub use Rattle.mr_scripts.specs.EventDraft
 pub use Rattle.mr_scripts.specs.Events
 pub use Rattle.mr_scripts.specs.Homes
@@ -21,6 +23,7 @@ pub use Rattle.mr_scripts.specs.ScriptDraft
 pub use Rattle.mr_scripts.specs.SetupDraft
 pub use Rattle.mr_scripts.specs.Setups
 pub use Rattle.mr_scripts.specs.Texts
+pub use Rattle.mr_scripts.specs.Upgrade
 pub use Rattle.mr_scripts.specs.Values
 pub use Rattle.mr_shown.specs.Verdict
 pub use Rattle.mr_transcripts.specs.Check

@@ -11,6 +11,7 @@ use Rattle.mr_world.specs.Setup.{SetupView}
 use Rattle.mr_world.specs.declared.error.WorldError.TheVariants.{NoSuchNode}
 use Rattle.mr_world.specs.declared.setup.HeldItem.{HeldItem}
 use Rattle.mr_world.specs.declared.setup.ProxySetup.{ProxySetup}
+use Rattle.mr_format.specs.declared.format.Format.{Format}
 use Rattle.mr_configs.specs.Chain.{Migration, Chain, chain_at, chain_with, pools_of, schedule_of}
 use Rattle.mr_configs.specs.Checking.{◌>>=◌, only_if}
 use Rattle.mr_configs.specs.Config.{ConfigView, config_of, config_keys, routing_of, hash_of}
@@ -289,22 +290,22 @@ node_kept block flags key node item e =
     same_node {text} {name} at same is = let made : record { node = name; key = key; flags = flags; block = block } ≡ item = cc in
         at ∙ ap Some same ∙ ap (λ (i : HeldItem). Some i.node) made
 
-abbrev with_values : Data → Data → Data → Data → Result HeldItem PlanError
-with_values block flags key node = block_of block >>= λ block. small_number flags >>= λ flags. key_of key >>= λ key. with_node block flags key node
+abbrev with_values : Format → Data → Data → Data → Data → Result HeldItem PlanError
+with_values format block flags key node = block_of format block >>= λ block. small_number flags >>= λ flags. key_of key >>= λ key. with_node block flags key node
 
-item_node : (value : Data) (item : HeldItem) → held_of value ≡ Ok item → node_at value ≡ item.node
-item_node value item e =
+item_node : (format : Format) (value : Data) (item : HeldItem) → held_of format value ≡ Ok item → node_at value ≡ item.node
+item_node format value item e =
     let keys = taken (object_check held_keys value)
     (λ _. field (codes "data") value >>= λ block. field (codes "flags") value >>= λ flags. field (codes "key") value >>= λ key. field (codes "node") value >>= λ node.
-    with_values block flags key node) item e in
+    with_values format block flags key node) item e in
     let block = taken (field (codes "data") value)
     (λ block. field (codes "flags") value >>= λ flags. field (codes "key") value >>= λ key. field (codes "node") value >>= λ node.
-    with_values block flags key node) item keys.went in
+    with_values format block flags key node) item keys.went in
     let flags = taken (field (codes "flags") value)
-    (λ flags. field (codes "key") value >>= λ key. field (codes "node") value >>= λ node. with_values block.value flags key node) item block.went in
-    let key = taken (field (codes "key") value) (λ key. field (codes "node") value >>= λ node. with_values block.value flags.value key node) item flags.went in
-    let node = taken (field (codes "node") value) (λ node. with_values block.value flags.value key.value node) item key.went in
-    let bytes = taken (block_of block.value) (λ block. small_number flags.value >>= λ flags. key_of key.value >>= λ key. with_node block flags key node.value) item node.went in
+    (λ flags. field (codes "key") value >>= λ key. field (codes "node") value >>= λ node. with_values format block.value flags key node) item block.went in
+    let key = taken (field (codes "key") value) (λ key. field (codes "node") value >>= λ node. with_values format block.value flags.value key node) item flags.went in
+    let node = taken (field (codes "node") value) (λ node. with_values format block.value flags.value key.value node) item key.went in
+    let bytes = taken (block_of format block.value) (λ block. small_number flags.value >>= λ flags. key_of key.value >>= λ key. with_node block flags key node.value) item node.went in
     let number = taken (small_number flags.value) (λ flags. key_of key.value >>= λ key. with_node bytes.value flags key node.value) item bytes.went in
     let named = taken (key_of key.value) (λ key. with_node bytes.value number.value key node.value) item number.went in
     let kept = node_kept bytes.value number.value named.value node.value item named.went in
@@ -312,15 +313,15 @@ item_node value item e =
     rw is_node (rw kept refl)
 
 -- an item is housed among the values where it is housed among the proxies and items that they are
-homes_found : (config : Data) (common : ConfigView) (proxies held : List Data) (fleet : List ProxySetup) (items : List HeldItem) → config_of config ≡ Ok common →
-    all_of (proxy_of common) proxies ≡ Ok fleet → all_of held_of held ≡ Ok items → are_housed config proxies held ≡ have_homes fleet items
-homes_found config common proxies [] fleet items is proxies_are e = let none : [] ≡ items = cc in ap (λ (items : List HeldItem). have_homes fleet items) none
-homes_found config common proxies (value ∷ held) fleet items is proxies_are e =
-    let first = taken (held_of value) (λ item. all_of held_of held >>= λ items. Ok (item ∷ items)) items e in
-    let rest = taken (all_of held_of held) (λ items. Ok (first.value ∷ items)) items first.went in
+homes_found : (format : Format) (config : Data) (common : ConfigView) (proxies held : List Data) (fleet : List ProxySetup) (items : List HeldItem) → config_of config ≡ Ok common →
+    all_of (proxy_of common) proxies ≡ Ok fleet → all_of (held_of format) held ≡ Ok items → are_housed config proxies held ≡ have_homes fleet items
+homes_found format config common proxies [] fleet items is proxies_are e = let none : [] ≡ items = cc in ap (λ (items : List HeldItem). have_homes fleet items) none
+homes_found format config common proxies (value ∷ held) fleet items is proxies_are e =
+    let first = taken (held_of format value) (λ item. all_of (held_of format) held >>= λ items. Ok (item ∷ items)) items e in
+    let rest = taken (all_of (held_of format) held) (λ items. Ok (first.value ∷ items)) items first.went in
     one_housed fleet first.value rest.value items (values_name config proxies (node_at value)) (are_housed config proxies held)
-    (ap (values_name config proxies) (item_node value first.value first.gave) ∙ names_found config common proxies fleet first.value.node is proxies_are)
-    (homes_found config common proxies held fleet rest.value is proxies_are rest.gave) rest.went
+    (ap (values_name config proxies) (item_node format value first.value first.gave) ∙ names_found config common proxies fleet first.value.node is proxies_are)
+    (homes_found format config common proxies held fleet rest.value is proxies_are rest.gave) rest.went
 
 -- there is room among the values where there is among the proxies that they are
 room_found : (common : ConfigView) (capacity : ℕ) (values : List Data) (proxies : List ProxySetup) → all_of (proxy_of common) values ≡ Ok proxies →
@@ -338,32 +339,32 @@ read_as (Ok value) is = (value, refl)
 read_as (Err refusal) is = absurd (cc)
 
 -- the tests on the values decide
-setup_decided : (config : Data) (common : ConfigView) (capacity : ℕ) (held proxies : List Data) → config_of config ≡ Ok common → IsOk (all_of held_of held) →
+setup_decided : (format : Format) (config : Data) (common : ConfigView) (capacity : ℕ) (held proxies : List Data) → config_of config ≡ Ok common → IsOk (all_of (held_of format) held) →
     IsOk (all_of (proxy_of common) proxies) → (setup : SetupView) ×
-    (setup_between common capacity held proxies ≡ (if values_have_room capacity proxies && are_housed config proxies held then Ok setup else Err (BadSetup NoSuchNode)))
-setup_decided config common capacity held proxies is held_ok proxies_ok =
-    let (items, items_are) = read_as (all_of held_of held) held_ok in
+    (setup_between format common capacity held proxies ≡ (if values_have_room capacity proxies && are_housed config proxies held then Ok setup else Err (BadSetup NoSuchNode)))
+setup_decided format config common capacity held proxies is held_ok proxies_ok =
+    let (items, items_are) = read_as (all_of (held_of format) held) held_ok in
     let (fleet, fleet_is) = read_as (all_of (proxy_of common) proxies) proxies_ok in (
       record { proxies = fleet; capacity = capacity; held = items },
-      decided_by (room_found common capacity proxies fleet fleet_is) (homes_found config common proxies held fleet items is fleet_is items_are) items_are fleet_is,
+      decided_by (room_found common capacity proxies fleet fleet_is) (homes_found format config common proxies held fleet items is fleet_is items_are) items_are fleet_is,
     )
   where
     decided_by : {fleet : List ProxySetup} {items : List HeldItem} → values_have_room capacity proxies ≡ have_room capacity fleet →
-        are_housed config proxies held ≡ have_homes fleet items → all_of held_of held ≡ Ok items → all_of (proxy_of common) proxies ≡ Ok fleet →
-        setup_between common capacity held proxies ≡ (if values_have_room capacity proxies && are_housed config proxies held
+        are_housed config proxies held ≡ have_homes fleet items → all_of (held_of format) held ≡ Ok items → all_of (proxy_of common) proxies ≡ Ok fleet →
+        setup_between format common capacity held proxies ≡ (if values_have_room capacity proxies && are_housed config proxies held
         then Ok (record { proxies = fleet; capacity = capacity; held = items }) else Err (BadSetup NoSuchNode))
     decided_by room homes items_are fleet_is = rw room (rw homes (rw items_are (rw fleet_is refl)))
 
-pub setup_refused : (config : Data) (common : ConfigView) (capacity : ℕ) (held proxies : List Data) → config_of config ≡ Ok common → IsOk (all_of held_of held) →
+pub setup_refused : (format : Format) (config : Data) (common : ConfigView) (capacity : ℕ) (held proxies : List Data) → config_of config ≡ Ok common → IsOk (all_of (held_of format) held) →
     IsOk (all_of (proxy_of common) proxies) → (values_have_room capacity proxies && are_housed config proxies held) ≡ false →
-    setup_between common capacity held proxies ≡ Err (BadSetup NoSuchNode)
-setup_refused config common capacity held proxies is held_ok proxies_ok bad =
-    let decided = setup_decided config common capacity held proxies is held_ok proxies_ok in
+    setup_between format common capacity held proxies ≡ Err (BadSetup NoSuchNode)
+setup_refused format config common capacity held proxies is held_ok proxies_ok bad =
+    let decided = setup_decided format config common capacity held proxies is held_ok proxies_ok in
     rw bad at decided.1
 
-pub setup_ready : (config : Data) (common : ConfigView) (capacity : ℕ) (held proxies : List Data) → config_of config ≡ Ok common → IsOk (all_of held_of held) →
+pub setup_ready : (format : Format) (config : Data) (common : ConfigView) (capacity : ℕ) (held proxies : List Data) → config_of config ≡ Ok common → IsOk (all_of (held_of format) held) →
     IsOk (all_of (proxy_of common) proxies) → (values_have_room capacity proxies && are_housed config proxies held) ≡ true →
-    IsOk (setup_between common capacity held proxies)
-setup_ready config common capacity held proxies is held_ok proxies_ok good =
-    let decided = setup_decided config common capacity held proxies is held_ok proxies_ok in
+    IsOk (setup_between format common capacity held proxies)
+setup_ready format config common capacity held proxies is held_ok proxies_ok good =
+    let decided = setup_decided format config common capacity held proxies is held_ok proxies_ok in
     ap is_ok (rw good at decided.1)

@@ -2,6 +2,7 @@ pub mod EventLemmas
 pub mod HomeIndexLemmas
 pub mod HomeLemmas
 pub mod ListLemmas
+pub mod MemberLemmas
 pub mod OrderLemmas
 pub mod PoolsAlongLemmas
 pub mod ReadingLemmas
@@ -9,5 +10,6 @@ pub mod RefusalLemmas
 pub mod ScriptLemmas
 pub mod SetupLemmas
 pub mod TextLemmas
+pub mod UpgradeLemmas
 pub mod ValueLemmas
 pub mod WholeLemmas

@@ -7,6 +7,7 @@ use Rattle.serde_json.specs.View.{view}
 use Rattle.mr_world.specs.Setup.{SetupView}
 use Rattle.serde_json.specs.declared.value.Value.{Value}
 use Rattle.mr_world.specs.declared.event.Event.{Event}
+use Rattle.mr_format.specs.declared.format.Format.{Format}
 use Rattle.mr_configs.specs.Checking.{◌>>=◌}
 use Rattle.mr_configs.specs.Config.{ConfigView}
 use Rattle.mr_scripts.specs.Events.{events_of}
@@ -38,15 +39,15 @@ record AreCounted (held proxies : List Value) (setup : SetupView) : Type 0 where
   items : length setup.held ≡ length held
   fleet : length setup.proxies ≡ length proxies
 
-setup_counted : (common : ConfigView) (capacity : ℕ) (held proxies : List Value) (setup : SetupView) →
-    setup_between common capacity (map view held) (map view proxies) ≡ Ok setup → AreCounted held proxies setup
-setup_counted common capacity held proxies setup e =
-    let items = taken (all_of held_of (map view held))
+setup_counted : (format : Format) (common : ConfigView) (capacity : ℕ) (held proxies : List Value) (setup : SetupView) →
+    setup_between format common capacity (map view held) (map view proxies) ≡ Ok setup → AreCounted held proxies setup
+setup_counted format common capacity held proxies setup e =
+    let items = taken (all_of (held_of format) (map view held))
     (λ items. all_of (proxy_of common) (map view proxies) >>= λ fleet. checked_setup (record { proxies = fleet; capacity = capacity; held = items })) setup e in
     let fleet = taken (all_of (proxy_of common) (map view proxies)) (λ fleet. checked_setup (record { proxies = fleet; capacity = capacity; held = items.value })) setup items.went in
     let same = settled_same (record { proxies = fleet.value; capacity = capacity; held = items.value }) setup fleet.went in
     record {
-      items = ap (λ (s : SetupView). length s.held) (sym same) ∙ sym (all_counted held_of (map view held) items.value items.gave) ∙ length-map held view;
+      items = ap (λ (s : SetupView). length s.held) (sym same) ∙ sym (all_counted (held_of format) (map view held) items.value items.gave) ∙ length-map held view;
       fleet = ap (λ (s : SetupView). length s.proxies) (sym same) ∙ sym (all_counted (proxy_of common) (map view proxies) fleet.value fleet.gave) ∙ length-map proxies view;
     }
   where
@@ -54,31 +55,31 @@ setup_counted common capacity held proxies setup e =
     settled_same made setup is = search (rules, is)
 
 -- the lists can be counted before they are made
-pub counted : (common : ConfigView) (capacity : ℕ) (held proxies : List Value) (events : Data) → IsOk (setup_between common capacity (map view held) (map view proxies)) →
-    script_between (setup_between common capacity (map view held) (map view proxies)) events
-    ≡ (counts_check (length held) (length proxies) (count_in events) >>= λ _. list_of events >>= parts_between (setup_between common capacity (map view held) (map view proxies)))
-counted common capacity held proxies events ok =
-    let (setup, is) = read_as (setup_between common capacity (map view held) (map view proxies)) ok in
-    by_counts is (setup_counted common capacity held proxies setup is)
+pub counted : (format : Format) (common : ConfigView) (capacity : ℕ) (held proxies : List Value) (events : Data) → IsOk (setup_between format common capacity (map view held) (map view proxies)) →
+    script_between format (setup_between format common capacity (map view held) (map view proxies)) events
+    ≡ (counts_check (length held) (length proxies) (count_in events) >>= λ _. list_of events >>= parts_between format (setup_between format common capacity (map view held) (map view proxies)))
+counted format common capacity held proxies events ok =
+    let (setup, is) = read_as (setup_between format common capacity (map view held) (map view proxies)) ok in
+    by_counts is (setup_counted format common capacity held proxies setup is)
   where
     by_counts : {made : Result SetupView PlanError} {setup : SetupView} → made ≡ Ok setup → AreCounted held proxies setup →
-        script_between made events ≡ (counts_check (length held) (length proxies) (count_in events) >>= λ _. list_of events >>= parts_between made)
+        script_between format made events ≡ (counts_check (length held) (length proxies) (count_in events) >>= λ _. list_of events >>= parts_between format made)
     by_counts {made} {setup} is counts = rw is (rw counts.items (rw counts.fleet (
         in_turn (counts_check (length held) (length proxies) (count_in events)) (list_of events))))
       where
         in_turn : (check : Result (Unit {0}) PlanError) (values : Result (List Data) PlanError) →
-            (check >>= λ _. values >>= events_of 0 >>= λ events. Ok (record { setup = setup; events = events }))
-            ≡ (check >>= λ _. values >>= parts_between (Ok setup))
+            (check >>= λ _. values >>= events_of format 0 >>= λ events. Ok (record { format = format; setup = setup; events = events }))
+            ≡ (check >>= λ _. values >>= parts_between format (Ok setup))
         in_turn (Ok unit) (Ok values) = refl
         in_turn (Ok unit) (Err refusal) = refl
         in_turn (Err refusal) values = refl
 
 -- what can be made of a script that was looked at whole
 pub parts_ready : (draft : ScriptDraft) → IsScriptReady draft → (parts : ScriptParts) × (parts_drafted draft ≡ Ok parts)
-parts_ready draft ready = both (setup_drafted draft.setup) (events_of 0 (map view draft.events.now)) ready.setup.whole ready.events
+parts_ready draft ready = both (setup_drafted draft.format draft.setup) (events_of draft.format 0 (map view draft.events.now)) ready.setup.whole ready.events
   where
     both : (setup : Result SetupView PlanError) (events : Result (List Event) PlanError) → IsOk setup → IsOk events →
-        (parts : ScriptParts) × ((events >>= λ events. setup >>= λ setup. Ok (record { setup = setup; events = events })) ≡ Ok parts)
-    both (Ok setup) (Ok events) setup_is events_are = (record { setup = setup; events = events }, refl)
+        (parts : ScriptParts) × ((events >>= λ events. setup >>= λ setup. Ok (record { format = draft.format; setup = setup; events = events })) ≡ Ok parts)
+    both (Ok setup) (Ok events) setup_is events_are = (record { format = draft.format; setup = setup; events = events }, refl)
     both (Ok setup) (Err refusal) setup_is events_are = absurd (cc)
     both (Err refusal) events setup_is events_are = absurd (cc)

@@ -12,13 +12,14 @@ use Rattle.mr_world.specs.declared.error.WorldError.TheVariants.{NoSuchNode}
 use Rattle.mr_world.specs.declared.event.Event.{Event}
 use Rattle.mr_world.specs.declared.setup.HeldItem.{HeldItem}
 use Rattle.mr_world.specs.declared.setup.ProxySetup.{ProxySetup}
+use Rattle.mr_format.specs.declared.format.Format.{Format}
 use Rattle.mr_configs.specs.Checking.{◌>>=◌, only_if}
 use Rattle.mr_configs.specs.Config.{ConfigView, config_of}
 use Rattle.mr_scripts.specs.Events.{events_of}
 use Rattle.mr_configs.specs.Fields.{Text, is_one_of, object_check, field, whole_number, list_of}
 use Rattle.mr_scripts.specs.Limits.{most_events, most_held, most_proxies}
 use Rattle.mr_scripts.specs.Lists.{all_of}
-use Rattle.mr_scripts.specs.Script.{ScriptParts, ScriptView, script_keys, format_check, count_in, counts_check, script_in, IsScript, IsPlayable}
+use Rattle.mr_scripts.specs.Script.{ScriptParts, ScriptView, script_keys, format_in, count_in, counts_check, script_in, IsScript, IsPlayable}
 use Rattle.mr_scripts.specs.Setups.{pools_name, proxies_name, have_homes, have_room, checked_setup, held_of, config_or, proxy_keys, proxy_of, setup_keys, setup_of}
 use Rattle.mr_configs.specs.declared.error.PlanError.{PlanError}
 use Rattle.mr_configs.specs.declared.error.PlanError.TheVariants.{BadSetup, TooLarge}
@@ -139,21 +140,21 @@ settled_made setup made chains e = go (have_room setup.capacity setup.proxies &&
     go false is same = absurd (cc)
 
 -- what comes of a setup's values
-abbrev with_values : Data → Data → Data → Data → Result SetupView PlanError
-with_values capacity config held proxies =
+abbrev with_values : Format → Data → Data → Data → Data → Result SetupView PlanError
+with_values format capacity config held proxies =
     whole_number capacity >>= λ capacity.
     config_of config >>= λ common.
-    list_of held >>= all_of held_of >>= λ held.
+    list_of held >>= all_of (held_of format) >>= λ held.
     list_of proxies >>= all_of (proxy_of common) >>= λ proxies.
     checked_setup (record { proxies = proxies; capacity = capacity; held = held })
 
-values_made : ConfigurationsMatch → (capacity config held proxies : Data) (setup : SetupView) → with_values capacity config held proxies ≡ Ok setup → CanBeMade setup
-values_made matches capacity config held proxies setup e =
-    let number = taken (whole_number capacity) (λ capacity. config_of config >>= λ common. list_of held >>= all_of held_of >>= λ held.
+values_made : ConfigurationsMatch → (format : Format) (capacity config held proxies : Data) (setup : SetupView) → with_values format capacity config held proxies ≡ Ok setup → CanBeMade setup
+values_made matches format capacity config held proxies setup e =
+    let number = taken (whole_number capacity) (λ capacity. config_of config >>= λ common. list_of held >>= all_of (held_of format) >>= λ held.
     list_of proxies >>= all_of (proxy_of common) >>= λ proxies. checked_setup (record { proxies = proxies; capacity = capacity; held = held })) setup e in
-    let common = taken (config_of config) (λ common. list_of held >>= all_of held_of >>= λ held.
+    let common = taken (config_of config) (λ common. list_of held >>= all_of (held_of format) >>= λ held.
     list_of proxies >>= all_of (proxy_of common) >>= λ proxies. checked_setup (record { proxies = proxies; capacity = number.value; held = held })) setup number.went in
-    let items = taken (list_of held >>= all_of held_of) (λ held.
+    let items = taken (list_of held >>= all_of (held_of format)) (λ held.
     list_of proxies >>= all_of (proxy_of common.value) >>= λ proxies. checked_setup (record { proxies = proxies; capacity = number.value; held = held })) setup common.went in
     let fleet = taken (list_of proxies >>= all_of (proxy_of common.value))
     (λ proxies. checked_setup (record { proxies = proxies; capacity = number.value; held = items.value })) setup items.went in
@@ -161,14 +162,14 @@ values_made matches capacity config held proxies setup e =
     settled_made (record { proxies = fleet.value; capacity = number.value; held = items.value }) setup
     (proxies_match matches common.value values.value fleet.value (matches config common.value common.gave) values.went) fleet.went
 
-abbrev with_fleet : Data → SetupView → Result ScriptParts PlanError
-with_fleet events setup =
+abbrev with_fleet : Format → Data → SetupView → Result ScriptParts PlanError
+with_fleet format events setup =
     counts_check (length setup.held) (length setup.proxies) (count_in events) >>= λ _.
-    list_of events >>= events_of 0 >>= λ events.
-    Ok (record { setup = setup; events = events })
+    list_of events >>= events_of format 0 >>= λ events.
+    Ok (record { format = format; setup = setup; events = events })
 
 abbrev with_setup : Data → Data → Data → Result ScriptParts PlanError
-with_setup events format setup = format_check format >>= λ _. setup_of setup >>= with_fleet events
+with_setup events format setup = format_in format >>= λ format. setup_of format setup >>= with_fleet format events
 
 few_proxies : (held proxies events : ℕ) (unit : Unit {0}) → counts_check held proxies events ≡ Ok unit → proxies ≤ most_proxies
 few_proxies held proxies events unit e = leb-true proxies most_proxies (go (nat_le held most_held) (nat_le proxies most_proxies) e)
@@ -178,28 +179,28 @@ few_proxies held proxies events unit e = leb-true proxies most_proxies (go (nat_
     go true false is = cc
     go false b is = cc
 
-playable : (setup : SetupView) (events : List Event) (parts : ScriptParts) →
-    ◌≡◌ {A = Result ScriptParts PlanError} (Ok (record { setup = setup; events = events })) (Ok parts) → CanBeMade setup → length setup.proxies ≤ most_proxies →
+playable : (format : Format) (setup : SetupView) (events : List Event) (parts : ScriptParts) →
+    ◌≡◌ {A = Result ScriptParts PlanError} (Ok (record { format = format; setup = setup; events = events })) (Ok parts) → CanBeMade setup → length setup.proxies ≤ most_proxies →
     IsPlayable parts.setup
-playable setup events parts e made few =
-    let same : record { setup = setup; events = events } ≡ parts = cc in
+playable format setup events parts e made few =
+    let same : record { format = format; setup = setup; events = events } ≡ parts = cc in
     let P : ScriptParts → Type 0 = λ parts. IsPlayable parts.setup in
     subst P same (record { made = made; few = few })
 
-setup_made : ConfigurationsMatch → (value : Data) (setup : SetupView) → setup_of value ≡ Ok setup → CanBeMade setup
-setup_made matches value setup e =
+setup_made : ConfigurationsMatch → (format : Format) (value : Data) (setup : SetupView) → setup_of format value ≡ Ok setup → CanBeMade setup
+setup_made matches format value setup e =
     let keys = taken (object_check setup_keys value)
     (λ _. field (codes "capacity") value >>= λ capacity. field (codes "config") value >>= λ config. field (codes "held") value >>= λ held.
-    field (codes "proxies") value >>= λ proxies. with_values capacity config held proxies) setup e in
+    field (codes "proxies") value >>= λ proxies. with_values format capacity config held proxies) setup e in
     let capacity = taken (field (codes "capacity") value)
     (λ capacity. field (codes "config") value >>= λ config. field (codes "held") value >>= λ held. field (codes "proxies") value >>= λ proxies.
-    with_values capacity config held proxies) setup keys.went in
+    with_values format capacity config held proxies) setup keys.went in
     let config = taken (field (codes "config") value)
-    (λ config. field (codes "held") value >>= λ held. field (codes "proxies") value >>= λ proxies. with_values capacity.value config held proxies) setup capacity.went in
+    (λ config. field (codes "held") value >>= λ held. field (codes "proxies") value >>= λ proxies. with_values format capacity.value config held proxies) setup capacity.went in
     let held = taken (field (codes "held") value)
-    (λ held. field (codes "proxies") value >>= λ proxies. with_values capacity.value config.value held proxies) setup config.went in
-    let proxies = taken (field (codes "proxies") value) (λ proxies. with_values capacity.value config.value held.value proxies) setup held.went in
-    values_made matches capacity.value config.value held.value proxies.value setup proxies.went
+    (λ held. field (codes "proxies") value >>= λ proxies. with_values format capacity.value config.value held proxies) setup config.went in
+    let proxies = taken (field (codes "proxies") value) (λ proxies. with_values format capacity.value config.value held.value proxies) setup held.went in
+    values_made matches format capacity.value config.value held.value proxies.value setup proxies.went
 
 pub parts_playable : ConfigurationsMatch → (value : Data) (parts : ScriptParts) → script_in value ≡ Ok parts → IsPlayable parts.setup
 parts_playable matches value parts e =
@@ -208,17 +209,17 @@ parts_playable matches value parts e =
     let format = taken (field (codes "format") value)
     (λ format. field (codes "setup") value >>= λ setup. with_setup events.value format setup) parts events.went in
     let setup = taken (field (codes "setup") value) (λ setup. with_setup events.value format.value setup) parts format.went in
-    let checked = taken (format_check format.value) (λ _. setup_of setup.value >>= with_fleet events.value) parts setup.went in
-    let fleet = taken (setup_of setup.value) (with_fleet events.value) parts checked.went in
+    let read = taken (format_in format.value) (λ format. setup_of format setup.value >>= with_fleet format events.value) parts setup.went in
+    let fleet = taken (setup_of read.value setup.value) (with_fleet read.value events.value) parts read.went in
     let counts = taken (counts_check (length fleet.value.held) (length fleet.value.proxies) (count_in events.value))
-    (λ _. list_of events.value >>= events_of 0 >>= λ events. Ok (record { setup = fleet.value; events = events })) parts fleet.went in
-    let happened = taken (list_of events.value >>= events_of 0) (λ events. Ok (record { setup = fleet.value; events = events })) parts counts.went in
-    playable fleet.value happened.value parts happened.went (setup_made matches setup.value fleet.value fleet.gave)
+    (λ _. list_of events.value >>= events_of read.value 0 >>= λ events. Ok (record { format = read.value; setup = fleet.value; events = events })) parts fleet.went in
+    let happened = taken (list_of events.value >>= events_of read.value 0) (λ events. Ok (record { format = read.value; setup = fleet.value; events = events })) parts counts.went in
+    playable read.value fleet.value happened.value parts happened.went (setup_made matches read.value setup.value fleet.value fleet.gave)
     (few_proxies (length fleet.value.held) (length fleet.value.proxies) (count_in events.value) counts.value counts.gave)
 
 pub script_playable : ConfigurationsMatch → (script : ScriptView) → IsScript script → IsPlayable script.setup
 script_playable matches script is =
     let value = view script.json in
-    let parts : ScriptParts = record { setup = script.setup; events = script.events } in
+    let parts : ScriptParts = record { format = script.format; setup = script.setup; events = script.events } in
     let keys = taken (object_check script_keys value) (λ _. script_in value) parts is.says in
     parts_playable matches value parts keys.went

@@ -1,25 +1,12 @@
--- The characters of a text, one after another.
-use Rattle.std.proofs.Common.{◌≡◌, ℕ, ◌++◌, List, [], ◌∷◌, length, arith, rules, Ok}
-use Rattle.std.specs.Prelude.{encode_utf8}
-use Rattle.std.specs.Str.{chars, IsUtf8}
-use Rattle.std.proofs.lemmas.Str.{chars_past_char, IsUtf8-past_char, chars-nil}
+-- Texts that were looked at, and what they make.
+use Rattle.std.proofs.Common.{◌≡◌, rules, Ok}
+use Rattle.std.specs.Str.{chars}
 use Rattle.mr_text.specs.Key.{IsKey}
 use Rattle.mr_text.proofs.Keys.{key_test-true}
 use Rattle.mr_pools.specs.NodeName.{IsNodeName}
 use Rattle.mr_configs.specs.Fields.{Text}
 use Rattle.mr_scripts.specs.Texts.{key_of_text, node_name_of_text}
 use Rattle.mr_configs.proofs.PoolLemmas.{name_made}
-
--- what the first character is, and that a text comes after it
-pub first_point : (text rest : List ℕ) (point : ℕ) → IsUtf8 text → text ≡ encode_utf8 point ++ rest → chars text ≡ point ∷ chars rest
-first_point text rest point utf8 is = chars_past_char text rest point utf8 is
-
-pub text_after : (text rest : List ℕ) (point : ℕ) → IsUtf8 text → text ≡ encode_utf8 point ++ rest → IsUtf8 rest
-text_after text rest point utf8 is = IsUtf8-past_char text rest point utf8 is
-
-pub no_point : (text : List ℕ) → length text ≡ 0 → chars text ≡ []
-no_point [] is = chars-nil
-no_point (byte ∷ bytes) is = absurd (omega arith)
 
 pub key_made : (text : Text) → key_of_text text ≡ Ok (chars text) → IsKey (chars text)
 key_made text e = key_test-true (chars text) (search (rules, e))

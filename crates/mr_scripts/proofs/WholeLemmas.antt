@@ -10,6 +10,7 @@ use Rattle.mr_text.specs.declared.request.Request.{Request}
 use Rattle.mr_world.specs.declared.event.Event.{Event}
 use Rattle.mr_world.specs.declared.event.Event.TheVariants.{Return, GiveUp, NodeRestart, ProxyRestart}
 use Rattle.mr_phases.specs.Schedule.{most_hops}
+use Rattle.mr_format.specs.declared.format.Format.{Format}
 use Rattle.mr_configs.specs.Chain.{Chain, schedule_of}
 use Rattle.mr_configs.specs.Checking.{◌>>=◌, only_if}
 use Rattle.mr_configs.specs.Config.{ConfigView, IsJson, config_of, config_keys, hash_of}
@@ -22,7 +23,7 @@ use Rattle.mr_scripts.specs.Events.{op_of, clock_of, clock_keys, client_of, clie
 use Rattle.mr_scripts.specs.Lists.{all_of}
 use Rattle.mr_scripts.specs.Numbers.{small_number, signed_whole_number, flag_of}
 use Rattle.mr_scripts.specs.Requests.{are_keys, keys_of, get_of, get_keys, set_of, set_keys, delete_of, delete_keys, request_of}
-use Rattle.mr_scripts.specs.Script.{ScriptParts, count_in, counts_check, format_check, script_of, script_keys}
+use Rattle.mr_scripts.specs.Script.{ScriptParts, count_in, counts_check, format_in, script_of, script_keys}
 use Rattle.mr_scripts.specs.Setups.{held_of, held_keys, config_or, proxy_of, proxy_keys, setup_of, setup_keys}
 use Rattle.mr_scripts.specs.Texts.{key_of, block_of, node_name_of}
 use Rattle.mr_configs.proofs.CheckingLemmas.{taken, there}
@@ -168,8 +169,8 @@ of_text reads value made order e = let text = taken (text_of value) reads made e
 key_whole : ReadsWhole key_of
 key_whole = of_text _
 
-block_whole : ReadsWhole block_of
-block_whole = of_text _
+block_whole : (format : Format) → ReadsWhole (block_of format)
+block_whole format = of_text _
 
 name_whole : ReadsWhole node_name_of
 name_whole = of_text _
@@ -351,19 +352,19 @@ config_whole value made order e =
 
 -- setups
 
-held_whole : ReadsWhole held_of
-held_whole value made order e =
+held_whole : (format : Format) → ReadsWhole (held_of format)
+held_whole format value made order e =
     let keys = taken (object_check held_keys value) _ made e in
     let data_at = taken (field (codes "data") value) _ made keys.went in
     let flags_at = taken (field (codes "flags") value) _ made data_at.went in
     let key_at = taken (field (codes "key") value) _ made flags_at.went in
     let node_at = taken (field (codes "node") value) _ made key_at.went in
-    let block = taken (block_of data_at.value) _ made node_at.went in
+    let block = taken (block_of format data_at.value) _ made node_at.went in
     let flags = taken (small_number flags_at.value) _ made block.went in
     let key = taken (key_of key_at.value) _ made flags.went in
     let node = taken (node_name_of node_at.value) _ made key.went in
     object_whole held_keys value keys.value keys.gave order (
-    key_taken (codes "data") value data_at.value block_of block.value block_whole order data_at.gave block.gave
+    key_taken (codes "data") value data_at.value (block_of format) block.value (block_whole format) order data_at.gave block.gave
     also key_taken (codes "flags") value flags_at.value small_number flags.value small_whole order flags_at.gave flags.gave
     also key_taken (codes "key") value key_at.value key_of key.value key_whole order key_at.gave key.gave
     also key_taken (codes "node") value node_at.value node_name_of node.value name_whole order node_at.gave node.gave
@@ -385,8 +386,8 @@ proxy_whole common value made order e =
     also tt
     )
 
-setup_whole : ReadsWhole setup_of
-setup_whole value made order e =
+setup_whole : (format : Format) → ReadsWhole (setup_of format)
+setup_whole format value made order e =
     let keys = taken (object_check setup_keys value) _ made e in
     let capacity_at = taken (field (codes "capacity") value) _ made keys.went in
     let config_at = taken (field (codes "config") value) _ made capacity_at.went in
@@ -394,12 +395,12 @@ setup_whole value made order e =
     let proxies_at = taken (field (codes "proxies") value) _ made held_at.went in
     let capacity = taken (whole_number capacity_at.value) _ made proxies_at.went in
     let common = taken (config_of config_at.value) _ made capacity.went in
-    let held = taken (list_of held_at.value >>= all_of held_of) _ made common.went in
+    let held = taken (list_of held_at.value >>= all_of (held_of format)) _ made common.went in
     let proxies = taken (list_of proxies_at.value >>= all_of (proxy_of common.value)) _ made held.went in
     object_whole setup_keys value keys.value keys.gave order (
     key_taken (codes "capacity") value capacity_at.value whole_number capacity.value number_whole order capacity_at.gave capacity.gave
     also key_taken (codes "config") value config_at.value config_of common.value config_whole order config_at.gave common.gave
-    also key_taken (codes "held") value held_at.value (λ d. list_of d >>= all_of held_of) held.value (list_whole held_of held_whole) order held_at.gave held.gave
+    also key_taken (codes "held") value held_at.value (λ d. list_of d >>= all_of (held_of format)) held.value (list_whole (held_of format) (held_whole format)) order held_at.gave held.gave
     also key_taken (codes "proxies") value proxies_at.value (λ d. list_of d >>= all_of (proxy_of common.value)) proxies.value (list_whole (proxy_of common.value) (proxy_whole common.value)) order proxies_at.gave proxies.gave
     also tt
     )
@@ -419,16 +420,16 @@ get_whole value made order kind e =
     let listed = listed_whole are_keys held.value values.value all held.went (keys_tested values.value keys.value values.went) in
     object_whole get_keys value checked.value checked.gave order (key_stands (codes "keys") value held.value held.gave listed also kind also tt)
 
-set_whole : (value : Data) (made : Request) → IsInOrder value → IsWholeAt (codes "kind") value → set_of value ≡ Ok made → has_float value ≡ false
-set_whole value made order kind e =
+set_whole : (format : Format) (value : Data) (made : Request) → IsInOrder value → IsWholeAt (codes "kind") value → set_of format value ≡ Ok made → has_float value ≡ false
+set_whole format value made order kind e =
     let keys = taken (object_check set_keys value) _ made e in
-    let block = taken (field (codes "data") value >>= block_of) _ made keys.went in
+    let block = taken (field (codes "data") value >>= block_of format) _ made keys.went in
     let exptime = taken (field (codes "exptime") value >>= signed_whole_number) _ made block.went in
     let flags = taken (field (codes "flags") value >>= small_number) _ made exptime.went in
     let key = taken (field (codes "key") value >>= key_of) _ made flags.went in
     let noreply = taken (flag_of (get (codes "noreply") value)) _ made key.went in
     object_whole set_keys value keys.value keys.gave order (
-    key_read (codes "data") value block_of block.value block_whole order block.gave
+    key_read (codes "data") value (block_of format) block.value (block_whole format) order block.gave
     also key_read (codes "exptime") value signed_whole_number exptime.value signed_whole order exptime.gave
     also key_read (codes "flags") value small_number flags.value small_whole order flags.gave
     also key_read (codes "key") value key_of key.value key_whole order key.gave
@@ -449,16 +450,16 @@ delete_whole value made order kind e =
     also tt
     )
 
-request_whole : ReadsWhole request_of
-request_whole value made order e =
+request_whole : (format : Format) → ReadsWhole (request_of format)
+request_whole format value made order e =
     let kind = taken (field (codes "kind") value >>= text_of) _ made e in
     let named = key_read (codes "kind") value text_of kind.value text_whole order kind.gave in
     by_kind (bytes_eq kind.value (codes "get")) (bytes_eq kind.value (codes "set")) (bytes_eq kind.value (codes "delete")) named kind.went
   where
     by_kind : (a b c : Bool) → IsWholeAt (codes "kind") value
-        → (if a then get_of value else if b then set_of value else if c then delete_of value else Err WrongKind) ≡ Ok made → has_float value ≡ false
+        → (if a then get_of value else if b then set_of format value else if c then delete_of value else Err WrongKind) ≡ Ok made → has_float value ≡ false
     by_kind true b c named e = get_whole value made order named e
-    by_kind false true c named e = set_whole value made order named e
+    by_kind false true c named e = set_whole format value made order named e
     by_kind false false true named e = delete_whole value made order named e
     by_kind false false false named e = cc
 
@@ -499,15 +500,15 @@ clock_whole value made order kind e =
     also tt
     )
 
-client_whole : EventWhole client_of
-client_whole value made order kind e =
+client_whole : (format : Format) → EventWhole (client_of format)
+client_whole format value made order kind e =
     let keys = taken (object_check client_keys value) _ made e in
     let proxy = taken (field (codes "proxy") value >>= small_number) _ made keys.went in
-    let request = taken (field (codes "request") value >>= request_of) _ made proxy.went in
+    let request = taken (field (codes "request") value >>= request_of format) _ made proxy.went in
     object_whole client_keys value keys.value keys.gave order (
     kind
     also key_read (codes "proxy") value small_number proxy.value small_whole order proxy.gave
-    also key_read (codes "request") value request_of request.value request_whole order request.gave
+    also key_read (codes "request") value (request_of format) request.value (request_whole format) order request.gave
     also tt
     )
 
@@ -531,19 +532,19 @@ single_whole key reads made whole value event order kind e =
     let held = taken (field key value >>= reads) _ event keys.went in
     object_whole (codes "do" ∷ key ∷ []) value keys.value keys.gave order (kind also key_read key value reads held.value whole order held.gave also tt)
 
-event_whole : ReadsWhole event_of
-event_whole value made order e =
+event_whole : (format : Format) → ReadsWhole (event_of format)
+event_whole format value made order e =
     let kind = taken (field (codes "do") value >>= text_of) _ made e in
     let named = key_read (codes "do") value text_of kind.value text_whole order kind.gave in
     by_kind (bytes_eq kind.value (codes "clock")) (bytes_eq kind.value (codes "client")) (bytes_eq kind.value (codes "deliver")) (bytes_eq kind.value (codes "return"))
     (bytes_eq kind.value (codes "give_up")) (bytes_eq kind.value (codes "node_restart")) (bytes_eq kind.value (codes "proxy_restart")) named kind.went
   where
     by_kind : (a b c d f g h : Bool) → IsWholeAt (codes "do") value
-        → (if a then clock_of value else if b then client_of value else if c then deliver_of value else if d then return_of value
+        → (if a then clock_of value else if b then client_of format value else if c then deliver_of value else if d then return_of value
         else if f then give_up_of value else if g then node_restart_of value else if h then proxy_restart_of value else Err WrongKind) ≡ Ok made
         → has_float value ≡ false
     by_kind true b c d f g h named e = clock_whole value made order named e
-    by_kind false true c d f g h named e = client_whole value made order named e
+    by_kind false true c d f g h named e = client_whole format value made order named e
     by_kind false false true d f g h named e = deliver_whole value made order named e
     by_kind false false false true f g h named e = single_whole (codes "reply") whole_number Return number_whole value made order named e
     by_kind false false false false true g h named e = single_whole (codes "op") op_of GiveUp op_whole value made order named e
@@ -555,27 +556,27 @@ at_index : (index : ℕ) (read : Result Event PlanError) (event : Event) → eve
 at_index index (Ok made) event e = e
 at_index index (Err refusal) event e = cc
 
-each_whole : (index : ℕ) (items : Items) (made : List Event) → ItemsAreInOrder items → events_of index (values_in items) ≡ Ok made
+each_whole : (format : Format) (index : ℕ) (items : Items) (made : List Event) → ItemsAreInOrder items → events_of format index (values_in items) ≡ Ok made
     → items_have_float items ≡ false
-each_whole index no_items made order e = refl
-each_whole index (item value items) made order e =
-    let first = taken (event_at index (event_of value)) _ made e in
-    let rest = taken (events_of (index + 1) (values_in items)) _ made first.went in
-    let here = event_whole value first.value order.0 (at_index index (event_of value) first.value first.gave) in
-    let later = each_whole (index + 1) items rest.value order.1 rest.gave in
+each_whole format index no_items made order e = refl
+each_whole format index (item value items) made order e =
+    let first = taken (event_at index (event_of format value)) _ made e in
+    let rest = taken (events_of format (index + 1) (values_in items)) _ made first.went in
+    let here = event_whole format value first.value order.0 (at_index index (event_of format value) first.value first.gave) in
+    let later = each_whole format (index + 1) items rest.value order.1 rest.gave in
     rw (here, later) refl
 
-events_whole : ReadsWhole (λ value. list_of value >>= events_of 0)
-events_whole null made order e = refl
-events_whole (boolean b) made order e = refl
-events_whole (number n) made order e = cc
-events_whole (string s) made order e = refl
-events_whole (array items) made order e = each_whole 0 items made order e
-events_whole (object _) made order e = cc
+events_whole : (format : Format) → ReadsWhole (λ value. list_of value >>= events_of format 0)
+events_whole format null made order e = refl
+events_whole format (boolean b) made order e = refl
+events_whole format (number n) made order e = cc
+events_whole format (string s) made order e = refl
+events_whole format (array items) made order e = each_whole format 0 items made order e
+events_whole format (object _) made order e = cc
 
 -- scripts
 
-format_whole : ReadsWhole format_check
+format_whole : ReadsWhole format_in
 format_whole value made order e = let format = taken (whole_number value) _ made e in number_whole value format.value order format.gave
 
 script_whole : ReadsWhole script_of
@@ -584,14 +585,14 @@ script_whole value made order e =
     let events_at = taken (field (codes "events") value) _ made keys.went in
     let format_at = taken (field (codes "format") value) _ made events_at.went in
     let setup_at = taken (field (codes "setup") value) _ made format_at.went in
-    let format = taken (format_check format_at.value) _ made setup_at.went in
-    let setup = taken (setup_of setup_at.value) _ made format.went in
+    let format = taken (format_in format_at.value) _ made setup_at.went in
+    let setup = taken (setup_of format.value setup_at.value) _ made format.went in
     let counts = taken (counts_check (length setup.value.held) (length setup.value.proxies) (count_in events_at.value)) _ made setup.went in
-    let events = taken (list_of events_at.value >>= events_of 0) _ made counts.went in
+    let events = taken (list_of events_at.value >>= events_of format.value 0) _ made counts.went in
     object_whole script_keys value keys.value keys.gave order (
-    key_taken (codes "events") value events_at.value (λ d. list_of d >>= events_of 0) events.value events_whole order events_at.gave events.gave
-    also key_taken (codes "format") value format_at.value format_check format.value format_whole order format_at.gave format.gave
-    also key_taken (codes "setup") value setup_at.value setup_of setup.value setup_whole order setup_at.gave setup.gave
+    key_taken (codes "events") value events_at.value (λ d. list_of d >>= events_of format.value 0) events.value (events_whole format.value) order events_at.gave events.gave
+    also key_taken (codes "format") value format_at.value format_in format.value format_whole order format_at.gave format.gave
+    also key_taken (codes "setup") value setup_at.value (setup_of format.value) setup.value (setup_whole format.value) order setup_at.gave setup.gave
     also tt
     )
 

@@ -5,6 +5,7 @@ use Rattle.serde_json.specs.Data.{Data}
 use Rattle.mr_history.specs.declared.op_id.OpId.{OpId}
 use Rattle.mr_world.specs.declared.event.Event.{Event}
 use Rattle.mr_world.specs.declared.event.Event.TheVariants.{Clock, Client, Deliver, Return, GiveUp, NodeRestart, ProxyRestart}
+use Rattle.mr_format.specs.declared.format.Format.{Format}
 use Rattle.mr_configs.specs.Checking.{◌>>=◌}
 use Rattle.mr_configs.specs.Fields.{Text, object_check, field, whole_number, text_of, list_of}
 use Rattle.mr_scripts.specs.Numbers.{small_number}
@@ -39,11 +40,11 @@ clock_of value =
 abbrev pub client_keys : List Text
 client_keys = codes "do" ∷ codes "proxy" ∷ codes "request" ∷ []
 
-abbrev pub client_of : Data → Result Event PlanError
-client_of value =
+abbrev pub client_of : Format → Data → Result Event PlanError
+client_of format value =
     object_check client_keys value >>= λ _.
     field (codes "proxy") value >>= small_number >>= λ proxy.
-    field (codes "request") value >>= request_of >>= λ request.
+    field (codes "request") value >>= request_of format >>= λ request.
     Ok (Client proxy request)
 
 abbrev pub deliver_keys : List Text
@@ -92,10 +93,10 @@ proxy_restart_of value =
     field (codes "proxy") value >>= small_number >>= λ proxy.
     Ok (ProxyRestart proxy)
 
-abbrev pub event_of_kind : Data → Text → Result Event PlanError
-event_of_kind value kind =
+abbrev pub event_of_kind : Format → Data → Text → Result Event PlanError
+event_of_kind format value kind =
     if bytes_eq kind (codes "clock") then clock_of value
-    else if bytes_eq kind (codes "client") then client_of value
+    else if bytes_eq kind (codes "client") then client_of format value
     else if bytes_eq kind (codes "deliver") then deliver_of value
     else if bytes_eq kind (codes "return") then return_of value
     else if bytes_eq kind (codes "give_up") then give_up_of value
@@ -103,9 +104,9 @@ event_of_kind value kind =
     else if bytes_eq kind (codes "proxy_restart") then proxy_restart_of value
     else Err WrongKind
 
--- The event that a value is. Which keys it may have goes by what is done, so that is looked at before them.
-abbrev pub event_of : Data → Result Event PlanError
-event_of value = field (codes "do") value >>= text_of >>= event_of_kind value
+-- The event that a value is in a format. Which keys it may have goes by what is done, so that is looked at before them.
+abbrev pub event_of : Format → Data → Result Event PlanError
+event_of format value = field (codes "do") value >>= text_of >>= event_of_kind format value
 
 -- whatever is wrong with an event, only its index is told
 abbrev pub event_at : ℕ → Result Event PlanError → Result Event PlanError
@@ -113,9 +114,9 @@ event_at index (Ok event) = Ok event
 event_at index (Err refusal) = Err (BadEvent index)
 
 -- the events that values are, from this index on; the first value that is none is told
-abbrev pub events_of : ℕ → List Data → Result (List Event) PlanError
-events_of index [] = Ok []
-events_of index (value ∷ values) =
-    event_at index (event_of value) >>= λ event.
-    events_of (index + 1) values >>= λ events.
+abbrev pub events_of : Format → ℕ → List Data → Result (List Event) PlanError
+events_of format index [] = Ok []
+events_of format index (value ∷ values) =
+    event_at index (event_of format value) >>= λ event.
+    events_of format (index + 1) values >>= λ events.
     Ok (event ∷ events)

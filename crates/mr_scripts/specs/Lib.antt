@@ -1,3 +1,4 @@
+pub mod BlockDraft
 pub mod EventDraft
 pub mod Events
 pub mod Homes
@@ -11,5 +12,6 @@ pub mod ScriptDraft
 pub mod SetupDraft
 pub mod Setups
 pub mod Texts
+pub mod Upgrade
 pub mod Values
 pub mod steps

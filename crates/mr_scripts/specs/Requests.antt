@@ -7,6 +7,7 @@ use Rattle.mr_text.specs.Key.{get_line_length}
 use Rattle.mr_text.specs.Limits.{MAX_LINE}
 use Rattle.mr_text.specs.declared.request.Request.{Request}
 use Rattle.mr_text.specs.declared.request.Request.TheVariants.{Get, Set, Delete}
+use Rattle.mr_format.specs.declared.format.Format.{Format}
 use Rattle.mr_configs.specs.Checking.{◌>>=◌}
 use Rattle.mr_configs.specs.Fields.{Text, object_check, field, text_of, list_of}
 use Rattle.mr_scripts.specs.Numbers.{small_number, signed_whole_number, flag_of}
@@ -42,10 +43,10 @@ get_of value =
 abbrev pub set_keys : List Text
 set_keys = codes "data" ∷ codes "exptime" ∷ codes "flags" ∷ codes "key" ∷ codes "kind" ∷ codes "noreply" ∷ []
 
-abbrev pub set_of : Data → Result Request PlanError
-set_of value =
+abbrev pub set_of : Format → Data → Result Request PlanError
+set_of format value =
     object_check set_keys value >>= λ _.
-    field (codes "data") value >>= block_of >>= λ block.
+    field (codes "data") value >>= block_of format >>= λ block.
     field (codes "exptime") value >>= signed_whole_number >>= λ exptime.
     field (codes "flags") value >>= small_number >>= λ flags.
     field (codes "key") value >>= key_of >>= λ key.
@@ -62,13 +63,13 @@ delete_of value =
     flag_of (get (codes "noreply") value) >>= λ noreply.
     Ok (Delete key noreply)
 
-abbrev pub request_of_kind : Data → Text → Result Request PlanError
-request_of_kind value kind =
+abbrev pub request_of_kind : Format → Data → Text → Result Request PlanError
+request_of_kind format value kind =
     if bytes_eq kind (codes "get") then get_of value
-    else if bytes_eq kind (codes "set") then set_of value
+    else if bytes_eq kind (codes "set") then set_of format value
     else if bytes_eq kind (codes "delete") then delete_of value
     else Err WrongKind
 
--- The request that a value is. Which keys it may have goes by its kind, so the kind is looked at before them.
-abbrev pub request_of : Data → Result Request PlanError
-request_of value = field (codes "kind") value >>= text_of >>= request_of_kind value
+-- The request that a value is in a format. Which keys it may have goes by its kind, so the kind is looked at before them.
+abbrev pub request_of : Format → Data → Result Request PlanError
+request_of format value = field (codes "kind") value >>= text_of >>= request_of_kind format value

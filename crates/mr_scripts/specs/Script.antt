@@ -1,10 +1,12 @@
 -- The script that a JSON value is: a fleet, and what happens to it.
-use Rattle.std.specs.Prelude.{◌≡◌, ℕ, ◌<◌, ◌≤◌, ◌⊎◌, ◌==◌, List, [], ◌∷◌, length, false, nat_le, Result, Ok, Err, codes}
+use Rattle.std.specs.Prelude.{◌≡◌, ℕ, ◌<◌, ◌≤◌, ◌⊎◌, List, [], ◌∷◌, length, false, nat_le, Result, Ok, Err, ok_or, codes}
 use Rattle.std.specs.Result.{result_unwrap_or}
 use Rattle.serde_json.specs.Data.{Data}
 use Rattle.serde_json.specs.View.{view}
 use Rattle.serde_json.specs.Written.{has_float}
 use Rattle.serde_json.specs.declared.value.Value.{Value}
+use Rattle.mr_format.specs.Format.{format_of}
+use Rattle.mr_format.specs.declared.format.Format.{Format}
 use Rattle.mr_world.specs.Setup.{SetupView, CanBeMade}
 use Rattle.mr_world.specs.declared.event.Event.{Event}
 use Rattle.mr_configs.specs.Checking.{◌>>=◌, only_if}
@@ -16,20 +18,23 @@ use Rattle.mr_scripts.specs.Setups.{setup_of}
 use Rattle.mr_configs.specs.declared.error.PlanError.{PlanError}
 use Rattle.mr_configs.specs.declared.error.PlanError.TheVariants.{WrongKind, TooLarge, OutOfMemory}
 
--- what is played: a fleet, and what happens to it
+-- what is played: a fleet, and what happens to it, with the format of its data
 pub record ScriptParts : Type 0 where
+  pub format : Format
   pub setup : SetupView
   pub events : List Event
 
 pub record ScriptView : Type 0 where
+  -- how data stands in its text
+  pub format : Format
   pub setup : SetupView
   pub events : List Event
   -- what it was read from
   pub json : Value
 
--- there is one format
-abbrev pub format_check : Data → Result (Unit {0}) PlanError
-format_check value = whole_number value >>= λ format. only_if (format == 1) WrongKind
+-- the format whose number a value is
+abbrev pub format_in : Data → Result Format PlanError
+format_in value = whole_number value >>= λ number. ok_or (format_of number) WrongKind
 
 -- how many values a list has; none where it is no list
 abbrev pub count_in : Data → ℕ
@@ -49,11 +54,11 @@ script_in value =
     field (codes "events") value >>= λ events.
     field (codes "format") value >>= λ format.
     field (codes "setup") value >>= λ setup.
-    format_check format >>= λ _.
-    setup_of setup >>= λ setup.
+    format_in format >>= λ format.
+    setup_of format setup >>= λ setup.
     counts_check (length setup.held) (length setup.proxies) (count_in events) >>= λ _.
-    list_of events >>= events_of 0 >>= λ events.
-    Ok (record { setup = setup; events = events })
+    list_of events >>= events_of format 0 >>= λ events.
+    Ok (record { format = format; setup = setup; events = events })
 
 abbrev pub script_keys : List Text
 script_keys = codes "events" ∷ codes "format" ∷ codes "setup" ∷ []
@@ -64,7 +69,7 @@ script_of value = object_check script_keys value >>= λ _. script_in value
 
 -- a script is what its value says, which has no number that isn't whole
 pub record IsScript (script : ScriptView) : Type 0 where
-  pub says : script_of (view script.json) ≡ Ok (record { setup = script.setup; events = script.events })
+  pub says : script_of (view script.json) ≡ Ok (record { format = script.format; setup = script.setup; events = script.events })
   pub whole : has_float (view script.json) ≡ false
 
 -- the fleet of a script can be made, and is small

@@ -6,12 +6,14 @@ use Rattle.serde_json.specs.View.{view}
 use Rattle.mr_world.specs.Setup.{SetupView}
 use Rattle.mr_world.specs.declared.setup.HeldItem.{HeldItem}
 use Rattle.mr_world.specs.declared.setup.ProxySetup.{ProxySetup}
+use Rattle.mr_format.specs.declared.format.Format.{Format}
 use Rattle.mr_configs.specs.Checking.{◌>>=◌}
 use Rattle.mr_configs.specs.Config.{ConfigView}
 use Rattle.mr_configs.specs.Draft.{config_drafted, IsConfigReady}
+use Rattle.mr_scripts.specs.BlockDraft.{block_drafted, IsBlockReady}
 use Rattle.mr_scripts.specs.Lists.{all_of}
 use Rattle.mr_scripts.specs.Setups.{held_of, proxy_of, checked_setup}
-use Rattle.mr_scripts.specs.Texts.{key_of_text, block_of_text, node_name_of_text}
+use Rattle.mr_scripts.specs.Texts.{key_of_text, node_name_of_text}
 use Rattle.mr_configs.specs.declared.config.Draft.{Draft}
 use Rattle.mr_configs.specs.declared.error.PlanError.{PlanError}
 use Rattle.mr_scripts.specs.declared.held.HeldDraft.{HeldDraft}
@@ -20,13 +22,13 @@ use Rattle.mr_scripts.specs.declared.setups.SetupDraft.{SetupDraft}
 
 -- the item that it becomes
 abbrev pub held_drafted : HeldDraft → HeldItem
-held_drafted draft = record { node = draft.node.now; key = chars draft.key.now; flags = draft.flags; block = chars draft.block.now }
+held_drafted draft = record { node = draft.node.now; key = chars draft.key.now; flags = draft.flags; block = block_drafted draft.block }
 
 -- nothing but want of memory keeps it from being made
 pub record IsHeldReady (draft : HeldDraft) : Type 0 where
   pub node : node_name_of_text draft.node.now ≡ Ok draft.node.now
   pub key : key_of_text draft.key.now ≡ Ok (chars draft.key.now)
-  pub block : block_of_text draft.block.now ≡ Ok (chars draft.block.now)
+  pub block : IsBlockReady draft.block
 
 -- the configuration of a proxy: its own, or else the common one
 abbrev pub config_chosen : ConfigView → Option Draft → ConfigView
@@ -49,19 +51,19 @@ proxy_drafted common draft =
     }
 
 -- what comes of a setup whose other values were looked at
-abbrev pub setup_between : ConfigView → ℕ → List Data → List Data → Result SetupView PlanError
-setup_between common capacity held proxies =
-    all_of held_of held >>= λ items.
+abbrev pub setup_between : Format → ConfigView → ℕ → List Data → List Data → Result SetupView PlanError
+setup_between format common capacity held proxies =
+    all_of (held_of format) held >>= λ items.
     all_of (proxy_of common) proxies >>= λ fleet.
     checked_setup (record { proxies = fleet; capacity = capacity; held = items })
 
 -- the setup that it becomes
-abbrev pub setup_drafted : SetupDraft → Result SetupView PlanError
-setup_drafted draft = setup_between (config_drafted draft.common) draft.capacity (map view draft.held.now) (map view draft.proxies.now)
+abbrev pub setup_drafted : Format → SetupDraft → Result SetupView PlanError
+setup_drafted format draft = setup_between format (config_drafted draft.common) draft.capacity (map view draft.held.now) (map view draft.proxies.now)
 
 -- nothing but want of memory keeps it from being made
-pub record IsSetupReady (draft : SetupDraft) : Type 0 where
+pub record IsSetupReady (format : Format) (draft : SetupDraft) : Type 0 where
   pub common : IsConfigReady draft.common
-  pub held : IsOk (all_of held_of (map view draft.held.now))
+  pub held : IsOk (all_of (held_of format) (map view draft.held.now))
   pub proxies : IsOk (all_of (proxy_of (config_drafted draft.common)) (map view draft.proxies.now))
-  pub whole : IsOk (setup_drafted draft)
+  pub whole : IsOk (setup_drafted format draft)

@@ -6,6 +6,7 @@ use Rattle.mr_world.specs.Setup.{SetupView}
 use Rattle.mr_world.specs.declared.error.WorldError.TheVariants.{NoSuchNode}
 use Rattle.mr_world.specs.declared.setup.HeldItem.{HeldItem}
 use Rattle.mr_world.specs.declared.setup.ProxySetup.{ProxySetup}
+use Rattle.mr_format.specs.declared.format.Format.{Format}
 use Rattle.mr_configs.specs.Checking.{◌>>=◌}
 use Rattle.mr_configs.specs.Config.{ConfigView, config_of}
 use Rattle.mr_configs.specs.Fields.{Text, is_one_of, object_check, field, whole_number, list_of}
@@ -18,15 +19,15 @@ use Rattle.mr_configs.specs.declared.error.PlanError.TheVariants.{BadSetup}
 abbrev pub held_keys : List Text
 held_keys = codes "data" ∷ codes "flags" ∷ codes "key" ∷ codes "node" ∷ []
 
--- the item that a node holds at the beginning
-abbrev pub held_of : Data → Result HeldItem PlanError
-held_of value =
+-- the item that a node holds at the beginning, its data in a format
+abbrev pub held_of : Format → Data → Result HeldItem PlanError
+held_of format value =
     object_check held_keys value >>= λ _.
     field (codes "data") value >>= λ block.
     field (codes "flags") value >>= λ flags.
     field (codes "key") value >>= λ key.
     field (codes "node") value >>= λ node.
-    block_of block >>= λ block.
+    block_of format block >>= λ block.
     small_number flags >>= λ flags.
     key_of key >>= λ key.
     node_name_of node >>= λ node.
@@ -79,9 +80,9 @@ checked_setup setup =
 abbrev pub setup_keys : List Text
 setup_keys = codes "capacity" ∷ codes "config" ∷ codes "held" ∷ codes "proxies" ∷ []
 
--- the fleet that a value sets up, or the first of the refusals, in this order
-abbrev pub setup_of : Data → Result SetupView PlanError
-setup_of value =
+-- the fleet that a value sets up in a format, or the first of the refusals, in this order
+abbrev pub setup_of : Format → Data → Result SetupView PlanError
+setup_of format value =
     object_check setup_keys value >>= λ _.
     field (codes "capacity") value >>= λ capacity.
     field (codes "config") value >>= λ config.
@@ -89,6 +90,6 @@ setup_of value =
     field (codes "proxies") value >>= λ proxies.
     whole_number capacity >>= λ capacity.
     config_of config >>= λ common.
-    list_of held >>= all_of held_of >>= λ held.
+    list_of held >>= all_of (held_of format) >>= λ held.
     list_of proxies >>= all_of (proxy_of common) >>= λ proxies.
     checked_setup (record { proxies = proxies; capacity = capacity; held = held })

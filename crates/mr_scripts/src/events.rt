@@ -9,6 +9,7 @@ use crate::numbers::small_number;
 use crate::requests::{RequestDraft, request_draft};
 use mr_configs::PlanError;
 use mr_configs::fields::{check_object, field, list, text, whole_number};
+use mr_format::Format;
 use mr_history::OpId;
 use mr_world::Event;
 use serde_json::Value;
@@ -87,14 +88,14 @@ fn clock_of(value: &Value) -> Result<EventDraft<'_>, PlanError>
 }
 
 /// The request to a proxy that a value is.
-fn client_of(value: &Value) -> Result<EventDraft<'_>, PlanError>
-    ensures event { IfOk result (λ draft. client_of (view value.now) ≡ Ok (event_drafted draft)) }
+fn client_of(format: Format, value: &Value) -> Result<EventDraft<'_>, PlanError>
+    ensures event { IfOk result (λ draft. client_of format (view value.now) ≡ Ok (event_drafted draft)) }
     ensures ready { IfOk result (λ draft. IsEventReady draft) }
-    ensures refused { IfErr result (λ e. client_of (view value.now) ≡ Err e) }
+    ensures refused { IfErr result (λ e. client_of format (view value.now) ≡ Err e) }
 {
     check_object(value, &["do", "proxy", "request"])?;
     let proxy = small_number(field(value, "proxy")?)?;
-    match request_draft(field(value, "request")?) {
+    match request_draft(format, field(value, "request")?) {
         Ok(request) => Ok(EventDraft::Client { proxy, request }),
         Err(refusal) => Err(refusal),
     }
@@ -157,16 +158,16 @@ fn proxy_restart_of(value: &Value) -> Result<EventDraft<'_>, PlanError>
 }
 
 /// Looks at an event whole, without taking memory, and tells the first refusal.
-pub fn event_draft(value: &Value) -> Result<EventDraft<'_>, PlanError>
-    ensures event { IfOk result (λ draft. event_of (view value.now) ≡ Ok (event_drafted draft)) }
+pub fn event_draft(format: Format, value: &Value) -> Result<EventDraft<'_>, PlanError>
+    ensures event { IfOk result (λ draft. event_of format (view value.now) ≡ Ok (event_drafted draft)) }
     ensures ready { IfOk result (λ draft. IsEventReady draft) }
-    ensures refused { IfErr result (λ e. event_of (view value.now) ≡ Err e) }
+    ensures refused { IfErr result (λ e. event_of format (view value.now) ≡ Err e) }
 {
     let kind = text(field(value, "do")?)?;
     if kind == "clock" {
         clock_of(value)
     } else if kind == "client" {
-        client_of(value)
+        client_of(format, value)
     } else if kind == "deliver" {
         deliver_of(value)
     } else if kind == "return" {
@@ -206,19 +207,19 @@ impl EventDraft<'_> {
 }
 
 /// Whether the value is an event.
-fn is_event(value: &Value) -> bool
-    ensures { result ≡ is_ok (event_of (view value.now)) }
+fn is_event(format: Format, value: &Value) -> bool
+    ensures { result ≡ is_ok (event_of format (view value.now)) }
 {
-    event_draft(value).is_ok()
+    event_draft(format, value).is_ok()
 }
 
 /// Looks at each event whole, without taking memory, and tells the index of the first that is none.
-pub fn check_events(values: &[Value]) -> Result<(), PlanError>
-    ensures accepted { OnOk result (IsOk (events_of 0 (map view values.now))) }
-    ensures refused { IfErr result (λ e. events_of 0 (map view values.now) ≡ Err e) }
+pub fn check_events(format: Format, values: &[Value]) -> Result<(), PlanError>
+    ensures accepted { OnOk result (IsOk (events_of format 0 (map view values.now))) }
+    ensures refused { IfErr result (λ e. events_of format 0 (map view values.now) ≡ Err e) }
 {
     for (index, value) in values.iter().enumerate() {
-        if !is_event(value) {
+        if !is_event(format, value) {
             return Err(PlanError::BadEvent(index));
         }
     }
@@ -226,24 +227,28 @@ pub fn check_events(values: &[Value]) -> Result<(), PlanError>
 }
 
 /// The event that a value is.
-fn make_event(alloc: Global, value: &Value) -> Result<Event, AllocError>
-    requires { IsOk (event_of (view value.now)) }
-    ensures { IfOk result (λ event. event_of (view value.now) ≡ Ok event) }
+fn make_event(alloc: Global, format: Format, value: &Value) -> Result<Event, AllocError>
+    requires { IsOk (event_of format (view value.now)) }
+    ensures { IfOk result (λ event. event_of format (view value.now) ≡ Ok event) }
 {
-    match event_draft(value) {
+    match event_draft(format, value) {
         Ok(draft) => draft.make(alloc),
         Err(_) => unreachable!(),
     }
 }
 
 /// The events that values are.
-pub fn make_events(alloc: Global, values: &[Value]) -> Result<Vec<Event>, AllocError>
-    requires { IsOk (events_of 0 (map view values.now)) }
-    ensures { IfOk result (λ events. events_of 0 (map view values.now) ≡ Ok events.items) }
+pub fn make_events(
+    alloc: Global,
+    format: Format,
+    values: &[Value],
+) -> Result<Vec<Event>, AllocError>
+    requires { IsOk (events_of format 0 (map view values.now)) }
+    ensures { IfOk result (λ events. events_of format 0 (map view values.now) ≡ Ok events.items) }
 {
     let mut events = Vec::with_capacity(alloc, values.len())?;
     for value in values {
-        events.push(make_event(alloc, value)?)?;
+        events.push(make_event(alloc, format, value)?)?;
     }
     Ok(events)
 }

@@ -6,10 +6,12 @@ ghost use Rattle.mr_text.specs.Key.{get_line_length};
 ghost use Rattle.mr_scripts.specs.Requests.{are_keys, keys_in, keys_of, get_of, set_of, delete_of, request_of};
 ghost use Rattle.mr_scripts.specs.RequestDraft.{request_drafted, IsRequestReady};
 
+use crate::blocks::{BlockDraft, block_draft};
 use crate::numbers::{flag, signed_whole_number, small_number};
-use crate::texts::{block_text, key_text, length_of, make_block, make_key};
+use crate::texts::{key_text, length_of, make_key};
 use mr_configs::PlanError;
 use mr_configs::fields::{check_object, field, list, text};
+use mr_format::Format;
 use mr_text::{Key, KeyList, MAX_LINE, Request};
 use serde_json::Value;
 use std::alloc::{AllocError, Global};
@@ -42,8 +44,8 @@ pub enum RequestDraft<'a> {
         flags: u32,
         /// When the item expires.
         exptime: i64,
-        /// The text of the block.
-        block: &'a str,
+        /// The block.
+        block: BlockDraft<'a>,
         /// The client wants no answer.
         noreply: bool,
     },
@@ -105,13 +107,13 @@ fn get_draft(value: &Value) -> Result<RequestDraft<'_>, PlanError>
 }
 
 /// The set that a value is.
-fn set_draft(value: &Value) -> Result<RequestDraft<'_>, PlanError>
-    ensures request { IfOk result (λ draft. set_of (view value.now) ≡ Ok (request_drafted draft)) }
+fn set_draft(format: Format, value: &Value) -> Result<RequestDraft<'_>, PlanError>
+    ensures request { IfOk result (λ draft. set_of format (view value.now) ≡ Ok (request_drafted draft)) }
     ensures ready { IfOk result (λ draft. IsRequestReady draft) }
-    ensures refused { IfErr result (λ e. set_of (view value.now) ≡ Err e) }
+    ensures refused { IfErr result (λ e. set_of format (view value.now) ≡ Err e) }
 {
     check_object(value, &SET_KEYS)?;
-    let block = block_text(field(value, "data")?)?;
+    let block = block_draft(format, field(value, "data")?)?;
     let exptime = signed_whole_number(field(value, "exptime")?)?;
     let flags = small_number(field(value, "flags")?)?;
     let key = key_text(field(value, "key")?)?;
@@ -138,16 +140,16 @@ fn delete_draft(value: &Value) -> Result<RequestDraft<'_>, PlanError>
 }
 
 /// Looks at a request whole, without taking memory, and tells the first refusal.
-pub fn request_draft(value: &Value) -> Result<RequestDraft<'_>, PlanError>
-    ensures request { IfOk result (λ draft. request_of (view value.now) ≡ Ok (request_drafted draft)) }
+pub fn request_draft(format: Format, value: &Value) -> Result<RequestDraft<'_>, PlanError>
+    ensures request { IfOk result (λ draft. request_of format (view value.now) ≡ Ok (request_drafted draft)) }
     ensures ready { IfOk result (λ draft. IsRequestReady draft) }
-    ensures refused { IfErr result (λ e. request_of (view value.now) ≡ Err e) }
+    ensures refused { IfErr result (λ e. request_of format (view value.now) ≡ Err e) }
 {
     let kind = text(field(value, "kind")?)?;
     if kind == "get" {
         get_draft(value)
     } else if kind == "set" {
-        set_draft(value)
+        set_draft(format, value)
     } else if kind == "delete" {
         delete_draft(value)
     } else {
@@ -198,7 +200,7 @@ impl RequestDraft<'_> {
                 key: make_key(alloc, key)?,
                 flags: *flags,
                 exptime: *exptime,
-                block: make_block(alloc, block)?,
+                block: block.make(alloc)?,
                 noreply: *noreply,
             },
             RequestDraft::Delete { key, noreply } => Request::Delete {

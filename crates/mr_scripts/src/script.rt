@@ -4,7 +4,7 @@ ghost use Rattle.mr_scripts.specs.Events.{events_of};
 ghost use Rattle.serde_json.specs.View.{view};
 ghost use Rattle.serde_json.specs.Written.{has_float};
 ghost use Rattle.std.specs.Prelude.{false};
-ghost use Rattle.mr_scripts.specs.Script.{format_check, count_in, counts_check, script_in, script_of, IsPlayable, RefusesParts, ReadsScript};
+ghost use Rattle.mr_scripts.specs.Script.{format_in, count_in, counts_check, script_in, script_of, IsPlayable, RefusesParts, ReadsScript};
 ghost use Rattle.mr_scripts.specs.ScriptDraft.{script_between, parts_between, parts_drafted, IsScriptReady};
 ghost use Rattle.mr_scripts.specs.SetupDraft.{setup_drafted, IsSetupReady};
 
@@ -14,6 +14,7 @@ use crate::setups::{SetupDraft, setup_draft};
 use mr_configs::fields::{check_object, field, list, whole_number};
 use mr_configs::laws::configurations_match;
 use mr_configs::{PlanError, json_of};
+use mr_format::Format;
 use mr_world::{Event, Setup};
 use serde_json::Value;
 use std::alloc::{AllocError, Global};
@@ -25,6 +26,7 @@ const SCRIPT_KEYS: [&str; 3] = ["events", "format", "setup"];
 /// A script: a fleet, and what happens to it.
 #[derive(Drop)]
 pub struct Script {
+    format: Format,
     setup: Setup,
     events: Vec<Event>,
     json: Value,
@@ -39,28 +41,27 @@ impl Model for Script {
 
     ghost coded = { Prim.hlevel (codes, json_value.the_row.coded) };
 
-    ghost view = { λ s. record { setup = s.setup; events = s.events.items; json = s.json } };
+    ghost view = { λ s. record { format = s.format; setup = s.setup; events = s.events.items; json = s.json } };
 
-    ghost invariant = { λ s. IsScript (record { setup = s.setup; events = s.events.items; json = s.json }) };
+    ghost invariant = { λ s. IsScript (record { format = s.format; setup = s.setup; events = s.events.items; json = s.json }) };
 }
 
 /// A script that was looked at whole, and is yet to be made.
 #[derive(Clone, Copy)]
 pub struct ScriptDraft<'a> {
+    /// How data stands in its text.
+    pub format: Format,
     /// The fleet.
     pub setup: SetupDraft<'a>,
     /// What happens to it.
     pub events: &'a [Value],
 }
 
-/// Looks whether the format is the one that there is.
-fn check_format(value: &Value) -> Result<(), PlanError>
-    ensures { result ≡ format_check (view value.now) }
+/// The format whose number a value is.
+fn format_in(value: &Value) -> Result<Format, PlanError>
+    ensures { result ≡ format_in (view value.now) }
 {
-    if whole_number(value)? != 1 {
-        return Err(PlanError::WrongKind);
-    }
-    Ok(())
+    Format::of_number(whole_number(value)?).ok_or(PlanError::WrongKind)
 }
 
 /// How many values a list has; none where it is no list.
@@ -85,16 +86,20 @@ fn check_counts(held: usize, proxies: usize, events: usize) -> Result<(), PlanEr
 
 /// The values of the events beside a setup, after all three lists were counted.
 #[tactic(auto, using(crate::proofs::ScriptLemmas::counted))]
-fn values_of_events<'a>(setup: &SetupDraft<'_>, events: &'a Value) -> Result<&'a [Value], PlanError>
-    requires { IsSetupReady setup.now }
-    ensures parts { IfOk result (λ values. script_between (setup_drafted setup.now)
-        (view events.now) ≡ parts_between (setup_drafted setup.now) (map view values.now)) }
-    ensures ready { IfOk result (λ values. IsOk (events_of 0 (map view values.now))) }
-    ensures refused { IfErr result (λ e. script_between (setup_drafted setup.now) (view events.now) ≡ Err e) }
+fn values_of_events<'a>(
+    format: Format,
+    setup: &SetupDraft<'_>,
+    events: &'a Value,
+) -> Result<&'a [Value], PlanError>
+    requires { IsSetupReady format setup.now }
+    ensures parts { IfOk result (λ values. script_between format (setup_drafted format setup.now)
+        (view events.now) ≡ parts_between format (setup_drafted format setup.now) (map view values.now)) }
+    ensures ready { IfOk result (λ values. IsOk (events_of format 0 (map view values.now))) }
+    ensures refused { IfErr result (λ e. script_between format (setup_drafted format setup.now) (view events.now) ≡ Err e) }
 {
     check_counts(setup.held.len(), setup.proxies.len(), count_in(events))?;
     let values = list(events)?;
-    match check_events(values) {
+    match check_events(format, values) {
         Ok(()) => Ok(values),
         Err(refusal) => Err(refusal),
     }
@@ -109,36 +114,40 @@ fn parts_draft(alloc: Global, value: &Value) -> Result<ScriptDraft<'_>, PlanErro
     let events = field(value, "events")?;
     let format = field(value, "format")?;
     let setup = field(value, "setup")?;
-    check_format(format)?;
-    let setup = match setup_draft(alloc, setup) {
+    let format = format_in(format)?;
+    let setup = match setup_draft(alloc, format, setup) {
         Ok(setup) => setup,
         Err(refusal) => return Err(refusal),
     };
-    match values_of_events(&setup, events) {
-        Ok(events) => Ok(ScriptDraft { setup, events }),
+    match values_of_events(format, &setup, events) {
+        Ok(events) => Ok(ScriptDraft {
+            format,
+            setup,
+            events,
+        }),
         Err(refusal) => Err(refusal),
     }
 }
 
 impl ScriptDraft<'_> {
     /// What it says, made.
-    fn make(&self, alloc: Global) -> Result<(Setup, Vec<Event>), AllocError>
+    fn make(&self, alloc: Global) -> Result<(Format, Setup, Vec<Event>), AllocError>
         requires { IsScriptReady self.now }
         ensures { IfOk result
-            (λ parts. parts_drafted self.now ≡ Ok (record { setup = parts.0; events = parts.1.items })) }
+            (λ parts. parts_drafted self.now ≡ Ok (record { format = parts.0; setup = parts.1; events = parts.2.items })) }
     {
-        let setup = self.setup.make(alloc)?;
-        let events = make_events(alloc, self.events)?;
-        Ok((setup, events))
+        let setup = self.setup.make(alloc, self.format)?;
+        let events = make_events(alloc, self.format, self.events)?;
+        Ok((self.format, setup, events))
     }
 }
 
-/// The fleet and the events that a value's keys of a script say. Whether it has other keys is looked at before.
+/// The format, the fleet and the events that a value's keys of a script say. Whether it has other keys is looked at before.
 #[tactic(auto, using(crate::proofs::HomeLemmas::read_as))]
-pub fn read_parts(alloc: Global, value: &Value) -> Result<(Setup, Vec<Event>), PlanError>
+pub fn read_parts(alloc: Global, value: &Value) -> Result<(Format, Setup, Vec<Event>), PlanError>
     ensures parts { IfOk result
-        (λ parts. script_in (view value.now) ≡ Ok (record { setup = parts.0; events = parts.1.items })) }
-    ensures playable { IfOk result (λ parts. IsPlayable parts.0) }
+        (λ parts. script_in (view value.now) ≡ Ok (record { format = parts.0; setup = parts.1; events = parts.2.items })) }
+    ensures playable { IfOk result (λ parts. IsPlayable parts.1) }
     ensures refused { IfErr result (λ e. RefusesParts (view value.now) e) }
 {
     configurations_match();
@@ -160,6 +169,13 @@ fn script_draft(alloc: Global, value: &Value) -> Result<ScriptDraft<'_>, PlanErr
 
 impl Script {
     ghost use Rattle.mr_scripts.specs.Script.{IsScript, IsPlayable};
+
+    /// How data stands in its text.
+    pub fn format(&self) -> Format
+        ensures { result ≡ self.now.format }
+    {
+        self.format
+    }
 
     /// The fleet.
     pub fn setup(&self) -> &Setup
@@ -191,13 +207,15 @@ impl Script {
         (self.setup, self.events, self.json)
     }
 
-    /// An equal script: the same fleet, the same events, and a JSON of the same value.
+    /// An equal script: the same format, the same fleet, the same events, and a JSON of the same value.
     pub fn copy(&self) -> Result<Script, AllocError>
+        ensures format { IfOk result (λ script. script.format ≡ self.now.format) }
         ensures setup { IfOk result (λ script. script.setup ≡ self.now.setup) }
         ensures events { IfOk result (λ script. script.events ≡ self.now.events) }
         ensures json { IfOk result (λ script. view script.json ≡ view self.now.json) }
     {
         Ok(Script {
+            format: self.format,
             setup: self.setup.copy()?,
             events: copied_events(&self.events)?,
             json: self.json.clone()?,
@@ -227,11 +245,12 @@ pub fn read_events(alloc: Global, bytes: &[u8]) -> Result<Script, PlanError>
         return Err(PlanError::TooLarge);
     }
     let json = json_of(alloc, bytes)?;
-    let (setup, events) = match script_draft(alloc, &json) {
+    let (format, setup, events) = match script_draft(alloc, &json) {
         Ok(draft) => draft.make(alloc)?,
         Err(refusal) => return Err(refusal),
     };
     Ok(Script {
+        format,
         setup,
         events,
         json,

@@ -11,6 +11,7 @@ use crate::homes::{are_housed, have_room};
 use crate::proxies::{check_proxies, make_proxies};
 use mr_configs::fields::{check_object, field, list, whole_number};
 use mr_configs::{Draft, PlanError, draft_of};
+use mr_format::Format;
 use mr_world::{Setup, WorldError};
 use serde_json::Value;
 use std::alloc::{AllocError, Global};
@@ -35,17 +36,18 @@ pub struct SetupDraft<'a> {
 #[tactic(auto, using(crate::proofs::HomeLemmas::setup_refused, crate::proofs::HomeLemmas::setup_ready))]
 fn check_homes(
     alloc: Global,
+    format: Format,
     config: &Value,
     capacity: usize,
     held: &[Value],
     proxies: &[Value],
 ) -> Result<(), PlanError>
-    requires held { IsOk (all_of held_of (map view held.now)) }
+    requires held { IsOk (all_of (held_of format) (map view held.now)) }
     requires proxies { (common : ConfigView) → IsOk (all_of (proxy_of common) (map view proxies.now)) }
     ensures accepted { OnOk result ((common : ConfigView) → config_of (view config.now) ≡ Ok common
-        → IsOk (setup_between common capacity (map view held.now) (map view proxies.now))) }
+        → IsOk (setup_between format common capacity (map view held.now) (map view proxies.now))) }
     ensures refused { IfErr result (λ e. (common : ConfigView) → config_of (view config.now) ≡ Ok common
-        → setup_between common capacity (map view held.now) (map view proxies.now) ≡ Err e) }
+        → setup_between format common capacity (map view held.now) (map view proxies.now) ≡ Err e) }
 {
     if !have_room(capacity, proxies) || !are_housed(alloc, config, proxies, held) {
         return Err(PlanError::BadSetup(WorldError::NoSuchNode));
@@ -54,10 +56,14 @@ fn check_homes(
 }
 
 /// Looks at a setup whole, and tells the first refusal. Want of memory is none of them: it takes longer then.
-pub fn setup_draft(alloc: Global, value: &Value) -> Result<SetupDraft<'_>, PlanError>
-    ensures setup { IfOk result (λ draft. setup_of (view value.now) ≡ setup_drafted draft) }
-    ensures ready { IfOk result (λ draft. IsSetupReady draft) }
-    ensures refused { IfErr result (λ e. setup_of (view value.now) ≡ Err e) }
+pub fn setup_draft(
+    alloc: Global,
+    format: Format,
+    value: &Value,
+) -> Result<SetupDraft<'_>, PlanError>
+    ensures setup { IfOk result (λ draft. setup_of format (view value.now) ≡ setup_drafted format draft) }
+    ensures ready { IfOk result (λ draft. IsSetupReady format draft) }
+    ensures refused { IfErr result (λ e. setup_of format (view value.now) ≡ Err e) }
 {
     check_object(value, &SETUP_KEYS)?;
     let capacity = field(value, "capacity")?;
@@ -70,10 +76,10 @@ pub fn setup_draft(alloc: Global, value: &Value) -> Result<SetupDraft<'_>, PlanE
         Err(refusal) => return Err(refusal),
     };
     let held = list(held)?;
-    check_held(held)?;
+    check_held(format, held)?;
     let proxies = list(proxies)?;
     check_proxies(proxies)?;
-    match check_homes(alloc, config, capacity, held, proxies) {
+    match check_homes(alloc, format, config, capacity, held, proxies) {
         Ok(()) => Ok(SetupDraft {
             capacity,
             common,
@@ -85,12 +91,12 @@ pub fn setup_draft(alloc: Global, value: &Value) -> Result<SetupDraft<'_>, PlanE
 }
 
 impl SetupDraft<'_> {
-    /// The setup, made.
-    pub fn make(&self, alloc: Global) -> Result<Setup, AllocError>
-        requires { IsSetupReady self.now }
-        ensures { IfOk result (λ setup. setup_drafted self.now ≡ Ok setup) }
+    /// The setup, made of values that were looked at in this format.
+    pub fn make(&self, alloc: Global, format: Format) -> Result<Setup, AllocError>
+        requires { IsSetupReady format self.now }
+        ensures { IfOk result (λ setup. setup_drafted format self.now ≡ Ok setup) }
     {
-        let held = make_held(alloc, self.held)?;
+        let held = make_held(alloc, format, self.held)?;
         let proxies = make_proxies(alloc, &self.common, self.proxies)?;
         Ok(Setup::new(proxies, self.capacity, held))
     }

@@ -4,13 +4,14 @@ use Rattle.std.specs.Borrow.{Bor}
 use Rattle.serde_json.specs.Data.{Data, boolean, number, string, array, Members, put}
 use Rattle.serde_json.specs.Find.{of_integer}
 use Rattle.serde_json.specs.View.{items_of}
-use Rattle.mr_shown.specs.Shown.{author_json, bytes_json, keys_json, number_json, op_json}
+use Rattle.mr_shown.specs.Shown.{author_json, bytes_json, data_json, keys_json, number_json, op_json}
 use Rattle.mr_shown.specs.declared.objects.Part.{Part}
 use Rattle.mr_shown.specs.declared.objects.Part.TheVariants as part
 
 abbrev pub part_json : Part → Data
 part_json (part.Text text) = string text.now
 part_json (part.Bytes bytes) = bytes_json bytes.now
+part_json (part.Data format bytes) = data_json format bytes.now
 part_json (part.Number n) = number_json n
 part_json (part.Signed n) = number (of_integer n)
 part_json (part.Flag flag) = boolean flag

@@ -4,6 +4,8 @@ use Rattle.std.specs.Str.{encode_utf8_all}
 use Rattle.serde_json.specs.Data.{Data, boolean, number, string, array, object, unsigned, Items, no_items, item, no_members, member}
 use Rattle.serde_json.specs.Find.{of_integer}
 use Rattle.serde_json.specs.View.{items_of}
+use Rattle.mr_format.specs.Data.{shown_data}
+use Rattle.mr_format.specs.declared.format.Format.{Format}
 use Rattle.mr_text.specs.CauseText.{text_of_cause}
 use Rattle.mr_text.specs.declared.item.Item.{Item}
 use Rattle.mr_text.specs.declared.reply.Reply.{Reply}
@@ -26,6 +28,10 @@ use Rattle.mr_shown.specs.declared.verdict.KeptVerdict.TheVariants.{Safe, Stale,
 abbrev pub bytes_json : List ℕ → Data
 bytes_json bytes = string (encode_utf8_all bytes)
 
+-- data as its text in a format
+abbrev pub data_json : Format → List ℕ → Data
+data_json format bytes = string (encode_utf8_all (shown_data format bytes))
+
 abbrev pub number_json : ℕ → Data
 number_json n = number (unsigned n)
 
@@ -35,60 +41,60 @@ op_json op = array (item (number_json op.proxy) (item (number_json op.incarnatio
 abbrev pub keys_json : List (List ℕ) → Items
 keys_json keys = items_of (map bytes_json keys)
 
-abbrev pub request_json : Request → Data
-request_json (request.Get keys) = object (member (codes "keys") (array (keys_json keys)) (member (codes "kind") (string (codes "get")) no_members))
-request_json (request.Set key flags exptime block noreply) =
+abbrev pub request_json : Format → Request → Data
+request_json format (request.Get keys) = object (member (codes "keys") (array (keys_json keys)) (member (codes "kind") (string (codes "get")) no_members))
+request_json format (request.Set key flags exptime block noreply) =
     object
-    (member (codes "data") (bytes_json block)
+    (member (codes "data") (data_json format block)
     (member (codes "exptime") (number (of_integer exptime))
     (member (codes "flags") (number_json flags)
     (member (codes "key") (bytes_json key)
     (member (codes "kind") (string (codes "set"))
     (member (codes "noreply") (boolean noreply) no_members))))))
-request_json (request.Delete key noreply) =
+request_json format (request.Delete key noreply) =
     object (member (codes "key") (bytes_json key) (member (codes "kind") (string (codes "delete")) (member (codes "noreply") (boolean noreply) no_members)))
-request_json request.Quit = object (member (codes "kind") (string (codes "quit")) no_members)
+request_json format request.Quit = object (member (codes "kind") (string (codes "quit")) no_members)
 
 -- an item with its key, flags and data
-abbrev pub item_json : Item → Data
-item_json i = object (member (codes "data") (bytes_json i.block) (member (codes "flags") (number_json i.flags) (member (codes "key") (bytes_json i.key) no_members)))
+abbrev pub item_json : Format → Item → Data
+item_json format i = object (member (codes "data") (data_json format i.block) (member (codes "flags") (number_json i.flags) (member (codes "key") (bytes_json i.key) no_members)))
 
-abbrev pub items_json : List Item → Items
-items_json items = items_of (map item_json items)
+abbrev pub items_json : Format → List Item → Items
+items_json format items = items_of (map (item_json format) items)
 
 -- a proxy's answer is one of the first four or a server's error
-abbrev pub reply_json : Reply → Data
-reply_json (reply.Items items) = object (member (codes "items") (array (items_json items)) no_members)
-reply_json reply.Stored = string (codes "stored")
-reply_json reply.Deleted = string (codes "deleted")
-reply_json reply.NotFound = string (codes "not_found")
-reply_json (reply.ServerError cause) = object (member (codes "server_error") (bytes_json (text_of_cause cause)) no_members)
-reply_json (reply.ClientError cause) = object (member (codes "client_error") (bytes_json (text_of_cause cause)) no_members)
-reply_json reply.Error = string (codes "error")
+abbrev pub reply_json : Format → Reply → Data
+reply_json format (reply.Items items) = object (member (codes "items") (array (items_json format items)) no_members)
+reply_json format reply.Stored = string (codes "stored")
+reply_json format reply.Deleted = string (codes "deleted")
+reply_json format reply.NotFound = string (codes "not_found")
+reply_json format (reply.ServerError cause) = object (member (codes "server_error") (bytes_json (text_of_cause cause)) no_members)
+reply_json format (reply.ClientError cause) = object (member (codes "client_error") (bytes_json (text_of_cause cause)) no_members)
+reply_json format reply.Error = string (codes "error")
 
 abbrev pub author_json : Author → Data
 author_json Beginning = string (codes "beginning")
 author_json (By op) = op_json op
 
-abbrev pub entry_json : Entry → Data
-entry_json (entry.Issued op proxy request) =
+abbrev pub entry_json : Format → Entry → Data
+entry_json format (entry.Issued op proxy request) =
     object
     (member (codes "entry") (string (codes "issued"))
-    (member (codes "op") (op_json op) (member (codes "proxy") (number_json proxy) (member (codes "request") (request_json request) no_members))))
-entry_json (entry.Stored by key flags block) =
+    (member (codes "op") (op_json op) (member (codes "proxy") (number_json proxy) (member (codes "request") (request_json format request) no_members))))
+entry_json format (entry.Stored by key flags block) =
     object
     (member (codes "by") (author_json by)
-    (member (codes "data") (bytes_json block)
+    (member (codes "data") (data_json format block)
     (member (codes "entry") (string (codes "stored")) (member (codes "flags") (number_json flags) (member (codes "key") (bytes_json key) no_members)))))
-entry_json (entry.Removed op side key) =
+entry_json format (entry.Removed op side key) =
     object
     (member (codes "entry") (string (codes "removed"))
     (member (codes "key") (bytes_json key) (member (codes "op") (op_json op) (member (codes "side") (string (side_text side)) no_members))))
-entry_json (entry.Answered op reply) =
-    object (member (codes "entry") (string (codes "answered")) (member (codes "op") (op_json op) (member (codes "reply") (reply_json reply) no_members)))
+entry_json format (entry.Answered op reply) =
+    object (member (codes "entry") (string (codes "answered")) (member (codes "op") (op_json op) (member (codes "reply") (reply_json format reply) no_members)))
 
-abbrev pub entries_json : List Entry → Items
-entries_json entries = items_of (map entry_json entries)
+abbrev pub entries_json : Format → List Entry → Items
+entries_json format entries = items_of (map (entry_json format) entries)
 
 abbrev pub note_json : Note → Data
 note_json Nothing = string (codes "nothing")

@@ -8,14 +8,17 @@ use crate::arrays::{Shown, array_of};
 use crate::objects::{Part, object_of, object_with};
 use crate::replies::reply_value;
 use crate::requests::request_value;
+use mr_format::Format;
 use mr_history::Entry;
 use serde_json::Value;
 use std::alloc::{AllocError, Global};
 
 impl Shown for Entry {
+    type Style = Format;
+
     ghost json = { entry_json };
 
-    fn value(&self, alloc: Global) -> Result<Value, AllocError> {
+    fn value(&self, alloc: Global, format: Format) -> Result<Value, AllocError> {
         match self {
             Entry::Issued { op, proxy, request } => {
                 let members = [
@@ -23,7 +26,12 @@ impl Shown for Entry {
                     ("op", Part::Op(*op)),
                     ("proxy", Part::Number(*proxy as u64)),
                 ];
-                object_with(alloc, &members, "request", request_value(alloc, request))
+                object_with(
+                    alloc,
+                    &members,
+                    "request",
+                    request_value(alloc, format, request),
+                )
             }
             Entry::Stored {
                 by,
@@ -34,7 +42,7 @@ impl Shown for Entry {
                 alloc,
                 &[
                     ("by", Part::Author(*by)),
-                    ("data", Part::Bytes(block.as_bytes())),
+                    ("data", Part::Data(format, block.as_bytes())),
                     ("entry", Part::Text("stored")),
                     ("flags", Part::Number(*flags as u64)),
                     ("key", Part::Bytes(key.as_bytes())),
@@ -51,15 +59,15 @@ impl Shown for Entry {
             ),
             Entry::Answered { op, reply } => {
                 let members = [("entry", Part::Text("answered")), ("op", Part::Op(*op))];
-                object_with(alloc, &members, "reply", reply_value(alloc, reply))
+                object_with(alloc, &members, "reply", reply_value(alloc, format, reply))
             }
         }
     }
 }
 
-/// A history, entry by entry.
-pub fn history_value(alloc: Global, entries: &[Entry]) -> Result<Value, AllocError>
-    ensures { IfOk result (λ value. view value ≡ array (entries_json entries.now)) }
+/// A history, entry by entry, its data in a format.
+pub fn history_value(alloc: Global, format: Format, entries: &[Entry]) -> Result<Value, AllocError>
+    ensures { IfOk result (λ value. view value ≡ array (entries_json format entries.now)) }
 {
-    array_of(alloc, entries)
+    array_of(alloc, format, entries)
 }

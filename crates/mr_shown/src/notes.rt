@@ -12,9 +12,11 @@ use serde_json::Value;
 use std::alloc::{AllocError, Global};
 
 impl Shown for Note {
-    ghost json = { note_json };
+    type Style = ();
 
-    fn value(&self, alloc: Global) -> Result<Value, AllocError> {
+    ghost json = { λ _ note. note_json note };
+
+    fn value(&self, alloc: Global, _style: ()) -> Result<Value, AllocError> {
         match self {
             Note::Nothing => Value::try_from_str(alloc, "nothing"),
             Note::Issued { op, first, count } => object_of(
@@ -38,7 +40,7 @@ impl Shown for Note {
 pub fn notes_value(alloc: Global, notes: &[Note]) -> Result<Value, AllocError>
     ensures { IfOk result (λ value. view value ≡ array (notes_json notes.now)) }
 {
-    array_of(alloc, notes)
+    array_of(alloc, (), notes)
 }
 
 /// Which premises hold.

@@ -5,7 +5,8 @@ ghost use Rattle.serde_json.specs.View.{view, members_view};
 ghost use Rattle.mr_shown.specs.Objects.{part_json, members_json};
 
 use crate::arrays::array_of;
-use crate::parts::{author_value, bytes_value, op_value};
+use crate::parts::{author_value, bytes_value, data_value, op_value};
+use mr_format::Format;
 use mr_history::{Author, OpId};
 use mr_text::Key;
 use serde_json::{Map, Value, put};
@@ -16,8 +17,10 @@ use std::alloc::{AllocError, Global};
 pub enum Part<'a> {
     /// A text.
     Text(&'a str),
-    /// Bytes.
+    /// Bytes that are the same text in each format: a key, or what an error says.
     Bytes(&'a [u8]),
+    /// Data, and the format of its text.
+    Data(Format, &'a [u8]),
     /// A number that is not negative.
     Number(u64),
     /// A number, which may be negative.
@@ -43,13 +46,14 @@ fn part_value(alloc: Global, part: Part<'_>) -> Result<Value, AllocError>
     match part {
         Part::Text(text) => Value::try_from_str(alloc, text),
         Part::Bytes(bytes) => bytes_value(alloc, bytes),
+        Part::Data(format, bytes) => data_value(alloc, format, bytes),
         Part::Number(number) => Ok(Value::from(number)),
         Part::Signed(number) => Ok(Value::from(number)),
         Part::Flag(flag) => Ok(Value::Bool(flag)),
         Part::Op(op) => op_value(alloc, op),
         Part::Author(by) => author_value(alloc, by),
-        Part::Numbers(numbers) => array_of(alloc, numbers),
-        Part::Keys(keys) => array_of(alloc, keys),
+        Part::Numbers(numbers) => array_of(alloc, (), numbers),
+        Part::Keys(keys) => array_of(alloc, (), keys),
     }
 }
 

@@ -5,18 +5,21 @@ ghost use Rattle.mr_shown.specs.Shown.{item_json, reply_json};
 
 use crate::arrays::{Shown, array_of};
 use crate::objects::{Part, object_of, object_with};
+use mr_format::Format;
 use mr_text::{Item, Reply};
 use serde_json::Value;
 use std::alloc::{AllocError, Global};
 
 impl Shown for Item {
+    type Style = Format;
+
     ghost json = { item_json };
 
-    fn value(&self, alloc: Global) -> Result<Value, AllocError> {
+    fn value(&self, alloc: Global, format: Format) -> Result<Value, AllocError> {
         object_of(
             alloc,
             &[
-                ("data", Part::Bytes(self.block.as_bytes())),
+                ("data", Part::Data(format, self.block.as_bytes())),
                 ("flags", Part::Number(self.flags as u64)),
                 ("key", Part::Bytes(self.key.as_bytes())),
             ],
@@ -25,12 +28,13 @@ impl Shown for Item {
 }
 
 /// An answer.
-pub fn reply_value(alloc: Global, reply: &Reply) -> Result<Value, AllocError>
-    ensures { IfOk result (λ value. view value ≡ reply_json reply.now) }
+pub fn reply_value(alloc: Global, format: Format, reply: &Reply) -> Result<Value, AllocError>
+    ensures { IfOk result (λ value. view value ≡ reply_json format reply.now) }
 {
     match reply {
         Reply::Items(items) => {
-            object_with(alloc, &[], "items", array_of(alloc, items.as_slice()))
+            let items = array_of(alloc, format, items.as_slice());
+            object_with(alloc, &[], "items", items)
         }
         Reply::Stored => Value::try_from_str(alloc, "stored"),
         Reply::Deleted => Value::try_from_str(alloc, "deleted"),

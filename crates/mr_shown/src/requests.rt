@@ -4,13 +4,14 @@ ghost use Rattle.serde_json.specs.View.{view};
 ghost use Rattle.mr_shown.specs.Shown.{request_json};
 
 use crate::objects::{Part, object_of};
+use mr_format::Format;
 use mr_text::Request;
 use serde_json::Value;
 use std::alloc::{AllocError, Global};
 
 /// A request with all that it asks for.
-pub fn request_value(alloc: Global, request: &Request) -> Result<Value, AllocError>
-    ensures { IfOk result (λ value. view value ≡ request_json request.now) }
+pub fn request_value(alloc: Global, format: Format, request: &Request) -> Result<Value, AllocError>
+    ensures { IfOk result (λ value. view value ≡ request_json format request.now) }
 {
     match request {
         Request::Get { keys } => object_of(
@@ -29,7 +30,7 @@ pub fn request_value(alloc: Global, request: &Request) -> Result<Value, AllocErr
         } => object_of(
             alloc,
             &[
-                ("data", Part::Bytes(block.as_bytes())),
+                ("data", Part::Data(format, block.as_bytes())),
                 ("exptime", Part::Signed(*exptime)),
                 ("flags", Part::Number(*flags as u64)),
                 ("key", Part::Bytes(key.as_bytes())),

@@ -1,12 +1,11 @@
 -- A set of which the line was read: what its line says, and what is read of it behind the line.
-use Rattle.std.proofs.Common.{◌≡◌, ◌≢◌, ℕ, ◌+◌, ◌<◌, ◌≤◌, Bool, true, false, List, [], ◌++◌, length, take, drop, Result, Ok, Err, refl, sym, ◌∙◌, ap, subst, arith, inl, inr, ℤ, length-append, length-drop}
+use Rattle.std.proofs.Common.{◌≡◌, ◌≢◌, ℕ, ◌+◌, ◌≤◌, Bool, true, false, List, [], ◌++◌, length, take, drop, Ok, Err, refl, ◌∙◌, ap, subst, arith, inl, inr, ℤ, length-drop}
 use Rattle.std.proofs.Math.Seq.{drop-append_seam}
 use Rattle.mr_lines.specs.Words.{words_of}
 use Rattle.mr_text.specs.Limits.{MAX_BLOCK}
-use Rattle.mr_text.specs.Line.{HasLineFeed}
 use Rattle.mr_text.specs.Requests.{IsSetLine, HasReadLine}
-use Rattle.mr_text.specs.Stream.{ReaderView, Holds, HoldsFew}
-use Rattle.mr_text.specs.steps.Reading.{StretchReading, line_reading, command_line, block_reading, set_reading, request_reading}
+use Rattle.mr_text.specs.Stream.{ReaderView, HoldsFew}
+use Rattle.mr_text.specs.steps.Reading.{line_reading, command_line, block_reading, set_reading, request_reading}
 use Rattle.mr_text.specs.steps.Reading.StretchReading.{Waits, Gives, Refused}
 use Rattle.mr_text.specs.steps.Reading.CommandLine.{SetLine}
 use Rattle.mr_text.specs.declared.error.TextError.{TextError}

@@ -1,5 +1,5 @@
 -- What `next` answers, of requests or replies, from what the reading of the bytes that are left finds.
-use Rattle.std.proofs.Common.{◌≡◌, ◌≢◌, ℕ, Bool, true, false, List, [], ◌++◌, length, take, drop, Option, Some, None, Result, Ok, Err, sym, ◌∙◌, ap, subst}
+use Rattle.std.proofs.Common.{◌≡◌, ◌≢◌, ℕ, Bool, true, false, List, [], ◌++◌, length, take, drop, Option, Some, None, Result, Ok, Err, sym}
 use Rattle.std.proofs.lemmas.List.{take-append-drop}
 use Rattle.mr_text.specs.Stream.{ReaderView, Becomes, BeginsWith, IsUnfinished, NextIs}
 use Rattle.mr_text.specs.steps.Reading.{StretchReading}

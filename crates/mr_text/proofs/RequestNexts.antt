@@ -1,5 +1,5 @@
 -- The facts about the reading of requests that `next` rests on.
-use Rattle.std.proofs.Common.{◌≡◌, ℕ, List, take, drop, true, false, Option, Some, None, Result, Ok, Err, sym, ◌∙◌, ap, subst, cond}
+use Rattle.std.proofs.Common.{◌≡◌, ℕ, List, take, drop, true, false, Option, Some, Result, Ok, Err, sym, ◌∙◌, ap, subst, cond}
 use Rattle.mr_text.specs.Requests.{SpellsRequest, RefusesRequest, SkipsLine, HasReadLine, BegunAfter, is_quit}
 use Rattle.mr_text.specs.Stream.{ReaderView, StandsFor, Becomes, HoldsFew, skips_line}
 use Rattle.mr_text.specs.steps.RequestNext.{IsNextRequest}

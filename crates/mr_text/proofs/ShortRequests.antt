@@ -90,7 +90,7 @@ set_waits bytes key flags exptime n noreply size (Ok false) e = refl
 set_waits bytes key flags exptime n noreply size (Err refusal) e = cc
 
 command_waits : (bytes : List ℕ) (words : List (List ℕ)) (size : ℕ) (r : Result CommandLine TextError) → LineSays words r → size ≤ 8194 → size ≤ length bytes
-    → request_of_line bytes size r ≡ Waits → length bytes < 16388
+    → request_of_line bytes size r ≡ Waits → length bytes < MAX_LINE + 2 + MAX_BLOCK + 2
 command_waits bytes words size (Ok (GetLine keys)) says low within e = cc
 command_waits bytes words size (Ok (DeleteLine key noreply)) says low within e = cc
 command_waits bytes words size (Ok QuitLine) says low within e = cc
@@ -123,18 +123,18 @@ line_waits bytes e = go (byte_place 10 bytes) refl
     go (Some place) is =
         some (nat_lt MAX_LINE (length (without_carriage_return (take place bytes)))) (without_carriage_return (take place bytes)) (place + 1) (rw is at e)
 
-waits_short : (bytes : List ℕ) → request_reading bytes ≡ Waits → length bytes < 16388
+waits_short : (bytes : List ℕ) → request_reading bytes ≡ Waits → length bytes < MAX_LINE + 2 + MAX_BLOCK + 2
 unfolding request_reading
 waits_short bytes e = go (line_reading bytes) refl (line_is bytes)
   where
-    go : (r : StretchReading (List ℕ)) → line_reading bytes ≡ r → LineIs bytes r → length bytes < 16388
+    go : (r : StretchReading (List ℕ)) → line_reading bytes ≡ r → LineIs bytes r → length bytes < MAX_LINE + 2 + MAX_BLOCK + 2
     go Waits is read = let low = (line_waits bytes is).1 in omega arith
     go (Gives line size) is read =
         command_waits bytes (words_of line) size (command_line (words_of line)) (line_says (words_of line)) (line_short bytes line size read) read.within (rw is at e)
     go (Refused refusal size) is read = let never : request_of_reading bytes (Refused refusal size) ≡ Waits = (rw is at e) in cc
 
 -- so many bytes always hold a request or a refusal
-pub unfinished_short : (bytes : List ℕ) → IsUnfinished SpellsRequest RefusesRequest bytes → length bytes < 16388
+pub unfinished_short : (bytes : List ℕ) → IsUnfinished SpellsRequest RefusesRequest bytes → length bytes < MAX_LINE + 2 + MAX_BLOCK + 2
 unfinished_short bytes h = waits_short bytes (unfinished_waits bytes h)
 
 nothing_waits : request_reading [] ≡ Waits

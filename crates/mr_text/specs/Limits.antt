@@ -11,7 +11,7 @@ MAX_LINE = 8192
 
 -- the longest block
 abbrev pub MAX_BLOCK : ℕ
-MAX_BLOCK = 8192
+MAX_BLOCK = 1048576
 
 -- the longest text of an error that has no name
 abbrev pub MAX_ERROR_TEXT : ℕ
@@ -23,7 +23,7 @@ MAX_ITEMS = 4094
 
 -- the most bytes that a reader holds where nothing is whole: the longest line or block, and the first byte of its end
 abbrev pub MAX_HELD : ℕ
-MAX_HELD = 8193
+MAX_HELD = 1048577
 
 -- how many bytes of a text are gathered before they go out, and how many there is room for in each read
 abbrev pub FIXED_BUFFER : ℕ

@@ -7,6 +7,7 @@ pub mod Spelled
 pub mod StreamView
 pub mod Waiting
 pub mod BegunSet
+pub mod Place
 pub mod RequestNext
 pub mod Reading
 pub mod CommandView

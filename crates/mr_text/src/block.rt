@@ -1,28 +1,47 @@
 //! The data of items.
-ghost use Rattle.std.specs.Prelude.{◌≡◌, ◌≤◌, length, IfOk, ◌↔◌, IsTrue};
+ghost use Rattle.std.specs.Prelude.{◌≡◌, ◌+◌, ◌≤◌, length, take, drop, IfOk, IfErr, ◌↔◌, IsTrue};
 ghost use Rattle.mr_text.specs.Block.{IsBlock};
 ghost use Rattle.mr_text.specs.declared.error.TextError.TheVariants.{DataTooLong};
 
 use crate::error::TextError;
-use crate::limits::MAX_BLOCK;
-use std::alloc::{AllocError, Global};
+use crate::limits::{LARGE_BLOCK, MAX_BLOCK};
+use bytes::Bytes;
+use std::alloc::{AllocError, AllocFailed, Global};
 use std::marker::Model;
 
-/// The data of an item: up to 8,192 bytes of any value.
+/// Where the bytes of a block stand.
 #[derive(Debug, Drop)]
+pub(crate) enum Place {
+    /// In a room of their own.
+    Own(Vec<u8>),
+    /// Where the copies of the block have them too.
+    Shared(Bytes),
+}
+
+/// The data of an item: up to 1,048,576 bytes of any value. A copy of a large one takes no memory: both share its bytes,
+/// which nobody changes.
+#[derive(Debug)]
 pub struct Block {
-    bytes: Vec<u8>,
+    place: Place,
+}
+
+// By hand, so that who drops a block needs to know nothing of its places.
+impl Drop for Block {
+    fn drop(self) {
+        let Block { place: _ } = self;
+    }
 }
 
 impl Model for Block {
     ghost use Rattle.std.specs.Prelude.{ℕ, List};
     ghost use Rattle.mr_text.specs.Block.{IsBlock};
+    ghost use Rattle.mr_text.specs.steps.Place.{bytes_at};
 
     ghost Value = { List ℕ };
 
-    ghost view = { λ b. b.bytes.items };
+    ghost view = { λ b. bytes_at b.place };
 
-    ghost invariant = { λ b. IsBlock b.bytes.items };
+    ghost invariant = { λ b. IsBlock (bytes_at b.place) };
 }
 
 impl Block {
@@ -43,8 +62,32 @@ impl Block {
         requires { IsBlock bytes.now }
         ensures { IfOk result (λ block. block ≡ bytes.now) }
     {
-        let bytes = Vec::from_slice(alloc, bytes)?;
-        Ok(Block { bytes })
+        let place = if bytes.len() < LARGE_BLOCK {
+            Place::Own(Vec::from_slice(alloc, bytes)?)
+        } else {
+            Place::Shared(Bytes::copy_from_slice(alloc, bytes)?)
+        };
+        Ok(Block { place })
+    }
+
+    /// The block that stands in a room from this place on, and that takes the room along. Where memory for the count of its
+    /// owners is refused, the room comes back.
+    pub(crate) fn of_room(
+        room: Vec<u8>,
+        start: usize,
+        count: usize,
+    ) -> Result<Block, AllocFailed<Vec<u8>>>
+        requires within { start + count ≤ length room.items }
+        requires allowed { count ≤ MAX_BLOCK }
+        ensures block { IfOk result (λ block. block ≡ take count (drop start room.items)) }
+        ensures room { IfErr result (λ failed. failed.value.items ≡ room.items) }
+    {
+        let mut bytes = Bytes::from_vec(room)?;
+        bytes.advance(start);
+        bytes.truncate(count);
+        Ok(Block {
+            place: Place::Shared(bytes),
+        })
     }
 
     /// The bytes of the block.
@@ -52,7 +95,10 @@ impl Block {
         ensures bytes { result.now ≡ self.now }
         ensures block { IsBlock result.now }
     {
-        self.bytes.as_slice()
+        match &self.place {
+            Place::Own(bytes) => bytes.as_slice(),
+            Place::Shared(bytes) => bytes.as_slice(),
+        }
     }
 
     /// Whether the other block is equal.
@@ -66,6 +112,11 @@ impl Block {
     pub fn copy(&self) -> Result<Block, AllocError>
         ensures { IfOk result (λ block. block ≡ self.now) }
     {
-        Block::of(*self.bytes.allocator(), self.as_bytes())
+        match &self.place {
+            Place::Own(bytes) => Block::of(*bytes.allocator(), bytes.as_slice()),
+            Place::Shared(bytes) => Ok(Block {
+                place: Place::Shared(bytes.clone()?),
+            }),
+        }
     }
 }

@@ -160,7 +160,7 @@ fed_fails before now after reader turns buffer fault h read =
     }
 
 -- so many reads are never made: their bytes hold a request or a refusal
-pub fed_spent : (before now : SourceView) (reader : ReaderView) (turns : ℕ) → HasFed before now reader turns → 16389 ≤ turns → ⊥
+pub fed_spent : (before now : SourceView) (reader : ReaderView) (turns : ℕ) → HasFed before now reader turns → most_reads ≤ turns → ⊥
 fed_spent before now reader turns h all =
     let short = unfinished_short h.fed h.waits in
     let brought = h.brought in

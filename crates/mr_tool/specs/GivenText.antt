@@ -17,6 +17,12 @@ Makes = List ℕ → List ℕ → Ended → Type 0
 abbrev pub RefusalOfBytes : Type 1
 RefusalOfBytes = List ℕ → PlanError → Type 0
 
+-- why no text is made of bytes: they are refused, or memory is refused for a text of theirs
+abbrev pub IsTextFault : Makes → RefusalOfBytes → List ℕ → Fault → Type 0
+IsTextFault makes refuses bytes (Plan refusal) = refuses bytes refusal
+IsTextFault makes refuses bytes Memory = (text : List ℕ) × (ended : Ended) × makes bytes text ended
+IsTextFault makes refuses bytes fault = ⊥
+
 -- the text of the bytes that were given was handed to the output in one call, which answered so
 pub record WritesText (makes : Makes) (file : Option (List ℕ)) (ended : Ended) (before after : Devices) (answer : Result (Unit {0}) WriteFault) : Type 0 where
   pub bytes : List ℕ

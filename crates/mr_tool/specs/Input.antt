@@ -4,6 +4,7 @@ use Rattle.std.specs.Prelude.{◌≡◌, ℕ, ◌+◌, ◌<◌, ◌≤◌, ◌�
 use Rattle.mr_configs.specs.Config.{ConfigView, ReadsConfig}
 use Rattle.mr_configs.specs.declared.error.PlanError.{PlanError}
 use Rattle.mr_configs.specs.declared.error.PlanError.TheVariants.{TooLarge}
+use Rattle.mr_text.specs.Limits.{MAX_LINE, MAX_BLOCK}
 use Rattle.mr_text.specs.Requests.{SpellsRequest, RefusesRequest}
 use Rattle.mr_text.specs.Source.{SourceView, AreOffered}
 use Rattle.mr_text.specs.Stream.{ReaderView, Becomes, BeginsWith, IsUnfinished}
@@ -116,9 +117,10 @@ IsNextOf reader bytes (Ok (Some request)) = Hold bytes (Ok request)
 IsNextOf reader bytes (Ok None) = Becomes reader bytes false false × HoldsNoRequest bytes
 IsNextOf reader bytes (Err fault) = Hold bytes (Err fault)
 
--- the most reads of one request
+-- the most reads of one request: one for each byte of its line and of its block, with their ends, and one that finds the end of
+-- the input
 abbrev pub most_reads : ℕ
-most_reads = 16389
+most_reads = (MAX_LINE + 2) + (MAX_BLOCK + 2) + 1
 
 -- These bytes were read, and then this piece. Each read but the last brought a byte, and no request or refusal.
 pub record HasRead (early piece : List ℕ) (before after : SourceView) : Type 0 where

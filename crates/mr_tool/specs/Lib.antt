@@ -17,4 +17,5 @@ pub mod Services
 pub mod Sources
 pub mod TimelineCommand
 pub mod TimelineText
+pub mod UpgradeCommand
 pub mod VersionCommand

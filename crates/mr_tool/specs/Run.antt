@@ -10,6 +10,7 @@ use Rattle.mr_tool.specs.PlanCommand.{PlanGives}
 use Rattle.mr_tool.specs.RunCommand.{RunGives}
 use Rattle.mr_tool.specs.Services.{NodeGives, ProxyGives}
 use Rattle.mr_tool.specs.TimelineCommand.{TimelineGives}
+use Rattle.mr_tool.specs.UpgradeCommand.{UpgradeGives}
 use Rattle.mr_tool.specs.VersionCommand.{VersionGives}
 use Rattle.mr_words.specs.Words.{Say, SayBadReadings, SayNothing, SayVersion, path_in}
 use Rattle.mr_tool.specs.declared.ended.Ended.{Ended}
@@ -18,7 +19,7 @@ use Rattle.mr_tool.specs.declared.fault.Fault.{Fault}
 use Rattle.mr_tool.specs.declared.fault.Fault.TheVariants.{Memory}
 use Rattle.mr_sockets.specs.Servers.{ServersView}
 use Rattle.mr_words.specs.declared.words.Wanted.{Wanted}
-use Rattle.mr_words.specs.declared.words.Wanted.TheVariants.{Plan, Timeline, Run, Check, Node, Proxy, Explain}
+use Rattle.mr_words.specs.declared.words.Wanted.TheVariants.{Plan, Timeline, Run, Check, Upgrade, Node, Proxy, Explain}
 
 -- the status of a run that did what was wanted
 abbrev pub DONE : ℕ
@@ -48,6 +49,7 @@ Gives (Plan values) before after idle busy result = PlanGives values before afte
 Gives (Timeline values) before after idle busy result = TimelineGives values before after result × (busy ≡ idle)
 Gives (Run file) before after idle busy result = RunGives (path_in file) before after result × (busy ≡ idle)
 Gives (Check file) before after idle busy result = CheckGives (path_in file) before after result × (busy ≡ idle)
+Gives (Upgrade file) before after idle busy result = UpgradeGives (path_in file) before after result × (busy ≡ idle)
 Gives (Node values) before after idle busy result = NodeGives values before after idle busy result
 Gives (Proxy values) before after idle busy result = ProxyGives values before after idle busy result
 Gives (Explain explanation) before after idle busy result = ExplainGives (told_by explanation) before after result × (busy ≡ idle)
@@ -111,6 +113,7 @@ most_reads_of (Plan values) = most_reads
 most_reads_of (Timeline values) = 0
 most_reads_of (Run file) = reads_without (path_in file)
 most_reads_of (Check file) = reads_without (path_in file)
+most_reads_of (Upgrade file) = reads_without (path_in file)
 most_reads_of (Node values) = 0
 most_reads_of (Proxy values) = 0
 most_reads_of (Explain explanation) = 0

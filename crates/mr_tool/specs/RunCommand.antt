@@ -9,14 +9,13 @@ use Rattle.mr_tool.specs.GivenText.{PrintsOf}
 use Rattle.mr_tool.specs.declared.ended.Ended.{Ended}
 use Rattle.mr_tool.specs.declared.ended.Ended.TheVariants.{Done}
 use Rattle.mr_tool.specs.declared.fault.Fault.{Fault}
-use Rattle.mr_tool.specs.declared.fault.Fault.TheVariants.{Memory, Plan}
 
 -- the bytes are a script, and the text is its transcript with a line end
 pub record IsPlayed (bytes text : List ℕ) : Type 0 where
   pub script : ScriptView
   pub transcript : List ℕ
   pub reads : ReadsScript bytes (Ok script)
-  pub is_transcript : IsTranscript (view script.json) script.setup script.events transcript
+  pub is_transcript : IsTranscript script.format (view script.json) script.setup script.events transcript
   pub text_is : text ≡ transcript ++ codes "\n"
 
 -- what a run prints of bytes; what was wanted is done then
@@ -27,13 +26,7 @@ MakesTranscript bytes text ended = IsPlayed bytes text × (ended ≡ Done)
 abbrev pub RefusesPlay : List ℕ → PlanError → Type 0
 RefusesPlay bytes refusal =
     ReadsScript bytes (Err refusal)
-    ⊎ ((script : ScriptView) × ReadsScript bytes (Ok script) × RefusesTranscript (view script.json) script.setup script.events refusal)
-
--- why no text is made of bytes: they have no transcript, or memory is refused for the line end of theirs
-abbrev pub IsPlayFault : List ℕ → Fault → Type 0
-IsPlayFault bytes (Plan refusal) = RefusesPlay bytes refusal
-IsPlayFault bytes Memory = (text : List ℕ) × IsPlayed bytes text
-IsPlayFault bytes fault = ⊥
+    ⊎ ((script : ScriptView) × ReadsScript bytes (Ok script) × RefusesTranscript script.format (view script.json) script.setup script.events refusal)
 
 -- What the command does: it prints the transcript of the script in the file, or of the one on the input.
 abbrev pub RunGives : Option (List ℕ) → Devices → Devices → Result Ended Fault → Type 0

@@ -10,6 +10,7 @@ ghost use Rattle.mr_tool.specs.PlanCommand.{PlanGives};
 ghost use Rattle.mr_tool.specs.RunCommand.{RunGives};
 ghost use Rattle.mr_tool.specs.Sources.{SourcesView};
 ghost use Rattle.mr_tool.specs.TimelineCommand.{TimelineGives};
+ghost use Rattle.mr_tool.specs.UpgradeCommand.{UpgradeGives};
 ghost use Rattle.mr_tool.specs.VersionCommand.{VersionGives};
 
 use crate::check_text::{end_of, write_check};
@@ -19,7 +20,7 @@ use crate::fault::Fault;
 use crate::input::{first_request, given_bytes, load_config};
 use crate::plan::write_plan;
 use crate::printing::write_at_once;
-use crate::script_text::text_of_play;
+use crate::script_text::{text_of_play, text_of_upgrade};
 use crate::sources::Sources;
 use crate::timeline::write_timeline;
 use mr_text::{Sink, Source};
@@ -95,6 +96,24 @@ pub fn run_check<S: Sources, I: Source, O: Sink>(
     let checked = check_transcript(alloc, bytes.as_slice())?;
     write_check(alloc, &checked, output)?;
     Ok(end_of(checked.outcome))
+}
+
+/// Writes in format 2 the script in a file, or the one on the input.
+pub fn run_upgrade<S: Sources, I: Source, O: Sink>(
+    alloc: Global,
+    file: Option<&str>,
+    sources: &mut S,
+    input: &mut I,
+    output: &mut O,
+) -> Result<Ended, Fault>
+    ensures { (faults : SinkView) → UpgradeGives (path_in file.entry)
+        (devices (S.told sources.old) (I.told input.old) (O.told output.old) faults)
+        (devices (S.told sources.new) (I.told input.new) (O.told output.new) faults) result }
+{
+    let bytes = given_bytes(alloc, file, sources, input)?;
+    let upgraded = text_of_upgrade(alloc, bytes.as_slice())?;
+    write_at_once(upgraded.as_slice(), output)?;
+    Ok(Ended::Done)
 }
 
 /// Writes what a fault means.

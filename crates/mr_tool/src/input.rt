@@ -10,7 +10,7 @@ ghost use Rattle.mr_words.specs.Words.{path_in};
 use crate::fault::Fault;
 use crate::sources::{MOST_LOADED, Sources, load_bytes};
 use mr_configs::{Config, PlanError};
-use mr_text::{Request, RequestReader, Source, TextError};
+use mr_text::{MAX_BLOCK, MAX_LINE, Request, RequestReader, Source, TextError};
 use std::alloc::Global;
 
 /// The most bytes that are taken of an input: as many as of a file.
@@ -19,9 +19,9 @@ pub const MOST_TAKEN: usize = MOST_LOADED;
 /// The largest configuration, in bytes.
 pub const MOST_CONFIG_BYTES: usize = 16_777_216;
 
-/// The most reads of one request. Each but the last gives a byte. A request has a line of at most 8,192 bytes and a
-/// block of at most 8,192, each with two bytes of line end: 8,194 + 8,194, and one more read finds the end of the input.
-pub const MOST_READS: u32 = 16_389;
+/// The most reads of one request: 1,056,773. Each but the last gives a byte. A request has a line of at most 8,192 bytes
+/// and a block of at most 1,048,576, each with two bytes of line end, and one more read finds the end of the input.
+pub const MOST_READS: usize = MAX_LINE + 2 + MAX_BLOCK + 2 + 1;
 
 /// How many bytes there is room for in each read, unless fewer may still be taken.
 const PIECE_LENGTH: usize = 4096;

@@ -7,7 +7,9 @@ ghost use Rattle.mr_tool.specs.Fault.{fault_line, not_text_line, readings_line};
 ghost use Rattle.mr_tool.specs.Run.{EndsWith, IsRunOf, Runs};
 ghost use Rattle.mr_tool.specs.Sources.{SourcesView};
 
-use crate::commands::{run_check, run_explain, run_plan, run_script, run_timeline, write_version};
+use crate::commands::{
+    run_check, run_explain, run_plan, run_script, run_timeline, run_upgrade, write_version,
+};
 use crate::ended::Ended;
 use crate::fault::Fault;
 use crate::services::{run_node, run_proxy};
@@ -120,6 +122,9 @@ fn run_wanted<
         }
         Ok(Wanted::Run(file)) => finish(run_script(alloc, file, sources, input, output), faults),
         Ok(Wanted::Check(file)) => finish(run_check(alloc, file, sources, input, output), faults),
+        Ok(Wanted::Upgrade(file)) => {
+            finish(run_upgrade(alloc, file, sources, input, output), faults)
+        }
         Ok(Wanted::Node(values)) => finish(run_node(alloc, &values, servers, output), faults),
         Ok(Wanted::Proxy(values)) => {
             finish(run_proxy(alloc, &values, servers, sources, output), faults)
@@ -137,8 +142,8 @@ fn run_wanted<
 /// Runs the command that the words ask for, of which the first names it, and gives the program's status. A node or a proxy
 /// is served by `servers`. Files come from `sources`; what the command is to print goes to `output`, and a fault to `faults`.
 /// Faults are looked for in this order: the words; then for a plan the file, the configuration, the request; for a timeline
-/// the file, the configuration; for a run or a check the file, or the input where none is named, and then the script or the
-/// transcript; for a node its capacity, the seed and the socket; for a proxy the file, the configuration, the socket; last the
+/// the file, the configuration; for a run, a check or an upgrade the file, or the input where none is named, and then the script
+/// or the transcript; for a node its capacity, the seed and the socket; for a proxy the file, the configuration, the socket; last the
 /// output.
 pub fn run_words<
     R: Net<Listener = TcpListener, Stream = TcpStream>

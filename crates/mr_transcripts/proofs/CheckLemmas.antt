@@ -2,6 +2,7 @@
 use Rattle.std.proofs.Common.{rules, ◌≡◌, ℕ, Bool, true, false, List, [], ◌∷◌, length, take, Some, None, refl, sym, ap, ◌∙◌, ◌↔◌, subst, if◌then◌else◌}
 use Rattle.std.specs.Prelude.{codes, Option}
 use Rattle.serde_json.specs.Data.{Data, array}
+use Rattle.mr_format.specs.declared.format.Format.{Format}
 use Rattle.mr_history.specs.declared.entry.Entry.{Entry}
 use Rattle.mr_history.specs.History.{IsSafe}
 use Rattle.mr_world.specs.Headline.{AllHold, PremisesHold}
@@ -79,14 +80,14 @@ FlagsDecide =
     (setup : SetupView) (first last : WorldView) (events : List Event) → Begins setup first → WorldRun first events last
     → AllHold (premises_of last) ↔ PremisesHold setup events
 
-vouched : FlagsDecide → (transcript : Data) (setup : SetupView) (events : List Event) (notes : List Note) (world : WorldView) (stop : Option Stop)
+vouched : FlagsDecide → (format : Format) (transcript : Data) (setup : SetupView) (events : List Event) (notes : List Note) (world : WorldView) (stop : Option Stop)
     (premises : Premises) (verdict : KeptVerdict) → IsPlay setup events notes world stop → premises ≡ premises_of world → JudgesSo world.history verdict
-    → outcome_of transcript stop notes world.history premises verdict ≡ Accepted → IsVouchedFor transcript setup events
-vouched law transcript setup events notes world (Some stop) premises verdict play same judged is = absurd (unlike (ap accepts is))
-vouched law transcript setup events notes world None premises verdict play same judged is =
+    → outcome_of format transcript stop notes world.history premises verdict ≡ Accepted → IsVouchedFor format transcript setup events
+vouched law format transcript setup events notes world (Some stop) premises verdict play same judged is = absurd (unlike (ap accepts is))
+vouched law format transcript setup events notes world None premises verdict play same judged is =
     let all = passes
     (tells transcript (codes "notes") (array (notes_json notes)))
-    (tells transcript (codes "history") (array (entries_json world.history)))
+    (tells transcript (codes "history") (array (entries_json format world.history)))
     (tells transcript (codes "premises") (premises_json premises))
     (tells transcript (codes "verdict") (verdict_json verdict))
     (all_hold premises)
@@ -111,7 +112,7 @@ vouched law transcript setup events notes world None premises verdict play same 
       safe = safe_judged world.history verdict judged all.safe;
     }
 
-pub accepted_vouches : FlagsDecide → (transcript : Data) (setup : SetupView) (events : List Event) (checked : Checked) → IsChecked transcript setup events checked
-    → checked.outcome ≡ Accepted → IsVouchedFor transcript setup events
-accepted_vouches law transcript setup events checked c is =
-    vouched law transcript setup events c.notes c.world c.stop checked.premises checked.verdict c.play c.premises c.judges (sym c.outcome ∙ is)
+pub accepted_vouches : FlagsDecide → (format : Format) (transcript : Data) (setup : SetupView) (events : List Event) (checked : Checked) → IsChecked format transcript setup events checked
+    → checked.outcome ≡ Accepted → IsVouchedFor format transcript setup events
+accepted_vouches law format transcript setup events checked c is =
+    vouched law format transcript setup events c.notes c.world c.stop checked.premises checked.verdict c.play c.premises c.judges (sym c.outcome ∙ is)

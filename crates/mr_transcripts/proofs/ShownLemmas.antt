@@ -8,6 +8,7 @@ use Rattle.serde_json.specs.Data.{Data, null, boolean, number, string, array, ob
 use Rattle.serde_json.specs.Find.{of_integer, is_float}
 use Rattle.serde_json.specs.View.{items_of}
 use Rattle.serde_json.specs.Written.{has_float, items_have_float, members_have_float}
+use Rattle.mr_format.specs.declared.format.Format.{Format}
 use Rattle.mr_text.specs.declared.item.Item.{Item}
 use Rattle.mr_text.specs.declared.reply.Reply.{Reply}
 use Rattle.mr_text.specs.declared.reply.Reply.TheVariants as reply
@@ -37,33 +38,33 @@ number_whole : (z : ℤ) → is_float (of_integer z) ≡ false
 number_whole (pos n) = refl
 number_whole (negsuc n) = refl
 
-request_whole : (r : Request) → has_float (request_json r) ≡ false
-request_whole (request.Get keys) = rw (listed bytes_json key_whole keys) refl
-request_whole (request.Set key flags exptime block noreply) = rw (number_whole exptime) refl
-request_whole (request.Delete key noreply) = refl
-request_whole request.Quit = refl
+request_whole : (format : Format) (r : Request) → has_float (request_json format r) ≡ false
+request_whole format (request.Get keys) = rw (listed bytes_json key_whole keys) refl
+request_whole format (request.Set key flags exptime block noreply) = rw (number_whole exptime) refl
+request_whole format (request.Delete key noreply) = refl
+request_whole format request.Quit = refl
 
-item_whole : (i : Item) → has_float (item_json i) ≡ false
-item_whole i = refl
+item_whole : (format : Format) (i : Item) → has_float (item_json format i) ≡ false
+item_whole format i = refl
 
-reply_whole : (r : Reply) → has_float (reply_json r) ≡ false
-reply_whole (reply.Items items) = rw (listed item_json item_whole items) refl
-reply_whole reply.Stored = refl
-reply_whole reply.Deleted = refl
-reply_whole reply.NotFound = refl
-reply_whole (reply.ServerError cause) = refl
-reply_whole (reply.ClientError cause) = refl
-reply_whole reply.Error = refl
+reply_whole : (format : Format) (r : Reply) → has_float (reply_json format r) ≡ false
+reply_whole format (reply.Items items) = rw (listed (item_json format) (item_whole format) items) refl
+reply_whole format reply.Stored = refl
+reply_whole format reply.Deleted = refl
+reply_whole format reply.NotFound = refl
+reply_whole format (reply.ServerError cause) = refl
+reply_whole format (reply.ClientError cause) = refl
+reply_whole format reply.Error = refl
 
 author_whole : (by : Author) → has_float (author_json by) ≡ false
 author_whole Beginning = refl
 author_whole (By op) = refl
 
-entry_whole : (e : Entry) → has_float (entry_json e) ≡ false
-entry_whole (entry.Issued op proxy request) = rw (request_whole request) refl
-entry_whole (entry.Stored by key flags block) = rw (author_whole by) refl
-entry_whole (entry.Removed op side key) = refl
-entry_whole (entry.Answered op reply) = rw (reply_whole reply) refl
+entry_whole : (format : Format) (e : Entry) → has_float (entry_json format e) ≡ false
+entry_whole format (entry.Issued op proxy request) = rw (request_whole format request) refl
+entry_whole format (entry.Stored by key flags block) = rw (author_whole by) refl
+entry_whole format (entry.Removed op side key) = refl
+entry_whole format (entry.Answered op reply) = rw (reply_whole format reply) refl
 
 note_whole : (n : Note) → has_float (note_json n) ≡ false
 note_whole Nothing = refl
@@ -104,18 +105,18 @@ put_whole key value (member other held members) v m =
     chosen (slice_cmp nat_cmp key other) (member key value (member other held members)) (member other value members) (member other held (put key value members))
     (rw (v, here, after) refl) (rw (v, after) refl) (rw (here, rest) refl)
 
-pub outcome_has_no_float : (script : Data) (notes : List Note) (history : List Entry) (premises : Premises) (verdict : KeptVerdict)
-    → has_float script ≡ false → has_float (with_outcome script notes history premises verdict) ≡ false
-outcome_has_no_float null notes history premises verdict e = e
-outcome_has_no_float (boolean b) notes history premises verdict e = e
-outcome_has_no_float (number n) notes history premises verdict e = e
-outcome_has_no_float (string s) notes history premises verdict e = e
-outcome_has_no_float (array ds) notes history premises verdict e = e
-outcome_has_no_float (object members) notes history premises verdict e =
-    let with_history : Members = put (codes "history") (array (entries_json history)) members in
+pub outcome_has_no_float : (format : Format) (script : Data) (notes : List Note) (history : List Entry) (premises : Premises) (verdict : KeptVerdict)
+    → has_float script ≡ false → has_float (with_outcome format script notes history premises verdict) ≡ false
+outcome_has_no_float format null notes history premises verdict e = e
+outcome_has_no_float format (boolean b) notes history premises verdict e = e
+outcome_has_no_float format (number n) notes history premises verdict e = e
+outcome_has_no_float format (string s) notes history premises verdict e = e
+outcome_has_no_float format (array ds) notes history premises verdict e = e
+outcome_has_no_float format (object members) notes history premises verdict e =
+    let with_history : Members = put (codes "history") (array (entries_json format history)) members in
     let with_notes : Members = put (codes "notes") (array (notes_json notes)) with_history in
     let with_premises : Members = put (codes "premises") (premises_json premises) with_notes in
     put_whole (codes "verdict") (verdict_json verdict) with_premises (verdict_whole verdict)
     (put_whole (codes "premises") (premises_json premises) with_notes refl
     (put_whole (codes "notes") (array (notes_json notes)) with_history (listed note_json note_whole notes)
-    (put_whole (codes "history") (array (entries_json history)) members (listed entry_json entry_whole history) e)))
+    (put_whole (codes "history") (array (entries_json format history)) members (listed (entry_json format) (entry_whole format) history) e)))

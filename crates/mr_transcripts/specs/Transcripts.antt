@@ -41,8 +41,8 @@ pub record IsCheckOf (bytes : List ℕ) (checked : Checked) : Type 0 where
   pub fits : length bytes ≤ most_bytes
   pub is_json : IsJson bytes value
   pub played : played_parts value ≡ Ok parts
-  pub checks : IsChecked value parts.setup parts.events checked
-  pub vouched : checked.outcome ≡ Accepted → IsVouchedFor value parts.setup parts.events
+  pub checks : IsChecked parts.format value parts.setup parts.events checked
+  pub vouched : checked.outcome ≡ Accepted → IsVouchedFor parts.format value parts.setup parts.events
 
 -- why there is no check: there are too many bytes, or they have no value, or their value is no transcript
 abbrev pub RefusesCheck : List ℕ → PlanError → Type 0

@@ -3,7 +3,7 @@ ghost use Rattle.std.specs.Prelude.{◌≡◌, ◌^◌, ◌<◌, length, Ok, IfO
 ghost use Rattle.serde_json.specs.View.{view};
 ghost use Rattle.mr_world.specs.Premises.{premises_of};
 ghost use Rattle.mr_world.specs.Setup.{CanBeMade};
-ghost use Rattle.mr_transcripts.specs.Check.{tells, all_hold, is_safe, outcome_of_play, IsChecked, IsVouchedFor};
+ghost use Rattle.mr_transcripts.specs.Check.{tells, all_hold, is_safe, outcome_when_told, outcome_of_play, IsChecked, IsVouchedFor};
 ghost use Rattle.mr_scripts.specs.Script.{IsPlayable};
 ghost use Rattle.mr_transcripts.specs.Transcripts.{outcome_check, played_parts, RefusesPlayed, IsCheckOf, RefusesCheck};
 ghost use Rattle.mr_configs.specs.declared.error.PlanError.TheVariants.{OutOfMemory};
@@ -11,6 +11,7 @@ ghost use Rattle.mr_configs.specs.declared.error.PlanError.TheVariants.{OutOfMem
 use crate::play::play_events;
 use mr_configs::fields::{check_object, field};
 use mr_configs::{PlanError, json_of};
+use mr_format::Format;
 use mr_scripts::{MAX_SCRIPT, is_same, read_parts};
 use mr_shown::{KeptVerdict, history_value, notes_value, premises_value, verdict_value};
 use mr_world::laws::runs_decide_premises;
@@ -90,22 +91,36 @@ fn is_safe(verdict: &KeptVerdict) -> bool
     }
 }
 
-/// Holds a transcript against a play of all its events.
+/// What is found where the transcript tells the play's own notes, history, premises and verdict.
+fn outcome_when_told(premises: Premises, verdict: &KeptVerdict) -> Outcome
+    ensures { result ≡ outcome_when_told premises verdict.now }
+{
+    if !all_hold(premises) {
+        Outcome::PremiseFalse
+    } else if !is_safe(verdict) {
+        Outcome::NotSafe
+    } else {
+        Outcome::Accepted
+    }
+}
+
+/// Holds a transcript of this format against a play of all its events.
 fn outcome_of_play(
     alloc: Global,
+    format: Format,
     transcript: &Value,
     notes: &[Note],
     world: &World,
     verdict: &KeptVerdict,
 ) -> Result<Outcome, AllocError>
-    ensures { IfOk result (λ outcome. outcome ≡ outcome_of_play
+    ensures { IfOk result (λ outcome. outcome ≡ outcome_of_play format
         (view transcript.now) notes.now world.now.history (premises_of world.now) verdict.now) }
 {
     let premises = world.premises();
     if !tells(transcript, "notes", &notes_value(alloc, notes)?) {
         return Ok(Outcome::NotesDiffer);
     }
-    let history = history_value(alloc, world.history().entries())?;
+    let history = history_value(alloc, format, world.history().entries())?;
     if !tells(transcript, "history", &history) {
         return Ok(Outcome::HistoryDiffers);
     }
@@ -115,32 +130,34 @@ fn outcome_of_play(
     if !tells(transcript, "verdict", &verdict_value(alloc, verdict)?) {
         return Ok(Outcome::VerdictDiffers);
     }
-    Ok(if !all_hold(premises) {
-        Outcome::PremiseFalse
-    } else if !is_safe(verdict) {
-        Outcome::NotSafe
-    } else {
-        Outcome::Accepted
-    })
+    Ok(outcome_when_told(premises, verdict))
 }
 
 /// Plays a transcript's events on its setup, and holds the rest of it against the play.
 fn compare_with_play(
     alloc: Global,
+    format: Format,
     transcript: &Value,
     setup: Setup,
     events: Vec<Event>,
 ) -> Result<Checked, PlanError>
     requires few { length setup.proxies < 2 ^ 32 }
     requires makeable { CanBeMade setup }
-    ensures checked { IfOk result (IsChecked (view transcript.now) setup events.items) }
+    ensures checked { IfOk result (IsChecked format (view transcript.now) setup events.items) }
     ensures refused { IfErr result (λ e. e ≡ OutOfMemory) }
 {
     let play = play_events(alloc, setup, events)?;
     let verdict = KeptVerdict::on(alloc, &play.world)?;
     let outcome = match play.stop {
         Some(stop) => Outcome::EventRefused(stop.index),
-        None => outcome_of_play(alloc, transcript, &play.notes, &play.world, &verdict)?,
+        None => outcome_of_play(
+            alloc,
+            format,
+            transcript,
+            &play.notes,
+            &play.world,
+            &verdict,
+        )?,
     };
     Ok(Checked {
         premises: play.world.premises(),
@@ -154,19 +171,20 @@ fn compare_with_play(
 #[tactic(auto, using(crate::proofs::CheckLemmas::accepted_vouches))]
 pub(crate) fn check_play(
     alloc: Global,
+    format: Format,
     transcript: &Value,
     setup: Setup,
     events: Vec<Event>,
 ) -> Result<Checked, PlanError>
     requires few { length setup.proxies < 2 ^ 32 }
     requires makeable { CanBeMade setup }
-    ensures checked { IfOk result (IsChecked (view transcript.now) setup events.items) }
+    ensures checked { IfOk result (IsChecked format (view transcript.now) setup events.items) }
     ensures vouched { IfOk result
-        (λ checked. checked.outcome ≡ Outcome.Accepted → IsVouchedFor (view transcript.now) setup events.items) }
+        (λ checked. checked.outcome ≡ Outcome.Accepted → IsVouchedFor format (view transcript.now) setup events.items) }
     ensures refused { IfErr result (λ e. e ≡ OutOfMemory) }
 {
     runs_decide_premises();
-    compare_with_play(alloc, transcript, setup, events)
+    compare_with_play(alloc, format, transcript, setup, events)
 }
 
 /// The keys of a transcript.
@@ -186,10 +204,10 @@ fn check_outcome(value: &Value) -> Result<(), PlanError>
 }
 
 /// What a transcript says was played.
-fn played_parts(alloc: Global, value: &Value) -> Result<(Setup, Vec<Event>), PlanError>
+fn played_parts(alloc: Global, value: &Value) -> Result<(Format, Setup, Vec<Event>), PlanError>
     ensures played { IfOk result
-        (λ parts. played_parts (view value.now) ≡ Ok (record { setup = parts.0; events = parts.1.items })) }
-    ensures playable { IfOk result (λ parts. IsPlayable parts.0) }
+        (λ parts. played_parts (view value.now) ≡ Ok (record { format = parts.0; setup = parts.1; events = parts.2.items })) }
+    ensures playable { IfOk result (λ parts. IsPlayable parts.1) }
     ensures refused { IfErr result (RefusesPlayed (view value.now)) }
 {
     check_object(value, &TRANSCRIPT_KEYS)?;
@@ -197,9 +215,9 @@ fn played_parts(alloc: Global, value: &Value) -> Result<(Setup, Vec<Event>), Pla
     read_parts(alloc, value)
 }
 
-/// Reads a transcript, plays its events on its setup, and holds the rest of it against the play: nothing that it says of
-/// itself is believed. Refusals are those of a script, with seven keys in place of three; an event that is refused for want
-/// of memory is OutOfMemory.
+/// Reads a transcript of either format, plays its events on its setup, and holds the rest of it against the play: nothing
+/// that it says of itself is believed. Refusals are those of a script, with seven keys in place of three; an event that is
+/// refused for want of memory is OutOfMemory.
 pub fn check_transcript(alloc: Global, bytes: &[u8]) -> Result<Checked, PlanError>
     ensures checked { IfOk result (IsCheckOf bytes.now) }
     ensures refused { IfErr result (RefusesCheck bytes.now) }
@@ -208,6 +226,6 @@ pub fn check_transcript(alloc: Global, bytes: &[u8]) -> Result<Checked, PlanErro
         return Err(PlanError::TooLarge);
     }
     let value = json_of(alloc, bytes)?;
-    let (setup, events) = played_parts(alloc, &value)?;
-    check_play(alloc, &value, setup, events)
+    let (format, setup, events) = played_parts(alloc, &value)?;
+    check_play(alloc, format, &value, setup, events)
 }

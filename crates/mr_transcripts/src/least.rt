@@ -1,8 +1,9 @@
 //! How long the text of a transcript is at least, as its history tells before any of the text is made.
 ghost use Rattle.std.specs.Prelude.{◌≡◌, ◌-◌, ◌↔◌, IsTrue};
 ghost use Rattle.serde_json.specs.View.{view};
-ghost use Rattle.mr_transcripts.specs.steps.Least.{blocks_length, blocks_of_entry, least_length, HasLongHistory};
+ghost use Rattle.mr_transcripts.specs.steps.Least.{blocks_length, blocks_of_entry, blocks_of_history, filling_data, HasLongHistory};
 
+use mr_format::Format;
 use mr_history::Entry;
 use mr_scripts::MAX_SCRIPT;
 use mr_text::{Item, Reply};
@@ -35,7 +36,7 @@ fn room_beside_entry(room: usize, entry: &Entry) -> usize
 
 /// What is left of so many bytes beside the blocks of a history.
 fn room_beside_history(room: usize, entries: &[Entry]) -> usize
-    ensures { result ≡ room - least_length entries.now }
+    ensures { result ≡ room - blocks_of_history entries.now }
 {
     let mut left = room;
     for entry in entries {
@@ -44,13 +45,23 @@ fn room_beside_history(room: usize, entries: &[Entry]) -> usize
     left
 }
 
+/// The bytes of data whose text alone is as long as a transcript may be.
+fn filling_data(format: Format) -> usize
+    ensures { result ≡ filling_data format }
+{
+    match format {
+        Format::One => MAX_SCRIPT,
+        Format::Two => MAX_SCRIPT / 2,
+    }
+}
+
 /// Whether the blocks of the history alone make the text of a script's transcript too large. It takes no memory, and time by
 /// the entries and the items in them, whatever their size.
-pub(crate) fn has_long_history(script: &Value, entries: &[Entry]) -> bool
-    ensures { IsTrue result ↔ HasLongHistory (view script.now) entries.now }
+pub(crate) fn has_long_history(format: Format, script: &Value, entries: &[Entry]) -> bool
+    ensures { IsTrue result ↔ HasLongHistory format (view script.now) entries.now }
 {
     match script {
-        Value::Object(_) => room_beside_history(MAX_SCRIPT, entries) == 0,
+        Value::Object(_) => room_beside_history(filling_data(format), entries) == 0,
         _ => false,
     }
 }

@@ -9,28 +9,30 @@ ghost use Rattle.mr_transcripts.specs.Transcript.{with_outcome, transcript_text,
 use crate::least::has_long_history;
 use crate::play::play_events;
 use mr_configs::PlanError;
+use mr_format::Format;
 use mr_scripts::{MAX_SCRIPT, Script};
 use mr_shown::{KeptVerdict, history_value, notes_value, premises_value, verdict_value};
 use mr_world::{Event, Note, Setup, World};
 use serde_json::{Value, put};
 use std::alloc::{AllocError, Global};
 
-/// A script's own JSON with what came of its play, each under its key.
+/// A script's own JSON with what came of its play, each under its key. The data of the history is in the script's format.
 fn with_outcome(
     alloc: Global,
+    format: Format,
     script: Value,
     notes: &[Note],
     world: &World,
     verdict: &KeptVerdict,
 ) -> Result<Value, AllocError>
     ensures { IfOk result (λ value.
-        view value ≡ with_outcome (view script) notes.now world.now.history (premises_of world.now) verdict.now) }
+        view value ≡ with_outcome format (view script) notes.now world.now.history (premises_of world.now) verdict.now) }
 {
     let mut members = match script {
         Value::Object(members) => members,
         other => return Ok(other),
     };
-    let history = history_value(alloc, world.history().entries())?;
+    let history = history_value(alloc, format, world.history().entries())?;
     put(&mut members, alloc, "history", history)?;
     put(&mut members, alloc, "notes", notes_value(alloc, notes)?)?;
     let premises = premises_value(alloc, world.premises())?;
@@ -48,22 +50,24 @@ fn with_outcome(
 #[tactic(auto, using(crate::proofs::ShownLemmas::outcome_has_no_float))]
 fn text_of(
     alloc: Global,
+    format: Format,
     script: Value,
     notes: &[Note],
     world: &World,
     verdict: &KeptVerdict,
 ) -> Result<String, AllocError>
     requires { has_float (view script) ≡ false }
-    ensures { IfOk result (λ text. string_bytes text ≡ transcript_text (view script) notes.now world.now verdict.now) }
+    ensures { IfOk result (λ text. string_bytes text ≡ transcript_text format (view script) notes.now world.now verdict.now) }
 {
-    with_outcome(alloc, script, notes, world, verdict)?.to_string(alloc)
+    with_outcome(alloc, format, script, notes, world, verdict)?.to_string(alloc)
 }
 
 /// The text of the transcript of a script: its own JSON, which has no number that isn't whole, with what comes of
-/// playing its events on its setup. Refusals: EventRefused with the first event that is refused; TooLarge where the text
-/// with one line end is larger than a transcript may be; OutOfMemory.
+/// playing its events on its setup, in its format. Refusals: EventRefused with the first event that is refused; TooLarge
+/// where the text with one line end is larger than a transcript may be; OutOfMemory.
 pub(crate) fn transcript_of(
     alloc: Global,
+    format: Format,
     script: Value,
     setup: Setup,
     events: Vec<Event>,
@@ -71,8 +75,8 @@ pub(crate) fn transcript_of(
     requires few { length setup.proxies < 2 ^ 32 }
     requires makeable { CanBeMade setup }
     requires whole { has_float (view script) ≡ false }
-    ensures written { IfOk result (λ text. IsTranscript (view script) setup events.items text.items) }
-    ensures refused { IfErr result (RefusesTranscript (view script) setup events.items) }
+    ensures written { IfOk result (λ text. IsTranscript format (view script) setup events.items text.items) }
+    ensures refused { IfErr result (RefusesTranscript format (view script) setup events.items) }
 {
     let play = play_events(alloc, setup, events)?;
     match play.stop {
@@ -80,22 +84,24 @@ pub(crate) fn transcript_of(
         None => {}
     }
     let verdict = KeptVerdict::on(alloc, &play.world)?;
-    if has_long_history(&script, play.world.history().entries()) {
+    if has_long_history(format, &script, play.world.history().entries()) {
         return Err(PlanError::TooLarge);
     }
-    let text = text_of(alloc, script, &play.notes, &play.world, &verdict)?;
+    let text = text_of(alloc, format, script, &play.notes, &play.world, &verdict)?;
     if text.len() >= MAX_SCRIPT {
         return Err(PlanError::TooLarge);
     }
     Ok(text.into_bytes())
 }
 
-/// Plays a script, and gives the compact text of its transcript. Refusals: EventRefused with the first event that is
-/// refused; TooLarge where the text with one line end is larger than a transcript may be; OutOfMemory.
+/// Plays a script, and gives the compact text of its transcript, which keeps the script's format. Refusals: EventRefused
+/// with the first event that is refused; TooLarge where the text with one line end is larger than a transcript may be;
+/// OutOfMemory.
 pub fn write_transcript(alloc: Global, script: Script) -> Result<Vec<u8>, PlanError>
-    ensures written { IfOk result (λ text. IsTranscript (view script.json) script.setup script.events text.items) }
-    ensures refused { IfErr result (RefusesTranscript (view script.json) script.setup script.events) }
+    ensures written { IfOk result (λ text. IsTranscript script.format (view script.json) script.setup script.events text.items) }
+    ensures refused { IfErr result (RefusesTranscript script.format (view script.json) script.setup script.events) }
 {
+    let format = script.format();
     let (setup, events, json) = script.into_parts();
-    transcript_of(alloc, json, setup, events)
+    transcript_of(alloc, format, json, setup, events)
 }

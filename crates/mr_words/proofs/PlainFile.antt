@@ -1,4 +1,4 @@
--- That words which plainly say a run or a check are read as it.
+-- That words which plainly say a run, a check or an upgrade are read as it.
 use Rattle.std.proofs.Common.{◌≡◌, ◌∙◌, ap, ap₂, refl, sym, subst, List, [], ◌∷◌, Option, None, Some, false, codes}
 use Rattle.std.specs.Borrow.{Bor}
 use Rattle.clap.proofs.OnLiterals.{clap_on_literals}
@@ -10,7 +10,7 @@ use Rattle.clap.specs.Words.{Row, Text, fault_of, subcommand_of}
 use Rattle.mr_words.proofs.PlainWalk.{IsPlainWord, plain_word, word_step, no_word_left}
 use Rattle.mr_words.specs.Command.{file_app, program_app}
 use Rattle.mr_words.specs.Words.{HasFile, Say, SaysFile, path_in}
-use Rattle.mr_words.specs.declared.words.Wanted.TheVariants.{Run, Check}
+use Rattle.mr_words.specs.declared.words.Wanted.TheVariants.{Run, Check, Upgrade}
 
 -- what is held after the file's name
 abbrev held_file : Text → Held
@@ -96,7 +96,20 @@ check_found said None says = refl
 check_found said (Some file) says =
     ap (λ (w : Walk). Some (codes "check", finished (leaf (codes "check")).rules w.held)) (walk_is (codes "check") file (plain_word file says.1))
 
--- words that plainly say a run, or a check, say it to `clap`
+upgrade_passed : (said : List Text) (file : Option Text) → SaysFile (codes "upgrade") said file
+    → fault_of program_app (codes "upgrade" ∷ words_with file) ≡ []
+unfolding clap_on_literals
+upgrade_passed said None says = ap (λ (below : Kinds). or_else below []) (nothing_taken (codes "upgrade"))
+upgrade_passed said (Some file) says = ap (λ (below : Kinds). or_else below []) (file_taken (codes "upgrade") file (plain_word file says.1))
+
+upgrade_found : (said : List Text) (file : Option Text) → SaysFile (codes "upgrade") said file
+    → subcommand_of program_app (codes "upgrade" ∷ words_with file) ≡ Some (codes "upgrade", rows_with file)
+unfolding clap_on_literals
+upgrade_found said None says = refl
+upgrade_found said (Some file) says =
+    ap (λ (w : Walk). Some (codes "upgrade", finished (leaf (codes "upgrade")).rules w.held)) (walk_is (codes "upgrade") file (plain_word file says.1))
+
+-- words that plainly say a run, a check or an upgrade say it to `clap`
 pub run_said : (said : List Text) (file : Option (Bor Text)) → SaysFile (codes "run") said (path_in file) → Say said (Run file)
 run_said said file says =
     let named = file_named (codes "run") said (path_in file) says in
@@ -117,6 +130,18 @@ check_said said file says =
       finds = (
         rows_with (path_in file),
         subst (λ (w : List Text). subcommand_of program_app w ≡ Some (codes "check", rows_with (path_in file))) (sym named) (check_found said (path_in file) says),
+        rows_have (path_in file),
+      );
+    }
+
+pub upgrade_said : (said : List Text) (file : Option (Bor Text)) → SaysFile (codes "upgrade") said (path_in file) → Say said (Upgrade file)
+upgrade_said said file says =
+    let named = file_named (codes "upgrade") said (path_in file) says in
+    record {
+      fits = subst (λ (w : List Text). fault_of program_app w ≡ []) (sym named) (upgrade_passed said (path_in file) says);
+      finds = (
+        rows_with (path_in file),
+        subst (λ (w : List Text). subcommand_of program_app w ≡ Some (codes "upgrade", rows_with (path_in file))) (sym named) (upgrade_found said (path_in file) says),
         rows_have (path_in file),
       );
     }

@@ -62,6 +62,10 @@ run_app = file_app (codes "run")
 abbrev pub check_app : App
 check_app = file_app (codes "check")
 
+-- the command `upgrade`
+abbrev pub upgrade_app : App
+upgrade_app = file_app (codes "upgrade")
+
 -- the command `node`
 abbrev pub node_app : App
 node_app =
@@ -99,7 +103,8 @@ program_app =
     let with_timeline = with_subcommand with_plan timeline_app.top in
     let with_run = with_subcommand with_timeline run_app.top in
     let with_check = with_subcommand with_run check_app.top in
-    let with_node = with_subcommand with_check node_app.top in
+    let with_upgrade = with_subcommand with_check upgrade_app.top in
+    let with_node = with_subcommand with_upgrade node_app.top in
     let with_proxy = with_subcommand with_node proxy_app.top in
     let whole = with_subcommand with_proxy explain_app.top in
     record whole { top = record whole.top { has_version = true; no_binary_name = true; subcommand_required = true; arg_required_else_help = true } }

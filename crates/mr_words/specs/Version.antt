@@ -3,4 +3,4 @@ use Rattle.std.specs.Prelude.{ℕ, List, codes}
 
 -- the line that tells it
 abbrev pub told_version : List ℕ
-told_version = codes "migctl 0.7.0\n"
+told_version = codes "migctl 0.8.0\n"

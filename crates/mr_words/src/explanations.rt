@@ -35,7 +35,7 @@ pub static LOWER_ROWS: [Row<'static>; 29] = [
         "text",
         5,
         "DataTooLong",
-        "A value has more than 8,192 bytes. Look at the length in its line; larger values aren't served.",
+        "A value has more than 1,048,576 bytes. Look at the length in its line; larger values aren't served.",
     ),
     (
         "text",
@@ -315,7 +315,7 @@ pub static UPPER_ROWS: [Row<'static>; 33] = [
         "plan",
         2,
         "WrongKind",
-        "A value is of another kind than is wanted there, or a number isn't whole or is out of its range. Look for quotes around a number, for numbers such as 1.0, and at format, which is 1.",
+        "A value is of another kind than is wanted there, or a number isn't whole or is out of its range. Look for quotes around a number, for numbers such as 1.0, at format, which is 1 or 2, and at data: in format 1 it has at most 8,192 bytes, in format 2 two hexadecimal digits a byte.",
     ),
     (
         "plan",
@@ -363,13 +363,13 @@ pub static UPPER_ROWS: [Row<'static>; 33] = [
         "plan",
         10,
         "BadEvent",
-        "An event of a script can't be read. Look for an unknown do or kind, for keys that are missing or too many beside it, and for cache keys, values and names that can't be made.",
+        "An event of a script can't be read. Look for an unknown do or kind, for keys that are missing or too many beside it, and for cache keys, values and names that can't be made: in format 1 data has at most 8,192 bytes, in format 2 two hexadecimal digits a byte.",
     ),
     (
         "plan",
         11,
         "TooLarge",
-        "The text has more than 16,777,216 bytes, or a script has more than 65,536 events, 65,536 held items or 64 proxies, or its transcript would be too large. Look at the size of the file and the length of its lists.",
+        "The text has more than 16,777,216 bytes, or a script has more than 65,536 events, 65,536 held items or 64 proxies, or its transcript, or the script in format 2, would be too large. Look at the size of the file and the length of its lists.",
     ),
     (
         "plan",

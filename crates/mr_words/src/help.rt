@@ -30,7 +30,7 @@ pub const PROGRAM_NOTES: &str = notes!(
 pub const PLAN_NOTES: &str = notes!(
     "Seconds are whole seconds since the epoch, 1970-01-01 00:00:00 UTC.\n\
     The standard input holds one request in memcached's text protocol: a key has at most 250 bytes, a value\n\
-    at most 8,192. What follows it is ignored. Of several migrations in a row, the phase is printed with the\n\
+    at most 1,048,576. What follows it is ignored. Of several migrations in a row, the phase is printed with the\n\
     hop that it is of.",
     "printf 'delete k\\r\\n' | migctl plan --config fleet.json --at 1000"
 );
@@ -57,26 +57,35 @@ pub const EXPLAIN_NOTES: &str = notes!(
 
 /// The notes of `run`.
 pub const RUN_NOTES: &str = notes!(
-    "A script is one JSON object in format 1, at most 16,777,216 bytes; docs/FORMATS.md says all of it.\n\
-    Readings of clocks in it are whole seconds since the epoch.\n\
+    "A script is one JSON object in format 1 or 2, at most 16,777,216 bytes; docs/FORMATS.md says all of it.\n\
+    Its transcript is in the same format. Readings of clocks in it are whole seconds since the epoch.\n\
     Without a file the standard input is read to its end; with one it isn't read.",
     "migctl run far-clocks.json | migctl check"
 );
 
 /// The notes of `check`.
 pub const CHECK_NOTES: &str = notes!(
-    "A transcript is what 'run' prints, at most 16,777,216 bytes. Its script is played again, and nothing else\n\
-    of it is believed. Three lines are printed: the premises, the verdict, and whether it is accepted.\n\
+    "A transcript is what 'run' prints, in format 1 or 2, at most 16,777,216 bytes. Its script is played again, and\n\
+    nothing else of it is believed. Three lines are printed: the premises, the verdict, and whether it is accepted.\n\
     Without a file the standard input is read to its end; with one it isn't read.",
     ", 3 not accepted",
     "migctl run far-clocks.json | migctl check"
+);
+
+/// The notes of `upgrade`.
+pub const UPGRADE_NOTES: &str = notes!(
+    "A script is one JSON object in format 1 or 2, at most 16,777,216 bytes; docs/FORMATS.md says all of it.\n\
+    It is printed in format 2, which holds values of up to 1,048,576 bytes, as hexadecimal digits; format 1 holds\n\
+    8,192. Its setup and its events stay the same. Readings of clocks in it are whole seconds since the epoch.\n\
+    Without a file the standard input is read to its end; with one it isn't read.",
+    "migctl upgrade far-clocks.json | migctl run"
 );
 
 /// The notes of `node`.
 pub const NODE_NOTES: &str = notes!(
     "The host is an address, as 127.0.0.1, or localhost. The node is empty at first, and speaks memcached's text protocol.\n\
     Connections are accepted one after another, and each is served in a thread of its own. At 0 clients none is.\n\
-    The capacity counts items, not bytes: a key has at most 250 bytes, a value at most 8,192. An item that is used\n\
+    The capacity counts items, not bytes: a key has at most 250 bytes, a value at most 1,048,576. An item that is used\n\
     least recently makes way for a new one.\n\
     A client that sends nothing, or reads nothing of what it is answered, for --idle-timeout seconds is dropped.\n\
     The standard input isn't read. Once all connections have ended, 'served <n>' is printed: the number of those that\n\

@@ -1,14 +1,14 @@
 //! The words of the command line.
 ghost use Rattle.std.specs.Prelude.{◌≡◌, ◌≢◌, None, Some, false, map, IfOk, IsOkAnd, IfSome, IfNone, codes, option_map};
 ghost use Rattle.clap.specs.Words.{AddsSubcommand, app_of, found_of, rows_of, rule_of, subcommand_name_of, subcommand_rows_of};
-ghost use Rattle.mr_words.specs.Command.{at_rule, file_app, word_rule, plan_app, timeline_app, run_app, check_app, explain_app, program_app};
+ghost use Rattle.mr_words.specs.Command.{at_rule, file_app, word_rule, plan_app, timeline_app, run_app, check_app, upgrade_app, explain_app, program_app};
 ghost use Rattle.mr_words.specs.Explain.{told_by};
 ghost use Rattle.mr_words.specs.Words.{HasPlan, HasExplanation, ReadsWords, SaysPlainly, SaysVersion, ReadsAs, TellsVersion};
 ghost use Rattle.mr_words.specs.WordSteps.{IsFaultOf, GivesReadings, GivesTimeline, GivesCommand, both_given, no_such_fault};
 
 use crate::explain::{Explanation, find_explanation};
 use crate::help::{
-    CHECK_NOTES, EXPLAIN_NOTES, PLAN_NOTES, PROGRAM_NOTES, RUN_NOTES, TIMELINE_NOTES,
+    CHECK_NOTES, EXPLAIN_NOTES, PLAN_NOTES, PROGRAM_NOTES, RUN_NOTES, TIMELINE_NOTES, UPGRADE_NOTES,
 };
 use crate::options::{config_option, option};
 use crate::readings::numbers_in;
@@ -63,6 +63,8 @@ pub enum Wanted<'a> {
     Run(Option<&'a str>),
     /// What is found of the transcript in a file, or of the one on the input.
     Check(Option<&'a str>),
+    /// The script in a file, or the one on the input, in the newest format.
+    Upgrade(Option<&'a str>),
     /// The service of a node.
     Node(NodeValues<'a>),
     /// The service of a proxy.
@@ -186,6 +188,14 @@ fn check_command<'a>(alloc: Global) -> Result<Command<'a>, AllocError>
     file_command(alloc, "check", "transcript", about, CHECK_NOTES)
 }
 
+/// The command `upgrade`.
+fn upgrade_command<'a>(alloc: Global) -> Result<Command<'a>, AllocError>
+    ensures { IfOk result (λ command. app_of command ≡ upgrade_app) }
+{
+    let about = "Prints a script in format 2";
+    file_command(alloc, "upgrade", "script", about, UPGRADE_NOTES)
+}
+
 /// A word of its own, by its name.
 fn word<'a>(alloc: Global, name: &'a str, help: &'a str) -> Arg<'a>
     ensures rule { rule_of result ≡ word_rule name.entry.now None }
@@ -236,6 +246,7 @@ fn program<'a>(alloc: Global) -> Result<Command<'a>, AllocError>
     let program = with_command(program, timeline_command(alloc));
     let program = with_command(program, run_command(alloc));
     let program = with_command(program, check_command(alloc));
+    let program = with_command(program, upgrade_command(alloc));
     let program = with_command(program, node_command(alloc));
     let program = with_command(program, proxy_command(alloc));
     let program = with_command(program, explain_command(alloc))?;
@@ -317,6 +328,9 @@ fn wanted_of<'a>(alloc: Global, matches: &ArgMatches<'a>) -> Result<Option<Wante
     }
     if let Some(found) = matches.subcommand_matches("check") {
         return Ok(Some(Wanted::Check(found.get_str("file"))));
+    }
+    if let Some(found) = matches.subcommand_matches("upgrade") {
+        return Ok(Some(Wanted::Upgrade(found.get_str("file"))));
     }
     if let Some(found) = matches.subcommand_matches("node") {
         return match node_values(found) {

@@ -138,8 +138,8 @@ def keys_of_up_to_250_bytes_are_kept():
 
 
 @case
-def blocks_of_up_to_8192_bytes_are_kept():
-    """Any bytes come back as they were, line ends among them."""
+def blocks_of_any_bytes_are_kept():
+    """They come back as they were, line ends among them."""
     with Fleet() as fleet:
         client = fleet.node().client()
         for length in (0, 1, 2, 4095, 4096, 4097, 8191, 8192):

@@ -122,7 +122,7 @@ def flags_of_32_bits_come_back_through_a_proxy():
 
 @case
 def expiries_blocks_and_keys_go_through_a_proxy():
-    """What a set says reaches the node whole: blocks of up to 8,192 bytes, keys of up to 250, an expiry that is over."""
+    """What a set says reaches the node whole: its block, a key of up to 250 bytes, an expiry that is over."""
     with Fleet() as fleet:
         client = fleet.proxy(fleet.config(fleet.nodes(2))).client()
         for length in (0, 1, 4096, 4097, 8192):

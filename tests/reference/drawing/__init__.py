@@ -3,10 +3,10 @@
 About a third of them is valid, a third hostile, and a third altered from what was valid. A case is a function of a seed and an
 index, so that one which fails can be drawn again.
 """
-from typing import Dict, List, NamedTuple
+from typing import Callable, Dict, List, NamedTuple, Tuple
 
 from . import breaches, changed_texts, configs, fleets, last_events, requests, scripts
-from .sources import ChainSource, Source
+from .sources import ChainSource, SecondSource, Source
 from .spelling import compact, spelled
 
 FILE = "fleet.json"
@@ -19,19 +19,41 @@ class Drawn(NamedTuple):
     words: List[str]
     files: Dict[str, bytes]
     stdin: bytes
+    then: Tuple[str, ...] = ()  # commands that read in turn what was written
 
 
 def draw(seed, index):
-    source = Source(f"{seed} {index}")
-    name, make = source.choices(KINDS, WEIGHTS)[0]
-    return Drawn(name, *make(source))
+    return of_some_kind(Source(f"{seed} {index}"), "drawn")
 
 
 def draw_chain(seed, index):
     """A case of which the configurations have several hops."""
-    source = ChainSource(f"{seed} chain {index}")
-    name, make = source.choices(KINDS, CHAIN_WEIGHTS)[0]
-    return Drawn(name, *make(source))
+    return of_some_kind(ChainSource(f"{seed} chain {index}"), "chain")
+
+
+def draw_second(seed, index):
+    """A run of a script of format 2. The transcript is checked."""
+    return of_some_kind(SecondSource(f"{seed} second {index}"), "second")._replace(then=("check",))
+
+
+def draw_upgrade(seed, index):
+    """An upgrade of a script, of either format and of any number of hops. What it gave is run."""
+    of = (Source, ChainSource, Source, SecondSource)[index % 4]
+    return of_some_kind(of(f"{seed} upgrade {index}"), "upgrade")._replace(then=("run",))
+
+
+def of_some_kind(source, among):
+    """A case of a kind that is as likely as it is said to come among those of a sort."""
+    name, kind = source.choices(list(KINDS.items()), [getattr(kind, among) for kind in KINDS.values()])[0]
+    return Drawn(name, *kind.make(source))
+
+
+def next_of(drawn, written):
+    """What reads the output of a drawn case, which is no fault; None where nothing does."""
+    if not drawn.then:
+        return None
+    command, *others = drawn.then
+    return Drawn(f"{drawn.name}, then {command}", [command], {}, written, tuple(others))
 
 
 def altered_transcript(seed, index):
@@ -125,7 +147,7 @@ def given(source, command, data):
 
 def text_of(command, fleet):
     """What the command reads of a fleet: its script, or its transcript."""
-    return fleet.script() if command == "run" else fleet.transcript()
+    return fleet.transcript() if command == "check" else fleet.script()
 
 
 def valid(command):
@@ -147,8 +169,8 @@ def hostile(command):
         shape = source.random()
         if shape < 0.7:
             return given(source, command, scripts.refused_text(source, text_of(command, fleet)))
-        if shape < 0.72:  # what the other command reads
-            return given(source, command, compact(text_of({"run": "check", "check": "run"}[command], fleet)).encode())
+        if shape < 0.72:  # what another command reads
+            return given(source, command, compact(text_of("run" if command == "check" else "check", fleet)).encode())
         add = last_events.add_refused if shape < 0.93 else last_events.add_greatest
         add(source, fleet)
         return given(source, command, compact(text_of(command, fleet)).encode())
@@ -163,25 +185,36 @@ def altered(command):
     return make
 
 
-# How often each kind comes, among all cases and among those of chains. A request is refused before a hop is looked at.
-TABLE = {
-    "plan, valid request": (8, 18, lambda source: plan_of(source, requests.valid_request(source))),
-    "plan, refused request": (7, 0, lambda source: plan_of(source, requests.refused_request(source))),
-    "plan, altered request": (5, 0, lambda source: plan_of(source, requests.altered_request(source))),
-    "configuration, valid": (4, 6, valid_config),
-    "configuration, refused": (8, 12, lambda source: configured(source, configs.refused_config(source))),
-    "configuration, altered": (8, 10, altered_valid_config),
-    "timeline, valid": (4, 8, valid_timeline),
-    "timeline, odd words": (2, 0, odd_words),
-    "run, valid": (8, 14, valid("run")),
-    "run, one premise false": (2, 12, breached),
-    "run, hostile": (9, 10, hostile("run")),
-    "run, altered": (7, 4, altered("run")),
-    "check, valid": (9, 4, valid("check")),
-    "check, hostile": (9, 10, hostile("check")),
-    "check, altered": (12, 8, altered("check")),
+class Kind(NamedTuple):
+    """What makes cases of a kind, and how often it comes: among all cases, among those of chains, among scripts of format 2 and among
+    upgrades."""
+    make: Callable
+    drawn: int = 0
+    chain: int = 0
+    second: int = 0
+    upgrade: int = 0
+
+
+# A request is refused before a hop is looked at.
+KINDS = {
+    "plan, valid request": Kind(lambda source: plan_of(source, requests.valid_request(source)), drawn=8, chain=18),
+    "plan, refused request": Kind(lambda source: plan_of(source, requests.refused_request(source)), drawn=7),
+    "plan, altered request": Kind(lambda source: plan_of(source, requests.altered_request(source)), drawn=5),
+    "configuration, valid": Kind(valid_config, drawn=4, chain=6),
+    "configuration, refused": Kind(lambda source: configured(source, configs.refused_config(source)), drawn=8, chain=12),
+    "configuration, altered": Kind(altered_valid_config, drawn=8, chain=10),
+    "timeline, valid": Kind(valid_timeline, drawn=4, chain=8),
+    "timeline, odd words": Kind(odd_words, drawn=2),
+    "run, valid": Kind(valid("run"), drawn=8, chain=14, second=8),
+    "run, one premise false": Kind(breached, drawn=2, chain=12, second=1),
+    "run, hostile": Kind(hostile("run"), drawn=9, chain=10, second=6),
+    "run, altered": Kind(altered("run"), drawn=7, chain=4, second=3),
+    "check, valid": Kind(valid("check"), drawn=9, chain=4),
+    "check, hostile": Kind(hostile("check"), drawn=9, chain=10),
+    "check, altered": Kind(altered("check"), drawn=12, chain=8),
+    "upgrade, valid": Kind(valid("upgrade"), upgrade=3),
+    "upgrade, hostile": Kind(hostile("upgrade"), upgrade=1),
+    "upgrade, altered": Kind(altered("upgrade"), upgrade=1),
 }
-KINDS = [(name, make) for name, (_, _, make) in TABLE.items()]
-WEIGHTS = [weight for weight, _, _ in TABLE.values()]
-CHAIN_WEIGHTS = [weight for _, weight, _ in TABLE.values()]
-SORTS = {"drawn": draw, "chain": draw_chain, "transcript": altered_transcript, "configuration": altered_config}
+SORTS = {"drawn": draw, "chain": draw_chain, "format 2": draw_second, "upgrade": draw_upgrade, "transcript": altered_transcript,
+         "configuration": altered_config}

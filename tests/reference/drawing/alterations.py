@@ -64,6 +64,8 @@ def other_value(source, container, key):
         container[key] = not value
     elif isinstance(value, int):
         container[key] = source.choice((value + 1, max(value - 1, 0), 0, 1, 2**32 - 1, 2**32, 2**64 - 1))
+    elif isinstance(value, str) and source.random() < 0.2 and value.swapcase() != value:
+        container[key] = value.swapcase()
     elif isinstance(value, str):
         place = source.randrange(len(value) + 1)
         container[key] = value[:place] + source.choice("ks0 ,|\n\u007f\u00ff\u0100") + value[place + source.randrange(2):]

@@ -3,6 +3,7 @@ import copy
 
 from ..configs import POINTER, config_of
 from ..phases import GREATEST
+from . import data
 from .configs import ends_of, hops_of, migration, routes_of
 from .fleets import Fleet
 from .setups import KEYS
@@ -70,7 +71,8 @@ def not_empty(source, config, number):
     start, middle, _ = hops_of(config)[number].bounds()
     key = source.choice(KEYS)
     node = config_of(config).routing.node(number + 1, key.encode("latin-1"))
-    fleet = fleet_of(source, config, (start - 1,), held=[{"node": node, "key": key, "flags": 0, "data": "v"}])
+    item = {"node": node, "key": key, "flags": 0, "data": data.text_of(source, b"v")}
+    fleet = fleet_of(source, config, (start - 1,), held=[item])
     fleet.complete(0, fleet.delete(key))
     fleet.happen(do="clock", proxy=0, reading=middle)
     fleet.complete(0, fleet.get(key))

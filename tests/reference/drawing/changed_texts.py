@@ -12,7 +12,7 @@ from typing import List, NamedTuple
 
 from . import configs, fleets
 from .every_change import Place, changed, changes_at, places
-from .sources import Source
+from .sources import SecondSource, Source
 from .spelling import compact, spelled
 
 EXAMPLES = pathlib.Path(__file__).resolve().parents[3] / "examples"
@@ -40,8 +40,14 @@ def altered(source, originals, index):
 
 @functools.lru_cache(maxsize=None)
 def transcripts(seed):
-    drawn = [(f"play {place}", fleets.drawn_fleet(Source(f"{seed} play {place}")).transcript()) for place in range(DRAWN)]
+    drawn = [(f"play {place}", drawn_transcript(seed, place)) for place in range(DRAWN)]
     return originals(seed, examples("*.transcript.json") + drawn)
+
+
+def drawn_transcript(seed, place):
+    """A transcript, of which one in four is of format 2."""
+    of = SecondSource if place % 4 == 3 else Source
+    return fleets.drawn_fleet(of(f"{seed} play {place}")).transcript()
 
 
 @functools.lru_cache(maxsize=None)

@@ -8,8 +8,9 @@ from ..phases import GREATEST
 from ..scripts import event_of, setup_of
 from ..transcripts import Play
 from ..worlds import World
+from . import data
 from .configs import migration, reading_about
-from .setups import DATA, FLAGS, KEYS, Odds, drawn_setup
+from .setups import FLAGS, KEYS, Odds, drawn_setup
 
 EXPTIMES = (0, 1, 2, 100, 2592000, 2592001, -1, 2**63 - 1, -(2**63))
 MOMENTS = (0, 1, 2592000, 2592001, GREATEST - 1, GREATEST)
@@ -21,24 +22,24 @@ class Fleet:
     def __init__(self, source, setup):
         self.source = source
         self.setup = setup
-        self.world = World(setup_of(setup))
+        self.world = World(setup_of(setup, source.form))
         self.events = []
         self.notes = []
         self.keys = source.sample(KEYS, source.choice((1, 1, 2, setup["capacity"] + 1)))
-        self.data = source.sample(DATA, source.randrange(1, 4))
+        self.data = [data.drawn(source) for _ in range(source.randrange(1, 4))]
         self.undelivered = []  # messages that have reached no node
         self.unreturned = []  # replies that haven't come back
 
     def script(self):
-        return {"format": 1, "setup": self.setup, "events": self.events}
+        return {"format": self.source.form.number, "setup": self.setup, "events": self.events}
 
     def transcript(self):
         played = Play(self.notes, self.world.history, self.world.premises(), judge(self.world.history), None)
-        return {**self.script(), **played.found()}
+        return {**self.script(), **played.found(self.source.form)}
 
     def happen(self, **event):
         self.events.append(event)
-        self.notes.append(self.world.step(event_of(event)))
+        self.notes.append(self.world.step(event_of(event, self.source.form)))
         return self.notes[-1]
 
     # What clients ask for.
@@ -63,9 +64,10 @@ class Fleet:
         return {"kind": "get", "keys": list(keys)}
 
     def set(self, key):
-        flags, data = map(self.source.choice, (FLAGS, self.data))
+        flags = self.source.choice(FLAGS)
         exptime = 0 if self.source.random() < 0.6 else self.source.choice(EXPTIMES)
-        return {"kind": "set", "key": key, "flags": flags, "exptime": exptime, "data": data}
+        text = data.text_of(self.source, self.source.choice(self.data))
+        return {"kind": "set", "key": key, "flags": flags, "exptime": exptime, "data": text}
 
     def delete(self, key):
         return {"kind": "delete", "key": key}

@@ -1,5 +1,6 @@
 """What a fleet's script may end with: an event that is refused, or one of the greatest size."""
 from ..phases import GREATEST
+from . import data
 
 SMALL_ROOM = 4
 
@@ -57,11 +58,12 @@ REFUSED = (no_such_proxy, no_such_node, no_such_message, no_such_reply, no_such_
 def add_greatest(source, fleet):
     """Lets a script go on with a request of the greatest size, and at the greatest moment."""
     proxy = fleet.some_proxy()
+    longest = data.longest(source)
     messages = fleet.ask(proxy, source.choice((
         {"kind": "get", "keys": ["k"] * 4094},
         {"kind": "get", "keys": ["x" * 250] * 32 + ["y" * 156]},
-        {"kind": "set", "key": "\u00ff" * 250, "flags": 2**32 - 1, "exptime": 2**63 - 1, "data": "\u00ff" * 8192},
-        {"kind": "set", "key": "k", "flags": 0, "exptime": -(2**63), "data": "\0" * 8192, "noreply": True})))
+        {"kind": "set", "key": "\u00ff" * 250, "flags": 2**32 - 1, "exptime": 2**63 - 1, "data": data.text_of(source, b"\xff" * longest)},
+        {"kind": "set", "key": "k", "flags": 0, "exptime": -(2**63), "data": data.text_of(source, b"\0" * longest), "noreply": True})))
     for message in messages[:1]:
         fleet.happen(do="deliver", message=message, now=GREATEST)
     fleet.happen(do="clock", proxy=proxy, reading=GREATEST)

@@ -3,13 +3,14 @@ from .alterations import altered_bytes
 
 KEY_BYTES = bytes(byte for byte in range(33, 256) if byte != 127)
 PLAIN_KEYS = (b"k", b"a", b"b", b"user:1", b"0", b"noreply", b"get", b"-1", b"\xff\x80", b"!")
-LIMITS = (8191, 8192, 8193, 8194)
+LIMITS = (8191, 8192, 8193, 8194)  # about that of lines
+BLOCKS = (*[(8191, 8192, 8193)] * 9, (1_048_575, 1_048_576, 1_048_577))  # the limit of blocks less often
 UNKNOWN = (
     b"gets k", b"cas k 0 0 1 5", b"add k 0 0 1", b"replace k 0 0 1", b"append k 0 0 1", b"prepend k 0 0 1", b"touch k 0",
     b"incr k 1", b"stats", b"version", b"flush_all", b"mg k v", b"VALUE k 0 1", b"END", b"GET k", b"Get k", b"getk", b"deletek",
     b"quit\r", b"get\tk", b"set\0k", b"\0get k", b"\x80\x01", b"\xef\xbb\xbfget k", b"", b" ", b"\r")
 NOISE = (b"get", b"set", b"delete", b"quit", b"k", b" ", b" ", b"  ", b"\r", b"\n", b"\r\n", b"0", b"1", b"noreply", b"\0", b"\t",
-         b"-", b"\xff", b"\x7f", b"99999999999999999999", b"4294967296", b"8193")
+         b"-", b"\xff", b"\x7f", b"99999999999999999999", b"4294967296", b"1048577")
 
 
 def valid_request(source):
@@ -61,7 +62,7 @@ def exptime(source):
 
 def data(source):
     if source.random() < 0.1:
-        return b"z" * source.choice((8191, 8192))
+        return b"z" * source.choice((8191, 8192, 8193))
     return source.choice((b"", b"v", b"\r\n", b"a\r\nb", b"END\r\n", b"\0", source.getrandbits(80).to_bytes(10, "big")))
 
 
@@ -137,7 +138,7 @@ def refused_number(source):
 
 
 def too_much_data(source):
-    size = source.choice((b"8193", b"0008193", b"1048576", b"18446744073709551615", b"4294967296"))
+    size = source.choice((b"1048577", b"0001048577", b"2097152", b"18446744073709551615", b"4294967296"))
     return line(source, [b"set", key(source), b"0", b"0", size]) + source.choice((b"", b"v\r\n", b"v" * 8193 + b"\r\n"))
 
 
@@ -162,7 +163,7 @@ def at_limit(source):
     if shape == 1:
         words = source.choice(([b"get"], [b"delete"], [b"get", b"k"]))
         return b" ".join([*words, b"x" * source.choice((250, 251))]) + b"\r\n"
-    size = source.choice(LIMITS)
+    size = source.choice(source.choice(BLOCKS))
     block = b"z" * (size + source.choice((-1, 0, 0, 0, 1)))
     return b"set k 0 0 %d\r\n" % size + block + source.choice((b"\r\n", b"\r\n", b"\n", b""))
 
@@ -178,7 +179,7 @@ def several(source):
         return line(source, [either(b"delete", b"Delete"), name, *last])
     block = data(source)
     size = str(len(block)).encode()
-    numbers = either([b"0", b"0", either(size, b"8193")], bad_number(source))
+    numbers = either([b"0", b"0", either(size, b"1048577")], bad_number(source))
     words = [either(b"set", b"sets"), name, *numbers[:either(3, 2)], *last]
     return either(b"", b" " * 8200) + line(source, words) + block + either(b"\r\n", source.choice((b"\n", b"", b"\r", b"xx")))
 

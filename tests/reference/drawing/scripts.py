@@ -2,12 +2,12 @@
 
 A transcript is a script with four keys more, so what is wrong with the one is wrong with the other.
 """
-from . import configs
+from . import configs, data
 from .alterations import OTHER_KEYS, OTHER_KINDS, alter, alter_at, altered_bytes, pick
 from .configs import NO_JSON, NOT_NUMBERS, TOO_LARGE
 from .spelling import Raw, compact, nested, spelled
 
-NOT_TEXTS = (None, 1, [], {}, "\u0100", "k\u4e2d", "k\U0001f600", Raw('"\\ud800"'))
+NOT_TEXTS = (*data.NOT_TEXTS, Raw('"\\ud800"'))
 NOT_KEYS = (*NOT_TEXTS, "", "x" * 251, "a b", "\n", "\u007f", "k\0")
 OP = [0, 0, 0]
 # Values that the member of a key can't have.
@@ -20,14 +20,13 @@ BAD = {
     "message": NOT_NUMBERS,
     "now": NOT_NUMBERS,
     "reply": NOT_NUMBERS,
-    "format": (*NOT_NUMBERS, 0, 2, "1", Raw("1.0")),
+    "format": (*NOT_NUMBERS, 0, 1, 2, 3, 258, 2**32 + 1, "1", "2", Raw("1.0"), Raw("2e0")),
     "request": (None, [], "get k", {}, {"kind": "quit"}, {"kind": "get"}),
     "kind": (None, "", "GET", "quit", 1, "gets"),
     "keys": (None, [], "k", {}, [1], [""], ["k", "a b"], ["k"] * 4095, ["k", None], ["\u0100"], ["x" * 250] * 32 + ["y" * 157]),
     "key": NOT_KEYS,
     "flags": (*NOT_NUMBERS, 2**32),
     "exptime": (None, "0", 2**63, Raw("-9223372036854775809"), Raw("-0"), Raw("1.0"), Raw("1e1"), True),
-    "data": (*NOT_TEXTS, "x" * 8193),
     "noreply": (None, 0, 1, "true", []),
     "node": (*NOT_TEXTS, "", "x" * 256, "a,b", "a b", "\u00e9", "\n"),
     "op": (None, [], [0, 0], [0, 0, 0, 0], "0.0.0", [0, 0, "0"], [2**32, 0, 0], [0, -1, 0], [0, 0, Raw("0.0")], {"op": OP}),
@@ -40,7 +39,7 @@ BAD = {
 EVENTS = (
     {"do": "clock", "proxy": 0, "reading": 0},
     {"do": "client", "proxy": 0, "request": {"kind": "get", "keys": ["k"]}},
-    {"do": "client", "proxy": 0, "request": {"kind": "set", "key": "k", "flags": 0, "exptime": 0, "data": "v", "noreply": False}},
+    {"do": "client", "proxy": 0, "request": {"kind": "set", "key": "k", "flags": 0, "exptime": 0, "data": "76", "noreply": False}},
     {"do": "client", "proxy": 0, "request": {"kind": "delete", "key": "k", "noreply": True}},
     {"do": "deliver", "message": 0, "now": 0},
     {"do": "return", "reply": 0},
@@ -99,8 +98,13 @@ def has_a_bad_member(source, value):
     """A member is of another kind, or of a value that it may not have."""
     setup = value["setup"]
     within = source.choice((value, setup, setup, *setup["held"], *setup["proxies"]))
-    key = source.choice([key for key in sorted(within) if key in BAD])
-    within[key] = pick(source, BAD[key])
+    bad = bad_values(source)
+    key = source.choice([key for key in sorted(within) if key in bad])
+    within[key] = pick(source, bad[key])
+
+
+def bad_values(source):
+    return {**BAD, "data": data.bad_texts(source.form)}
 
 
 def has_a_bad_config(source, value):
@@ -139,7 +143,7 @@ def bad_event(source):
     elif change == 2:
         within[source.choice(("", "at", "Key", "servers"))] = pick(source, OTHER_KINDS)
     else:
-        within[key] = pick(source, BAD[key])
+        within[key] = pick(source, bad_values(source)[key])
     return event
 
 

@@ -4,10 +4,10 @@ from typing import NamedTuple
 
 from ..configs import config_of
 from ..phases import GREATEST
+from . import data
 from .configs import end_of, ends_of, hops_of, migration, reading_about, routes_of
 
 KEYS = ("k", "a", "b", "user:1", "\u00ff\u0080", "x" * 250)
-DATA = ("v", "w", "", "a\r\nb", "\0\u001f\"\\\u007f\u00e9\u00ff/\b\f")
 FLAGS = (0, 0, 0, 1, 2**32 - 1)
 ROOMS = (1, 2, 4, 100, GREATEST)
 
@@ -79,4 +79,4 @@ def held_item(source, config, is_any):
     node = routing.node(number, key.encode("latin-1"))
     if source.random() < 0.3:
         node = source.choice(routing.pools[number])
-    return {"node": node, "key": key, "flags": source.choice(FLAGS), "data": source.choice(DATA)}
+    return {"node": node, "key": key, "flags": source.choice(FLAGS), "data": data.text_of(source, data.drawn(source))}

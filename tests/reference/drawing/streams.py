@@ -5,7 +5,7 @@ from .alterations import altered_bytes
 CAUSES = (b"line too long", b"bad key", b"bad number", b"wrong words", b"data too long", b"bad data end", b"leg lost", b"busy",
           b"out of memory", b"clock fault", b"book full", b"numbers spent", b"node refused")
 NOISE = (b"VALUE", b"END", b"STORED", b"DELETED", b"NOT_FOUND", b"ERROR", b"CLIENT_ERROR", b"SERVER_ERROR", b" ", b" ", b"  ", b"k",
-         b"0", b"1", b"\r", b"\n", b"\r\n", b"\0", b"\t", b"busy", b"\xff", b"8193")
+         b"0", b"1", b"\r", b"\n", b"\r\n", b"\0", b"\t", b"busy", b"\xff", b"1048577")
 UNKNOWN = (b"", b" ", b"\r", b"VALUES k 0 1", b"value k 0 1", b"END\r", b"STORED\t", b"OK", b"get k", b"NOT_STORED", b"EXISTS", b"\0END")
 
 
@@ -92,7 +92,7 @@ def refused_item(source):
     """An item whose key, one of whose numbers, or whose block is refused, at times behind others."""
     flags, _, size = requests.bad_number(source)
     wrong = source.choice((
-        [b"VALUE", requests.bad_key(source), b"0", b"1"], [b"VALUE", b"k", flags, size], [b"VALUE", b"k", b"0", b"8193"],
+        [b"VALUE", requests.bad_key(source), b"0", b"1"], [b"VALUE", b"k", flags, size], [b"VALUE", b"k", b"0", b"1048577"],
         [b"VALUE", b"k", b"0", b"18446744073709551615"], [b"VALUE", b"k", b"0", b"0"], [b"VALUE", b"k", b"0", b"2"]))
     before = b"".join(item(source) for _ in range(source.choice((0, 0, 1, 2))))
     return before + requests.line(source, wrong) + source.choice((b"v\r\n", b"v\n", b"v\r\r", b"vv\r\n")) + b"END\r\n"

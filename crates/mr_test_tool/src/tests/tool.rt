@@ -53,15 +53,36 @@ const TRANSCRIPT: &[u8] =
     \"type\":\"MigrateRoute\"}},\"held\":[],\"proxies\":[{\"reading\":999,\"room\":4}]},\
     \"verdict\":\"safe\"}\n";
 
+/// A script of which a node holds an item with the data `v`.
+const HELD: &[u8] =
+    b"{\"format\":1,\"events\":[{\"do\":\"client\",\"proxy\":0,\"request\":{\"kind\":\"get\",\"keys\":[\"k\"]}},\
+    {\"do\":\"deliver\",\"message\":0,\"now\":999},{\"do\":\"return\",\"reply\":0}],\
+    \"setup\":{\"capacity\":4,\"config\":{\"hash\":\"sum\",\"pools\":{\"new\":{\"servers\":[\"7101\",\
+    \"7102\",\"7103\"]},\"old\":{\"servers\":[\"7001\",\"7002\"]}},\
+    \"route\":{\"from\":\"PoolRoute|old\",\"interval\":100,\"start_time\":1000,\"to\":\"PoolRoute|new\",\
+    \"type\":\"MigrateRoute\"}},\"held\":[{\"node\":\"7002\",\"key\":\"k\",\"flags\":0,\"data\":\"v\"}],\
+    \"proxies\":[{\"reading\":999,\"room\":4}]}}";
+
+/// The same script in format 2, with its line end: the keys in order, and two hexadecimal digits for the byte of the data.
+const UPGRADED: &[u8] =
+    b"{\"events\":[{\"do\":\"client\",\"proxy\":0,\"request\":{\"keys\":[\"k\"],\"kind\":\"get\"}},\
+    {\"do\":\"deliver\",\"message\":0,\"now\":999},{\"do\":\"return\",\"reply\":0}],\"format\":2,\
+    \"setup\":{\"capacity\":4,\"config\":{\"hash\":\"sum\",\"pools\":{\"new\":{\"servers\":[\"7101\",\
+    \"7102\",\"7103\"]},\"old\":{\"servers\":[\"7001\",\"7002\"]}},\
+    \"route\":{\"from\":\"PoolRoute|old\",\"interval\":100,\"start_time\":1000,\"to\":\"PoolRoute|new\",\
+    \"type\":\"MigrateRoute\"}},\"held\":[{\"data\":\"76\",\"flags\":0,\"key\":\"k\",\"node\":\"7002\"}],\
+    \"proxies\":[{\"reading\":999,\"room\":4}]}}\n";
+
 /// What is printed of the transcript.
 const ACCEPTED: &[u8] =
     b"premises same true new_empty true forward true near true\nverdict safe\naccepted\n";
 
 /// The files that runs find.
-static PLACES: [Place<'static>; 3] = [
+static PLACES: [Place<'static>; 4] = [
     ("fleet.json", FLEET),
     ("script.json", SCRIPT),
     ("transcript.json", TRANSCRIPT),
+    ("held.json", HELD),
 ];
 
 /// What a run left.

@@ -1,5 +1,5 @@
 -- A request that was found at the front of some bytes, over the program's own types for it.
-use Rattle.std.specs.Prelude.{◌≡◌, ℕ, ◌≤◌, Bool, false, List, length, drop, Option, Some, None, Result, Ok, Err}
+use Rattle.std.specs.Prelude.{◌≡◌, ℕ, ◌≤◌, false, List, length, drop, Result, Ok, Err}
 use Rattle.mr_lines.specs.Words.{words_of}
 use Rattle.mr_text.specs.Block.{IsBlock}
 use Rattle.mr_text.specs.Key.{IsKey}

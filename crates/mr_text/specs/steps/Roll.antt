@@ -1,6 +1,6 @@
 -- What bytes that only contracts see stand for.
 use Rattle.std.specs.Prelude.{ℕ, List, [], ◌∷◌, ◌++◌}
-use Rattle.mr_text.specs.declared.devices.counting.bytes.Roll.{Roll, Empty, More'}
+use Rattle.mr_text.specs.declared.devices.counting.roll.Roll.{Roll, Empty, More'}
 
 -- the bytes, in the order in which they went by
 abbrev pub bytes_of : Roll → List ℕ

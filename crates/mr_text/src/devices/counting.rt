@@ -1,9 +1,9 @@
 //! Counts and texts that only contracts see: they never overflow and take no memory, since a program stores none of them.
 
-mod bytes;
 mod count;
 mod least;
+mod roll;
 
-pub use bytes::GhostBytes;
 pub use count::GhostCount;
 pub use least::GhostLeast;
+pub use roll::GhostBytes;

@@ -1,11 +1,8 @@
 //! What the line of an item said whose block isn't whole yet.
-ghost use Rattle.std.specs.Prelude.{◌≡◌, ◌≤◌, length, IfOk};
-ghost use Rattle.mr_text.specs.Block.{IsBlock};
+ghost use Rattle.std.specs.Prelude.{◌≡◌, ◌≤◌, IfOk};
 ghost use Rattle.mr_text.specs.Key.{IsKey};
 ghost use Rattle.mr_text.specs.Limits.{MAX_BLOCK};
 
-use crate::block::Block;
-use crate::item::Item;
 use crate::key::Key;
 use crate::limits::MAX_KEY;
 use arrayvec::ArrayVec;
@@ -57,16 +54,17 @@ impl BegunItem {
         self.block_length
     }
 
-    /// The item, with this block.
-    pub(crate) fn with_block(&self, alloc: Global, block: &[u8]) -> Result<Item, AllocError>
-        requires { IsBlock block.now }
-        ensures { IfOk result (λ item.
-            item ≡ record { key = self.now.key; flags = self.now.flags; block = block.now }) }
+    /// The key that the line named.
+    pub(crate) fn key(&self, alloc: Global) -> Result<Key, AllocError>
+        ensures { IfOk result (λ key. key ≡ self.now.key) }
     {
-        Ok(Item {
-            key: Key::of(alloc, self.key.as_slice())?,
-            flags: self.flags,
-            block: Block::of(alloc, block)?,
-        })
+        Key::of(alloc, self.key.as_slice())
+    }
+
+    /// The flags that the line named.
+    pub(crate) fn flags(&self) -> u32
+        ensures { result ≡ self.now.flags }
+    {
+        self.flags
     }
 }

@@ -1,6 +1,5 @@
 //! What the line of a set said whose block isn't whole yet.
-ghost use Rattle.std.specs.Prelude.{◌≡◌, ◌≤◌, length, IfOk};
-ghost use Rattle.mr_text.specs.Block.{IsBlock};
+ghost use Rattle.std.specs.Prelude.{◌≡◌, ◌≤◌, IfOk};
 ghost use Rattle.mr_text.specs.Key.{IsKey};
 ghost use Rattle.mr_text.specs.Limits.{MAX_BLOCK};
 ghost use Rattle.mr_text.specs.declared.request.Request.TheVariants as request;
@@ -80,18 +79,24 @@ impl BegunSet {
         self.block_length
     }
 
-    /// The set, with this block.
-    pub(crate) fn with_block(&self, alloc: Global, block: &[u8]) -> Result<Request, AllocError>
-        requires { IsBlock block.now }
-        ensures { IfOk result (λ set.
-            set ≡ request.Set self.now.key self.now.flags self.now.exptime block.now self.now.noreply) }
+    /// The key that the line named.
+    pub(crate) fn key(&self, alloc: Global) -> Result<Key, AllocError>
+        ensures { IfOk result (λ key. key ≡ self.now.key) }
     {
-        Ok(Request::Set {
-            key: Key::of(alloc, self.key.as_slice())?,
+        Key::of(alloc, self.key.as_slice())
+    }
+
+    /// The set, of that key and with this block.
+    pub(crate) fn with(&self, key: Key, block: Block) -> Request
+        requires { key ≡ self.now.key }
+        ensures { result ≡ request.Set self.now.key self.now.flags self.now.exptime block self.now.noreply }
+    {
+        Request::Set {
+            key,
             flags: self.flags,
             exptime: self.exptime,
-            block: Block::of(alloc, block)?,
+            block,
             noreply: self.noreply,
-        })
+        }
     }
 }

@@ -1,12 +1,15 @@
 //! What came of a stream and wasn't read yet.
-ghost use Rattle.std.specs.Prelude.{◌≡◌, ◌≢◌, ◌≤◌, ◌++◌, [], length, drop, OnOk, OnErr, MatchBool};
+ghost use Rattle.std.specs.Prelude.{◌≡◌, ◌≢◌, ◌+◌, ◌≤◌, ◌++◌, [], length, take, drop, IfOk, IfErr, OnOk, OnErr, MatchBool};
+ghost use Rattle.mr_text.specs.Limits.{MAX_BLOCK};
 
-use crate::limits::MAX_BLOCK;
+use crate::block::Block;
+use crate::limits::{FIXED_BUFFER, LARGE_BLOCK, MAX_BLOCK, MAX_LINE};
 use std::alloc::{AllocError, Global};
 use std::marker::Model;
+use std::mem;
 
-/// The most room that is kept where nothing whole is there: a block's, with its end.
-const MOST_ROOM: usize = MAX_BLOCK + 2;
+/// The most room that is kept where no large block is on its way: a line's, with its end.
+const MOST_ROOM: usize = MAX_LINE + 2;
 
 /// The bytes of a stream that came and weren't read yet.
 ///
@@ -19,6 +22,8 @@ pub(crate) struct KeptBytes {
     start: usize,
     /// Where in the room they end.
     end: usize,
+    /// How many bytes a large block and its end are known to take, while they are on their way, and else 0.
+    awaited: usize,
 }
 
 impl Model for KeptBytes {
@@ -40,6 +45,7 @@ impl KeptBytes {
             room: Vec::new(alloc),
             start: 0,
             end: 0,
+            awaited: 0,
         }
     }
 
@@ -77,11 +83,103 @@ impl KeptBytes {
         self.start += count;
     }
 
+    /// Gives the block of so many bytes at the front away, and marks those behind it as read, up to `size` in all. A large
+    /// block takes the room along, so that it isn't copied, and what is left moves into a new one.
+    pub(crate) fn take_block(&mut self, count: usize, size: usize) -> Result<Block, AllocError>
+        requires count { count ≤ size }
+        requires size { size ≤ length self.old }
+        requires allowed { count ≤ MAX_BLOCK }
+        ensures block { IfOk result (λ block. block ≡ take count self.old) }
+        ensures ok { OnOk result (self.new ≡ drop size self.old) }
+        ensures err { OnErr result (self.new ≡ self.old) }
+    {
+        if count < LARGE_BLOCK {
+            let block = Block::of(self.allocator(), &self.as_slice()[..count])?;
+            self.skip(size);
+            return Ok(block);
+        }
+        let left = Vec::from_slice(self.allocator(), &self.as_slice()[size..])?;
+        let whole = mem::replace(self, KeptBytes::of(left));
+        match whole.into_block(count) {
+            Ok(block) => Ok(block),
+            Err(whole) => {
+                *self = whole;
+                Err(AllocError)
+            }
+        }
+    }
+
+    /// The bytes of this room.
+    fn of(room: Vec<u8>) -> KeptBytes
+        ensures { result ≡ room.items }
+    {
+        let end = room.len();
+        KeptBytes {
+            room,
+            start: 0,
+            end,
+            awaited: 0,
+        }
+    }
+
+    /// The block of so many bytes at the front, with the room, in which these stand. The room isn't longer then than what came.
+    fn into_block(self, count: usize) -> Result<Block, KeptBytes>
+        requires within { count ≤ length self }
+        requires allowed { count ≤ MAX_BLOCK }
+        ensures block { IfOk result (λ block. block ≡ take count self) }
+        ensures kept { IfErr result (λ kept. kept ≡ self) }
+    {
+        let KeptBytes {
+            mut room,
+            start,
+            end,
+            awaited,
+        } = self;
+        room.shrink_to_fit();
+        match Block::of_room(room, start, count) {
+            Ok(block) => Ok(block),
+            Err(failed) => Err(KeptBytes {
+                room: failed.value,
+                start,
+                end,
+                awaited,
+            }),
+        }
+    }
+
+    /// A block of so many bytes is to come next, with a line end behind it.
+    pub(crate) fn await_block(&mut self, count: usize)
+        requires { count ≤ MAX_BLOCK }
+        ensures { self.new ≡ self.old }
+    {
+        self.awaited = if count < LARGE_BLOCK { 0 } else { count + 2 };
+    }
+
+    /// Makes room for a piece of a large block: twice the room that there was, but no more than the block and its end take, or
+    /// than the piece needs.
+    fn make_room(&mut self, count: usize) -> Result<(), AllocError>
+        ensures { self.new ≡ self.old }
+    {
+        if self.awaited == 0 {
+            return Ok(());
+        }
+        self.move_to_front();
+        let needed = self.end.saturating_add(count);
+        if needed > self.awaited.saturating_add(FIXED_BUFFER) {
+            return Ok(());
+        }
+        let doubled = self.room.capacity().saturating_mul(2);
+        let room = needed.max(doubled.min(self.awaited));
+        self.room
+            .reserve_exact(room.saturating_sub(self.room.len()))
+    }
+
     /// Adds bytes at the end, in place of those that were read.
     pub(crate) fn push(&mut self, piece: &[u8]) -> Result<(), AllocError>
         ensures ok { OnOk result (self.new ≡ self.old ++ piece.now) }
         ensures err { OnErr result (self.new ≡ self.old) }
     {
+        self.make_room(piece.len())?;
         self.move_to_front();
         if piece.len() <= self.room.len() - self.end {
             let end = self.end + piece.len();
@@ -95,11 +193,11 @@ impl KeptBytes {
         Ok(())
     }
 
-    /// Gives back the room that is above the most that is kept.
+    /// Gives back the room that is above the most that is kept, unless the bytes of a large block need it.
     pub(crate) fn give_room_back(&mut self)
         ensures { self.new ≡ self.old }
     {
-        if self.room.capacity() > MOST_ROOM {
+        if self.len() <= MOST_ROOM && self.room.capacity() > MOST_ROOM {
             self.move_to_front();
             self.room.truncate(self.end);
             self.room.shrink_to(MOST_ROOM);

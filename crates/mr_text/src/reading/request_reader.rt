@@ -115,11 +115,16 @@ impl RequestReader {
         let block_length = set.block_length();
         match has_block(block_length, bytes) {
             Ok(true) => {
-                let Ok(request) = set.with_block(self.stream.allocator(), &bytes[..block_length])
-                else {
+                let Ok(key) = set.key(self.stream.allocator()) else {
                     return Err(TextError::OutOfMemory);
                 };
-                Ok(Some(self.give(request, block_length + 2)))
+                let Ok(block) = self.stream.read_block(block_length) else {
+                    return Err(TextError::OutOfMemory);
+                };
+                let request = set.with(key, block);
+                self.stream.give(0);
+                self.begun = None;
+                Ok(Some(request))
             }
             Ok(false) => self.wait(),
             Err(refusal) => {
@@ -171,6 +176,7 @@ impl RequestReader {
         ensures { self.new ≡ record self.old { begun = line_length } }
     {
         self.stream.read(line_length);
+        self.stream.await_block(set.block_length());
         self.begun = Some(set);
     }
 

@@ -38,11 +38,13 @@ impl SpelledBytes {
         }
     }
 
-    /// So many bytes more, which are these bytes' front.
-    pub(crate) fn extend(&mut self, bytes: &KeptBytes, count: usize)
-        ensures { self.new ≡ self.old ++ take count bytes.now }
+    /// These bytes and so many more, which are some bytes' front.
+    pub(crate) fn and(&self, bytes: &KeptBytes, count: usize) -> SpelledBytes
+        ensures { result ≡ self.now ++ take count bytes.now }
     {
         let before = Snapshot::of(&self.spelling);
-        self.spelling = Spelling::More(before, Snapshot::of(bytes), Snapshot::of(&count));
+        SpelledBytes {
+            spelling: Spelling::More(before, Snapshot::of(bytes), Snapshot::of(&count)),
+        }
     }
 }

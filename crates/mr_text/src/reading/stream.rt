@@ -1,13 +1,15 @@
 //! What a reader keeps of its stream, whatever is spelled in it.
-ghost use Rattle.std.specs.Prelude.{◌≡◌, ◌≢◌, ◌≤◌, ◌<◌, ◌++◌, [], true, None, IfSome, MatchBool, length, take, drop};
+ghost use Rattle.std.specs.Prelude.{◌≡◌, ◌≢◌, ◌+◌, ◌≤◌, ◌<◌, ◌++◌, [], true, None, IfSome, IfOk, OnOk, OnErr, MatchBool, length, take, drop};
 ghost use Rattle.mr_lines.specs.Lines.{byte_place};
+ghost use Rattle.mr_text.specs.Limits.{MAX_BLOCK};
 ghost use Rattle.mr_text.specs.steps.StreamView.{TakesPiece, StreamWaits, nothing_came, with_read, with_given};
 
+use crate::block::Block;
 use crate::error::TextError;
 use crate::reading::kept::KeptBytes;
 use crate::reading::spelled::SpelledBytes;
 use mr_lines::place_of_byte;
-use std::alloc::Global;
+use std::alloc::{AllocError, Global};
 use std::marker::Model;
 
 /// The bytes that came and weren't read, how far they were looked over, whether the input ended, and whether reading
@@ -123,8 +125,31 @@ impl Stream {
         requires { count ≤ length self.old.unread }
         ensures { self.new ≡ with_read count self.old }
     {
-        self.front.extend(&self.unread, count);
+        self.front = self.front.and(&self.unread, count);
         self.skip(count);
+    }
+
+    /// The block of so many bytes that comes next, of an unfinished text. It was read then, with the line end behind it.
+    pub(crate) fn read_block(&mut self, count: usize) -> Result<Block, AllocError>
+        requires within { count + 2 ≤ length self.old.unread }
+        requires allowed { count ≤ MAX_BLOCK }
+        ensures block { IfOk result (λ block. block ≡ take count self.old.unread) }
+        ensures read { OnOk result (self.new ≡ with_read (count + 2) self.old) }
+        ensures same { OnErr result (self.new ≡ self.old) }
+    {
+        let front = self.front.and(&self.unread, count + 2);
+        let block = self.unread.take_block(count, count + 2)?;
+        self.front = front;
+        self.scanned = 0;
+        Ok(block)
+    }
+
+    /// A block of so many bytes is to come next, with a line end behind it.
+    pub(crate) fn await_block(&mut self, count: usize)
+        requires { count ≤ MAX_BLOCK }
+        ensures { self.new ≡ self.old }
+    {
+        self.unread.await_block(count);
     }
 
     /// A text was given that ends behind so many bytes.

@@ -140,6 +140,7 @@ impl UnfinishedReply {
         ensures { LineTaken self.old self.new said size }
     {
         self.stream.read(size);
+        self.stream.await_block(said.block_length());
         self.said = Some(said);
     }
 
@@ -258,9 +259,13 @@ impl UnfinishedReply {
         match has_block(block_length, bytes) {
             Ok(false) => Ok(ReadStep::Waits),
             Ok(true) => {
-                let item = said.with_block(self.stream.allocator(), &bytes[..block_length])?;
-                self.items.push(item)?;
-                self.stream.read(block_length + 2);
+                self.items.reserve(1)?;
+                let key = said.key(self.stream.allocator())?;
+                let flags = said.flags();
+                let block = self.stream.read_block(block_length)?;
+                let Ok(()) = self.items.push(Item { key, flags, block }) else {
+                    unreachable!();
+                };
                 self.said = None;
                 Ok(ReadStep::More)
             }

@@ -3,4 +3,4 @@ use Rattle.mr_scripts.proofs.ReadingLemmas.{AreSeen}
 use Rattle.mr_scripts.proofs.held.check_held.Given as goal
 
 abbrev pub invariant-loop-value : goal.invariant-loop-value
-invariant-loop-value l = AreSeen held_of l.values l.value-index
+invariant-loop-value l = AreSeen (held_of l.format) l.values l.value-index

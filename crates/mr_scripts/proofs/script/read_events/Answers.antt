@@ -7,15 +7,15 @@ use Rattle.mr_scripts.proofs.script.read_events.Goals as goal
 
 pub invariant_of-result : goal.invariant_of-result
 invariant_of-result c =
-    let made = c.in_ok-setup-in-Ok in
-    let parts : ScriptParts = record { setup = made.setup; events = made.events.items } in
+    let made = c.in_ok-format-in-Ok in
+    let parts : ScriptParts = record { format = made.format; setup = made.setup; events = made.events.items } in
     let says : script_of (view c.in_ok-json.json) ≡ Ok parts = c.in-Ok.ensures.parts ∙ made.ensures in
     record { says = says; whole = read_whole c.args.bytes.now (view c.in_ok-json.json) parts c.in_ok-json.ensures.value says }
 
 pub returns : goal.returns
 returns c =
-    let made = c.in_ok-setup-in-Ok in
-    let parts : ScriptParts = record { setup = made.setup; events = made.events.items } in
+    let made = c.in_ok-format-in-Ok in
+    let parts : ScriptParts = record { format = made.format; setup = made.setup; events = made.events.items } in
     let says : script_of (view c.in_ok-json.json) ≡ Ok parts = c.in-Ok.ensures.parts ∙ made.ensures in
     let fits : length c.args.bytes.now ≤ most_bytes = search rules in
     (fits, c.in_ok-json.ensures.value, record { says = says; whole = read_whole c.args.bytes.now (view c.in_ok-json.json) parts c.in_ok-json.ensures.value says })

@@ -131,7 +131,7 @@ static ANSWERS: [Row; 14] = [
         0,
     ),
     (
-        b"set k 0 0 8193\r\n",
+        b"set k 0 0 1048577\r\n",
         AMPLE,
         Ok(Ended::Refused(5)),
         b"CLIENT_ERROR data too long\r\n",
@@ -139,7 +139,7 @@ static ANSWERS: [Row; 14] = [
         0,
     ),
     (
-        b"set k 0 0 8193 noreply\r\n",
+        b"set k 0 0 1048577 noreply\r\n",
         AMPLE,
         Ok(Ended::Refused(5)),
         b"CLIENT_ERROR data too long\r\n",

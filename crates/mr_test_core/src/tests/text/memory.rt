@@ -35,8 +35,8 @@ fn refused_memory_makes_a_key_later(rt: HostRuntime) {
 
 static BLOCKS: [Row; 3] = [
     ((b"", b"", 0, b""), None),
-    ((b"", b"\n", 8192, b""), None),
-    ((b"", b"\n", 8193, b""), Some(TextError::DataTooLong)),
+    ((b"", b"\n", 1_048_576, b""), None),
+    ((b"", b"\n", 1_048_577, b""), Some(TextError::DataTooLong)),
 ];
 
 fn is_block(rt: &(impl Abort + Env), alloc: Global, row: usize, bytes: &[u8], it: &Row) {

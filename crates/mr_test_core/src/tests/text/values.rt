@@ -13,7 +13,7 @@ use std::process::Abort;
 fn limits_are(rt: &impl Abort) {
     count_is(rt, 0, MAX_KEY, 250);
     count_is(rt, 1, MAX_LINE, 8192);
-    count_is(rt, 2, MAX_BLOCK, 8192);
+    count_is(rt, 2, MAX_BLOCK, 1_048_576);
     count_is(rt, 3, MAX_ERROR_TEXT, 8179);
     count_is(rt, 4, MAX_ITEMS, 4094);
     count_is(rt, 5, FIXED_BUFFER, 4096);
@@ -61,12 +61,13 @@ fn is_block(rt: &impl Abort, alloc: Global, row: usize, bytes: &[u8], refusal: O
 }
 
 #[test]
-fn blocks_have_up_to_8192_bytes(rt: HostRuntime) {
-    let long = equal_bytes(&rt, rt.alloc(), b'\n', 8193);
+fn blocks_have_up_to_1048576_bytes(rt: HostRuntime) {
+    let long = equal_bytes(&rt, rt.alloc(), b'\n', 1_048_577);
     let bad = Some(TextError::DataTooLong);
     is_block(&rt, rt.alloc(), 0, b"", None);
-    is_block(&rt, rt.alloc(), 8192, long.get(..8192).unwrap_or(b""), None);
-    is_block(&rt, rt.alloc(), 8193, &long, bad);
+    let longest = long.get(..1_048_576).unwrap_or(b"");
+    is_block(&rt, rt.alloc(), 1, longest, None);
+    is_block(&rt, rt.alloc(), 2, &long, bad);
 }
 
 /// Texts, and why they aren't those of an error that has no name, if they aren't.

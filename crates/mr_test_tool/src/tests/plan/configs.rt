@@ -15,6 +15,7 @@ use std::test::Fail;
 
 mod configurations;
 mod errors;
+mod formats;
 mod memory;
 mod plans;
 mod transcripts;

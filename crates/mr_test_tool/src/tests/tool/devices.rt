@@ -1,5 +1,5 @@
 //! What is left where an output fails.
-use super::{ACCEPTED, PLACES, SCRIPT, TRANSCRIPT, is_in};
+use super::{ACCEPTED, HELD, PLACES, SCRIPT, TRANSCRIPT, UPGRADED, is_in};
 use crate::tests::tool::files_at::FilesAt;
 use mr_sockets::HostServers;
 use mr_test_support::TakesHalf;
@@ -42,7 +42,7 @@ const NO_FILE: &[u8] = b"migctl: file none.json\n";
 
 const FAILED: &[u8] = b"migctl: output\n";
 
-static ROWS: [Row; 15] = [
+static ROWS: [Row; 16] = [
     (PLAN, GET, 0, Handed::Whole(LEGS), Handed::Nothing),
     (PLAN, GET, 1, Handed::Half(LEGS), Handed::Whole(FAILED)),
     (PLAN, GET, 1, Handed::Half(LEGS), Handed::Half(FAILED)),
@@ -64,6 +64,13 @@ static ROWS: [Row; 15] = [
         TRANSCRIPT,
         1,
         Handed::Half(ACCEPTED),
+        Handed::Whole(FAILED),
+    ),
+    (
+        &["upgrade"],
+        HELD,
+        1,
+        Handed::Half(UPGRADED),
         Handed::Whole(FAILED),
     ),
     (

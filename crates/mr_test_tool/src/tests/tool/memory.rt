@@ -1,8 +1,9 @@
 //! Refused memory: the same call made again gives what it gives with ample memory, and nothing was written before. That whole
 //! commands leave nothing half printed is looked at from outside (`tests/refused`).
-use super::{FLEET, is};
+use super::{FLEET, HELD, UPGRADED, is};
 use crate::tests::must;
-use mr_configs::Config;
+use mr_configs::{Config, PlanError};
+use mr_scripts::upgrade_script;
 use mr_test_support::{at_last, grant_memory, refuse_memory};
 use mr_text::{Key, OverWriter, Request};
 use mr_tool::{PrintFault, Wanted, WordsFault, read_words, write_plan};
@@ -52,4 +53,17 @@ fn refused_memory_writes_a_plan_later(rt: HostRuntime) {
     let written = plan_at_last(&rt, rt.alloc(), &config);
     let wanted = b"phase both-read-old at 1000\nleg 0 old 7002\nleg 1 new 7103\n";
     is(&rt, written.as_slice(), wanted.as_slice());
+}
+
+/// The program prints a line end behind it.
+#[test]
+fn refused_memory_upgrades_a_script_later(rt: HostRuntime) {
+    let upgraded = at_last!(
+        &rt,
+        upgrade_script(rt.alloc(), HELD),
+        Err(PlanError::OutOfMemory)
+    );
+    let mut text = must(&rt, upgraded);
+    must(&rt, text.push(b'\n'));
+    is(&rt, text.as_slice(), UPGRADED);
 }

@@ -40,6 +40,7 @@ fn each_read_fails(rt: HostRuntime) {
         fails_at(&rt, rt.alloc(), PLAN, REQUESTS, call);
         fails_at(&rt, rt.alloc(), &["run"], SCRIPT, call);
         fails_at(&rt, rt.alloc(), &["check"], TRANSCRIPT, call);
+        fails_at(&rt, rt.alloc(), &["upgrade"], SCRIPT, call);
     }
 }
 
@@ -67,12 +68,12 @@ fn nothing_is_read_behind_a_request(rt: HostRuntime) {
     plans(&rt, rt.alloc(), &mut input, 1, b"", b"migctl: input\n");
 }
 
-/// The longest request: a line of 8,192 bytes and a block of as many, each with its line end.
+/// The longest request: a line of 8,192 bytes and a block of 1,048,576, each with its line end.
 fn longest_request(rt: &impl Abort, alloc: Global) -> Vec<u8> {
-    let mut request = must(rt, Vec::from_slice(alloc, b"set k 0 0 8192"));
+    let mut request = must(rt, Vec::from_slice(alloc, b"set k 0 0 1048576"));
     must(rt, request.resize(8192, b' '));
     must(rt, request.extend_from_slice(b"\r\n"));
-    must(rt, request.resize(16_386, b'v'));
+    must(rt, request.resize(1_056_770, b'v'));
     must(rt, request.extend_from_slice(b"\r\n"));
     request
 }
@@ -81,7 +82,7 @@ fn longest_request(rt: &impl Abort, alloc: Global) -> Vec<u8> {
 fn longest_request_is_read_byte_by_byte(rt: HostRuntime) {
     let alloc = rt.alloc();
     let mut request = longest_request(&rt, alloc);
-    is(&rt, request.len(), 16_388);
+    is(&rt, request.len(), 1_056_772);
     plans(
         &rt,
         alloc,

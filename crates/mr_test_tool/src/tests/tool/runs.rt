@@ -1,6 +1,8 @@
 //! One run of each command, over a list of files. What else the commands answer to words, files and input is shown by
 //! tests/cases.
-use super::{ACCEPTED, PLACES, Ran, SCRIPT, TRANSCRIPT, expect_row, is_in, run_over};
+use super::{
+    ACCEPTED, HELD, PLACES, Ran, SCRIPT, TRANSCRIPT, UPGRADED, expect_row, is_in, run_over,
+};
 use crate::tests::tool::files_at::FilesAt;
 use mr_text::OverReader;
 use std::alloc::Global;
@@ -20,7 +22,7 @@ enum Left {
 /// A run: its words and its input, how often it asks for a file, and what it leaves.
 type Row = (&'static [&'static str], &'static [u8], u32, Left);
 
-static ROWS: [Row; 15] = [
+static ROWS: [Row; 17] = [
     (
         &["plan", "--config", "fleet.json", "--at", "1000"],
         b"delete k\r\n",
@@ -63,6 +65,13 @@ static ROWS: [Row; 15] = [
         b"no JSON",
         1,
         Left::Wrote(ACCEPTED),
+    ),
+    (&["upgrade"], HELD, 0, Left::Wrote(UPGRADED)),
+    (
+        &["upgrade", "held.json"],
+        b"no JSON",
+        1,
+        Left::Wrote(UPGRADED),
     ),
     (
         &["explain", "plan", "8"],

@@ -1,8 +1,7 @@
-use Rattle.std.proofs.Common.{inr, refl}
+use Rattle.std.proofs.Common.{refl}
 use Rattle.mr_transcripts.specs.Transcripts.{RefusesCheck}
-use Rattle.mr_tool.proofs.FaultLemmas.{print_fails}
-use Rattle.mr_tool.proofs.GivenLemmas.{ends_not_given}
-use Rattle.mr_tool.specs.CheckCommand.{CheckGives, MakesCheck}
+use Rattle.mr_tool.proofs.GivenLemmas.{ends_not_given, ends_not_printed}
+use Rattle.mr_tool.specs.CheckCommand.{MakesCheck}
 use Rattle.mr_tool.specs.CheckText.{check_text, end_of}
 use Rattle.mr_tool.specs.Devices.{devices}
 use Rattle.mr_words.specs.Words.{path_in}
@@ -26,18 +25,6 @@ returns-in_err-write_check g c = λ faults.
       text_is = refl;
       ended_is = refl;
     } in
-    print_fails (CheckGives (path_in c.args.file) before after) c.from_residual-in_err-write_check.result c.in_err-write_check.field-0.0
-    (check_text c.in_ok-checked.checked) before.output after.output c.from_residual-in_err-write_check.ensures.1 c.in_err-write_check.ensures.check
-    (λ same. inr (record {
-      bytes = c.in_ok-bytes.bytes.items;
-      text = check_text c.in_ok-checked.checked;
-      ended = end_of c.in_ok-checked.checked.outcome;
-      given = given;
-      due = made;
-      unwritten = same;
-    }))
-    (λ fault writes. (
-      end_of c.in_ok-checked.checked.outcome,
-      fault,
-      record { bytes = c.in_ok-bytes.bytes.items; text = check_text c.in_ok-checked.checked; given = given; made = made; writes = writes },
-    ))
+    ends_not_printed MakesCheck RefusesCheck (path_in c.args.file) c.in_ok-bytes.bytes.items (check_text c.in_ok-checked.checked)
+    (check_text c.in_ok-checked.checked) (end_of c.in_ok-checked.checked.outcome) c.from_residual-in_err-write_check.result
+    c.in_err-write_check.field-0.0 before after c.from_residual-in_err-write_check.ensures.1 given made refl c.in_err-write_check.ensures.check

@@ -1,6 +1,6 @@
 use Rattle.std.proofs.Common.{inl, refl}
 use Rattle.mr_tool.proofs.RunLemmas.{command_run, memory_run, refused_readings_run, refused_words_run, version_run}
-use Rattle.mr_words.specs.declared.words.Wanted.TheVariants.{Plan, Timeline, Run, Check, Node, Proxy, Explain}
+use Rattle.mr_words.specs.declared.words.Wanted.TheVariants.{Plan, Timeline, Run, Check, Upgrade, Node, Proxy, Explain}
 use Rattle.mr_tool.proofs.run.run_wanted.Goals as goal
 
 pub returns-in-Ok-Plan : goal.returns-in-Ok-Plan
@@ -50,6 +50,12 @@ returns-in-Ok-Check g c =
     inl (command_run _ c.in-Ok-Check.field-0 (Check c.in-Ok-Check.file) _ _ _ _ _ _ _ c.in-Ok-Check.ensures.exactly c.in-Ok-Check.field-0-is
     (c.run_check.ensures (g.F.Sink.told c.args.faults.now), refl) refl
     (c.finish-in-Ok-Check.ensures (g.S.Sources.told c.run_check.new.sources) (g.I.Source.told c.run_check.new.input) (g.O.Sink.told c.run_check.new.output)))
+
+pub returns-in-Ok-Upgrade : goal.returns-in-Ok-Upgrade
+returns-in-Ok-Upgrade g c =
+    inl (command_run _ c.in-Ok-Upgrade.field-0 (Upgrade c.in-Ok-Upgrade.file) _ _ _ _ _ _ _ c.in-Ok-Upgrade.ensures.exactly c.in-Ok-Upgrade.field-0-is
+    (c.run_upgrade.ensures (g.F.Sink.told c.args.faults.now), refl) refl
+    (c.finish-in-Ok-Upgrade.ensures (g.S.Sources.told c.run_upgrade.new.sources) (g.I.Source.told c.run_upgrade.new.input) (g.O.Sink.told c.run_upgrade.new.output)))
 
 pub returns-in-Ok-Node : goal.returns-in-Ok-Node
 returns-in-Ok-Node g c =

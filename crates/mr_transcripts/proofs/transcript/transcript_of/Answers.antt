@@ -11,4 +11,4 @@ returns-then-has_long_history-clause-refused c =
     let verdict = c.in_ok-verdict.verdict in
     let whole : IsWholePlay c.args.setup c.args.events.items play.notes.items play.world verdict =
     whole_play _ _ _ _ _ _ c.in_ok-play.ensures.played c.in-None.is c.in_ok-verdict.ensures in
-    (play.notes.items, play.world, verdict, whole, long_history_is_too_large (view c.args.script) play.notes.items play.world verdict (search rules))
+    (play.notes.items, play.world, verdict, whole, long_history_is_too_large c.args.format (view c.args.script) play.notes.items play.world verdict (search rules))

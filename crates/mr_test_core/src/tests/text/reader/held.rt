@@ -40,8 +40,11 @@ fn readers_hold_what_comes_after_lines_and_blocks(rt: HostRuntime) {
 /// Texts that are as long as they may be while nothing is whole, and how many bytes are held behind each.
 static LONG: [(Rule, usize); 3] = [
     ((b"get k", b" ", 8187, b"\r"), 8193),
-    ((b"set k 0 0 8192\r\n", b"v", 8192, b"\r"), 8193),
-    ((b"set k 0 0 8192\r\n", b"v", 8191, b""), 8191),
+    (
+        (b"set k 0 0 1048576\r\n", b"v", 1_048_576, b"\r"),
+        1_048_577,
+    ),
+    ((b"set k 0 0 1048576\r\n", b"v", 1_048_575, b""), 1_048_575),
 ];
 
 #[test]

@@ -84,19 +84,30 @@ fn reply_of(rt: &impl Env, alloc: Global, text: &[u8]) -> Result<Option<Reply>, 
     at_last!(rt, reader.next(), Err(TextError::OutOfMemory))
 }
 
-/// The text of what a reader of requests gives.
-fn requested(rt: &(impl Abort + Env), alloc: Global, text: &[u8]) -> Result<Vec<u8>, TextError> {
-    Ok(match request_of(rt, alloc, text)? {
+/// The text of a request, if there is one; likewise below.
+fn requested_text(rt: &impl Abort, alloc: Global, request: Option<Request>) -> Vec<u8> {
+    match request {
         Some(request) => must(rt, request_text(alloc, &request)),
         None => Vec::new(alloc),
-    })
+    }
+}
+
+fn replied_text(rt: &impl Abort, alloc: Global, reply: Option<Reply>) -> Vec<u8> {
+    match reply {
+        Some(reply) => must(rt, reply_text(alloc, &reply)),
+        None => Vec::new(alloc),
+    }
+}
+
+/// The text of what a reader of requests gives.
+fn requested(rt: &(impl Abort + Env), alloc: Global, text: &[u8]) -> Result<Vec<u8>, TextError> {
+    let request = request_of(rt, alloc, text)?;
+    Ok(requested_text(rt, alloc, request))
 }
 
 fn replied(rt: &(impl Abort + Env), alloc: Global, text: &[u8]) -> Result<Vec<u8>, TextError> {
-    Ok(match reply_of(rt, alloc, text)? {
-        Some(reply) => must(rt, reply_text(alloc, &reply)),
-        None => Vec::new(alloc),
-    })
+    let reply = reply_of(rt, alloc, text)?;
+    Ok(replied_text(rt, alloc, reply))
 }
 
 /// Asserts what a reader gives.
@@ -116,6 +127,75 @@ fn refused_memory_leaves_readers_as_they_were(rt: HostRuntime) {
     for (row, it) in ROWS.iter().enumerate() {
         let text = bytes_of_rule(&rt, rt.alloc(), it.1);
         gives(&rt, rt.alloc(), row, &text, it);
+    }
+}
+
+/// The line of a text with a large block, what comes behind it, and the two texts that a reader gives of both.
+static LARGE: [(Texts, &[u8], Rule, Rule, &[u8]); 2] = [
+    (
+        Texts::Requests,
+        b"set k 5 0 5000\r\n",
+        (b"", b"v", 5000, b"\r\nget k\r\n"),
+        (b"set k 5 0 5000\r\n", b"v", 5000, b"\r\n"),
+        b"get k\r\n",
+    ),
+    (
+        Texts::Replies,
+        b"VALUE k 5 5000\r\n",
+        (b"", b"v", 5000, b"\r\nEND\r\nSTORED\r\n"),
+        (b"VALUE k 5 5000\r\n", b"v", 5000, b"\r\nEND\r\n"),
+        b"STORED\r\n",
+    ),
+];
+
+/// The two requests that a reader gives of a text whose first line comes by itself; likewise below.
+fn requests_behind(
+    rt: &(impl Abort + Env),
+    alloc: Global,
+    line: &[u8],
+    rest: &[u8],
+) -> Result<(Vec<u8>, Vec<u8>), TextError> {
+    let mut reader = RequestReader::new(alloc);
+    at_last!(rt, reader.feed(line), Err(TextError::OutOfMemory))?;
+    let _ = at_last!(rt, reader.next(), Err(TextError::OutOfMemory))?;
+    at_last!(rt, reader.feed(rest), Err(TextError::OutOfMemory))?;
+    let first = at_last!(rt, reader.next(), Err(TextError::OutOfMemory))?;
+    let second = at_last!(rt, reader.next(), Err(TextError::OutOfMemory))?;
+    Ok((
+        requested_text(rt, alloc, first),
+        requested_text(rt, alloc, second),
+    ))
+}
+
+fn replies_behind(
+    rt: &(impl Abort + Env),
+    alloc: Global,
+    line: &[u8],
+    rest: &[u8],
+) -> Result<(Vec<u8>, Vec<u8>), TextError> {
+    let mut reader = ReplyReader::new(alloc);
+    at_last!(rt, reader.feed(line), Err(TextError::OutOfMemory))?;
+    let _ = at_last!(rt, reader.next(), Err(TextError::OutOfMemory))?;
+    at_last!(rt, reader.feed(rest), Err(TextError::OutOfMemory))?;
+    let first = at_last!(rt, reader.next(), Err(TextError::OutOfMemory))?;
+    let second = at_last!(rt, reader.next(), Err(TextError::OutOfMemory))?;
+    Ok((
+        replied_text(rt, alloc, first),
+        replied_text(rt, alloc, second),
+    ))
+}
+
+#[test]
+fn refused_memory_leaves_large_blocks_as_they_came(rt: HostRuntime) {
+    for (row, (texts, line, behind, first, second)) in LARGE.iter().enumerate() {
+        let rest = bytes_of_rule(&rt, rt.alloc(), *behind);
+        let given = match texts {
+            Texts::Requests => requests_behind(&rt, rt.alloc(), line, &rest),
+            Texts::Replies => replies_behind(&rt, rt.alloc(), line, &rest),
+        };
+        let (one, other) = must(&rt, given);
+        are(&rt, row, &one, &bytes_of_rule(&rt, rt.alloc(), *first));
+        are(&rt, row, &other, second);
     }
 }
 

@@ -47,13 +47,13 @@ fn other_lines_are_refused_in_order(rt: HostRuntime) {
         VALUE\r\n|<4><9>|\
         VALUE k 0\r\n|<4><9>|\
         VALUE \x01 x y 1\r\n|<4><9>|\
-        VALUE \x01 x 8193\r\n|<2><9>|\
-        VALUE k x 8193\r\n|<3><9>|\
+        VALUE \x01 x 1048577\r\n|<2><9>|\
+        VALUE k x 1048577\r\n|<3><9>|\
         VALUE k -0 1\r\n|<3><9>|\
         VALUE k 4294967296 1\r\n|<3><9>|\
         VALUE k 0 18446744073709551616\r\n|<3><9>|\
         VALUE k 0 18446744073709551615\r\n|<5><9>|\
-        VALUE k 0 8193\r\n|<5><9>|\
+        VALUE k 0 1048577\r\n|<5><9>|\
         VALUE k 0 1\r\nv\nEND\r\n|<6><9>|\
         VALUE k 0 1\r\nvX|<6><9>|\
         VALUE k 0 1\r\nv\r\nSTORED\r\n|<4><9>|\

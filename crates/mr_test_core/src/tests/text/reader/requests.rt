@@ -45,7 +45,7 @@ fn numbers_have_ranges(rt: HostRuntime) {
         set k 0 --1 1\r\n|<3><9>|\
         set k 0 0 -1\r\n|<3><9>|\
         set k 0 0 0x1\r\n|<3><9>|\
-        set k 0 0 8193\r\n|<5><9>|\
+        set k 0 0 1048577\r\n|<5><9>|\
         set k 0 0 18446744073709551615\r\n|<5><9>|\
         set k 0 0 18446744073709551616\r\n|<3><9>|";
     gives_all(&rt, rt.alloc(), Texts::Requests, table);
@@ -81,8 +81,8 @@ fn other_lines_are_refused_in_order(rt: HostRuntime) {
         get k\r\r\n|<2><9>|\
         get k\r \n|<2><9>|\
         get k\x00\n|<2><9>|\
-        set \x7f x 0 8193\r\n|<2><9>|\
-        set k 0 x 8193\r\n|<3><9>|";
+        set \x7f x 0 1048577\r\n|<2><9>|\
+        set k 0 x 1048577\r\n|<3><9>|";
     gives_all(&rt, rt.alloc(), Texts::Requests, table);
 }
 

@@ -77,7 +77,7 @@ static BLOCKS: [&[u8]; 6] = [
     b"set k 4294967295 -0 1 noreply\nv\r\n",
     b"set k 0 0 0\r\n\r\nget k\r\n",
     b"set k 00 -9223372036854775808 01\n\n\r\n",
-    b"set 0 0 9223372036854775807 8192\n",
+    b"set 0 0 9223372036854775807 1048576\n",
     b"set k 0 0 18446744073709551615\r\n",
 ];
 
@@ -113,7 +113,7 @@ static ITEMS: [&[u8]; 7] = [
     b"VALUE k 4294967295 0\n\r\nVALUE  b 00 01\r\n\n\r\nEND\nSTORED\n",
     b"VALUE k 0 1\nv\r\nSTORED\r\n",
     b"VALUE k 0 1\nv\r\n\r\nEND\r\n",
-    b"VALUE 0 0 8192\n",
+    b"VALUE 0 0 1048576\n",
     b"VALUE k 0 18446744073709551615\r\n",
     b"VALUE k 0 1 7\r\nv\r\nEND\r\n",
 ];

@@ -156,7 +156,7 @@ fn is_wrong_end(byte: u8, place: usize, end: usize) -> bool {
 
 /// Adds the block that follows this line, of which is told how it was written since the answer had the length `start`.
 fn add_block(answer: &mut Vec<u8>, start: usize, bytes: &[u8], line: usize, size: usize) -> usize {
-    if size > 8192 {
+    if size > 1_048_576 {
         return stops(answer, start, b"<5><9>");
     }
     let end = line.saturating_add(size);

@@ -85,7 +85,7 @@ static WRONG: [Row; 17] = [
         ..GETS
     },
     Row {
-        answered: b"VALUE k 5 8193\r\n",
+        answered: b"VALUE k 5 1048577\r\n",
         ..GETS
     },
     Row {

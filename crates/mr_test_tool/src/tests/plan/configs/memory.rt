@@ -1,5 +1,6 @@
 //! Refused memory: the same call made again gives what it gives with ample memory, and OutOfMemory stands in the place of no
 //! other refusal but where the text is read.
+use super::formats::{script_of_held, transcript_of_held};
 use super::plans::{ROWS, far_is_told, plan_is, request};
 use super::transcripts::{SCRIPT, TRANSCRIPT};
 use super::*;
@@ -83,11 +84,11 @@ fn refused_memory_advises_later(rt: HostRuntime) {
     far_is_told(&rt, &copy);
 }
 
-/// The transcript of the script, which is written again where memory for it was refused.
-fn transcript_at_last(rt: &(impl Abort + Env), alloc: Global) -> Vec<u8> {
+/// The transcript of a script, which is written again where memory for it was refused.
+fn transcript_at_last(rt: &(impl Abort + Env), alloc: Global, text: &str) -> Vec<u8> {
     let read = at_last!(
         rt,
-        read_events(alloc, SCRIPT.as_bytes()),
+        read_events(alloc, text.as_bytes()),
         Err(PlanError::OutOfMemory)
     );
     let script = must(rt, read);
@@ -103,8 +104,16 @@ fn transcript_at_last(rt: &(impl Abort + Env), alloc: Global) -> Vec<u8> {
 
 #[test]
 fn refused_memory_writes_a_transcript_later(rt: HostRuntime) {
-    let text = transcript_at_last(&rt, rt.alloc());
+    let text = transcript_at_last(&rt, rt.alloc(), SCRIPT);
     is(&rt, text.as_slice() == TRANSCRIPT.as_bytes(), true);
+}
+
+#[test]
+fn refused_memory_writes_a_transcript_of_format_2_later(rt: HostRuntime) {
+    let script = script_of_held(&rt, rt.alloc());
+    let wanted = transcript_of_held(&rt, rt.alloc());
+    let text = transcript_at_last(&rt, rt.alloc(), &script);
+    is(&rt, text.as_slice() == wanted.as_bytes(), true);
 }
 
 /// Asserts that a transcript was accepted.

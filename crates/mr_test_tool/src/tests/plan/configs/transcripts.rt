@@ -13,7 +13,7 @@ pub(super) const TRANSCRIPT: &str =
     "{\"events\":[{\"do\":\"client\",\"proxy\":0,\"request\":{\"keys\":[\"k\"],\"kind\":\"get\"}},{\"do\":\"deliver\",\"message\":0,\"now\":999},{\"do\":\"return\",\"reply\":0}],\"format\":1,\"history\":[{\"entry\":\"issued\",\"op\":[0,0,0],\"proxy\":0,\"request\":{\"keys\":[\"k\"],\"kind\":\"get\"}},{\"entry\":\"answered\",\"op\":[0,0,0],\"reply\":{\"items\":[]}}],\"notes\":[{\"issued\":[0,0,0],\"messages\":[0,1]},{\"performed\":0},{\"answered\":[0,0,0]}],\"premises\":{\"forward\":true,\"near\":true,\"new_empty\":true,\"same\":true},\"setup\":{\"capacity\":4,\"config\":{\"hash\":\"sum\",\"pools\":{\"new\":{\"servers\":[\"7101\",\"7102\",\"7103\"]},\"old\":{\"servers\":[\"7001\",\"7002\"]}},\"route\":{\"from\":\"PoolRoute|old\",\"interval\":100,\"start_time\":1000,\"to\":\"PoolRoute|new\",\"type\":\"MigrateRoute\"}},\"held\":[],\"proxies\":[{\"reading\":999,\"room\":4}]},\"verdict\":\"safe\"}";
 
 /// The transcript of a script.
-fn transcript(alloc: Global, script: &str) -> Result<Vec<u8>, PlanError> {
+pub(super) fn transcript(alloc: Global, script: &str) -> Result<Vec<u8>, PlanError> {
     write_transcript(alloc, read_events(alloc, script.as_bytes())?)
 }
 

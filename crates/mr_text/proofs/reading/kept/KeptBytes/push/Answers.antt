@@ -17,16 +17,16 @@ returns-then-piece-len-clause-ok c =
     ∙ appended room piece behind kept.start kept.end c.self.invariant.0
     (omega (arith, c.self.invariant.1, ap length c.deref_mut.ensures.value))
     ∙ ap (λ kept_bytes. kept_bytes ++ piece)
-    (ap (λ items. take (kept.end - kept.start) (drop kept.start items)) c.deref_mut.ensures.value ∙ c.self.view_is ∙ c.move_to_front.ensures)
+    (ap (λ items. take (kept.end - kept.start) (drop kept.start items)) c.deref_mut.ensures.value ∙ c.self.view_is ∙ c.move_to_front.ensures ∙ c.make_room.ensures)
 
 pub returns-in_err-extend_from_slice-clause-err : goal.returns-in_err-extend_from_slice-clause-err
 returns-in_err-extend_from_slice-clause-err c =
     let kept = c.self.inside in
     let told = c.in_err-extend_from_slice.ensures in
-    let failed = err_from_is_err_and c.from_residual.result c.from_residual.ensures.1 in
+    let failed = err_from_is_err_and c.from_residual-in_err-extend_from_slice.result c.from_residual-in_err-extend_from_slice.ensures.1 in
     rw failed.1 (ap (λ items. take (kept.end - kept.start) (drop kept.start items)) (told.items ∙ c.truncate.ensures.items)
     ∙ cut kept.room.items kept.start kept.end c.self.invariant.0 (omega (arith, c.self.invariant.1))
-    ∙ c.self.view_is ∙ c.move_to_front.ensures)
+    ∙ c.self.view_is ∙ c.move_to_front.ensures ∙ c.make_room.ensures)
 
 pub returns-clause-ok : goal.returns-clause-ok
 returns-clause-ok c =
@@ -38,4 +38,4 @@ returns-clause-ok c =
     ap (λ n. take (n - kept.start) (drop kept.start room)) count
     ∙ ap (λ items. take (length items - kept.start) (drop kept.start items)) grew
     ∙ grown kept.room.items c.args.piece.now kept.start kept.end c.self.invariant.0 (omega (arith, c.self.invariant.1))
-    ∙ ap (λ kept_bytes. kept_bytes ++ c.args.piece.now) (c.self.view_is ∙ c.move_to_front.ensures)
+    ∙ ap (λ kept_bytes. kept_bytes ++ c.args.piece.now) (c.self.view_is ∙ c.move_to_front.ensures ∙ c.make_room.ensures)

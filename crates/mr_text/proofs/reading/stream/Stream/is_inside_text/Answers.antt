@@ -1,4 +1,4 @@
-use Rattle.std.proofs.Common.{◌≡◌, ◌≢◌, ℕ, Bool, List, [], ◌∷◌, ◌++◌, MatchBool, refl, sym, subst}
+use Rattle.std.proofs.Common.{◌≡◌, ◌≢◌, ℕ, List, [], ◌∷◌, ◌++◌, MatchBool, refl, sym, subst}
 use Rattle.mr_text.proofs.reading.stream.Stream.is_inside_text.Goals as goal
 
 front_empty : (front unread : List ℕ) → front ++ unread ≡ [] → front ≡ []

@@ -1,4 +1,4 @@
-use Rattle.std.proofs.Common.{rules, ◌≡◌, sym, ◌∙◌, ap, subst, length, unwrap_or}
+use Rattle.std.proofs.Common.{◌≡◌, sym, ◌∙◌, ap, subst, length, unwrap_or}
 use Rattle.mr_lines.specs.Lines.{byte_place}
 use Rattle.mr_text.specs.steps.StreamView.{IsScanned}
 use Rattle.mr_text.proofs.Scanned.{scanned_to}
