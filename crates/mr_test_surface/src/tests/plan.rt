@@ -1,9 +1,9 @@
 //! Configurations and what follows from one, scripts, and the transcripts of their plays.
 use super::text::get;
 use mr_plan::{
-    Advice, ChainTimes, Checked, Config, KeptVerdict, NewOnlyTime, Outcome, PhaseTimes, PlanError,
-    RequestPlan, Script, Standing, advise, check_transcript, plan, read_events, timeline,
-    write_transcript,
+    Advice, ChainTimes, Checked, Config, Format, KeptVerdict, MAX_DATA_ONE, NewOnlyTime, Outcome,
+    PhaseTimes, PlanError, RequestPlan, Script, Standing, advise, check_transcript, plan,
+    read_events, timeline, upgrade_script, write_transcript,
 };
 use std::alloc::Global;
 use std::test::Fail;
@@ -64,5 +64,20 @@ fn a_script_is_played_and_checked(rt: HostRuntime) -> Result<(), Fail> {
     let checked = check(rt.alloc(), script)?;
     assert!(rt; matches!(checked.verdict, KeptVerdict::Safe));
     assert_eq!(rt; checked.outcome, Outcome::Accepted);
+    Ok(())
+}
+
+/// The script of format 2 that says the same.
+fn upgraded(alloc: Global, script: &str) -> Result<Script, PlanError> {
+    let text = upgrade_script(alloc, script.as_bytes())?;
+    read_events(alloc, text.as_slice())
+}
+
+#[test]
+fn a_script_is_upgraded(rt: HostRuntime) -> Result<(), Fail> {
+    let script = upgraded(rt.alloc(), SCRIPT)?;
+    assert_eq!(rt; script.format().number(), 2);
+    assert_eq!(rt; Format::One.most_data(), MAX_DATA_ONE);
+    assert_eq!(rt; MAX_DATA_ONE, 8192);
     Ok(())
 }
