@@ -1,0 +1,4 @@
+pub mod Heard
+pub mod Reading
+pub mod Response
+pub mod Scrape

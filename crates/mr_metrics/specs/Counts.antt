@@ -1,0 +1,76 @@
+-- What a proxy counts, by what tells one count from another.
+use Rattle.std.specs.Prelude.{ℕ, List, [], ◌∷◌, ◌++◌, codes, decimal}
+use Rattle.mr_phases.specs.PhaseText.{phase_text}
+use Rattle.mr_metrics.specs.Exposition.{family_head, labelled_sample, shown_pair, shown_number}
+use Rattle.mr_metrics.specs.declared.counts.AnswerCount.{AnswerCount}
+use Rattle.mr_metrics.specs.declared.counts.AnswerKind.{AnswerKind}
+use Rattle.mr_metrics.specs.declared.counts.AnswerKind.TheVariants.{Hit, Miss, Stored, Deleted, NotFound, LegLost, Busy, OutOfMemory, ClockFault}
+use Rattle.mr_metrics.specs.declared.counts.Command.{Command}
+use Rattle.mr_metrics.specs.declared.counts.Command.TheVariants.{Get, Set, Delete}
+use Rattle.mr_metrics.specs.declared.counts.LegCount.{LegCount}
+use Rattle.mr_metrics.specs.declared.counts.RequestCount.{RequestCount}
+use Rattle.mr_metrics.specs.declared.exposition.Kind.TheVariants.{Counter}
+use Rattle.mr_metrics.specs.declared.number.Number.TheVariants.{Whole}
+
+-- the word of a command
+abbrev pub command_text : Command → List ℕ
+command_text Get = codes "get"
+command_text Set = codes "set"
+command_text Delete = codes "delete"
+
+-- the words of a kind of answer
+abbrev pub answer_text : AnswerKind → List ℕ
+answer_text Hit = codes "hit"
+answer_text Miss = codes "miss"
+answer_text Stored = codes "stored"
+answer_text Deleted = codes "deleted"
+answer_text NotFound = codes "not found"
+answer_text LegLost = codes "leg lost"
+answer_text Busy = codes "busy"
+answer_text OutOfMemory = codes "out of memory"
+answer_text ClockFault = codes "clock fault"
+
+-- how many requests of a command were issued in a phase
+abbrev pub request_sample : List ℕ → RequestCount → List ℕ
+request_sample name row =
+    name ++ (codes "{" ++ (shown_pair (codes "command") (command_text row.command) ++ (codes "," ++
+    (shown_pair (codes "phase") (phase_text row.phase) ++ (codes "} " ++ (shown_number (Whole row.count) ++ codes "\n"))))))
+
+abbrev pub request_samples : List ℕ → List RequestCount → List ℕ
+request_samples name [] = []
+request_samples name (row ∷ rows) = request_sample name row ++ request_samples name rows
+
+-- how many requests were issued, by command and phase
+abbrev pub requests_family : List RequestCount → List ℕ
+requests_family rows =
+    family_head (codes "migctl_proxy_requests_total") (codes "Requests that were issued, by command and by the phase in force.") Counter
+    ++ request_samples (codes "migctl_proxy_requests_total") rows
+
+abbrev pub answer_samples : List ℕ → List AnswerCount → List ℕ
+answer_samples name [] = []
+answer_samples name (row ∷ rows) = labelled_sample name (codes "kind") (answer_text row.kind) (Whole row.count) ++ answer_samples name rows
+
+-- what clients were answered, by kind
+abbrev pub answers_family : List AnswerCount → List ℕ
+answers_family rows =
+    family_head (codes "migctl_proxy_answers_total")
+    (codes "What clients were answered: keys of gets that were found or not, and answers to requests.") Counter
+    ++ answer_samples (codes "migctl_proxy_answers_total") rows
+
+-- how many legs to a node had an outcome
+abbrev pub leg_sample : List ℕ → LegCount → List ℕ → ℕ → List ℕ
+leg_sample name row outcome count =
+    name ++ (codes "{" ++ (shown_pair (codes "pool") (decimal row.pool) ++ (codes "," ++
+    (shown_pair (codes "node") row.node.now ++ (codes "," ++
+    (shown_pair (codes "outcome") outcome ++ (codes "} " ++ (shown_number (Whole count) ++ codes "\n"))))))))
+
+abbrev pub leg_samples : List ℕ → List LegCount → List ℕ
+leg_samples name [] = []
+leg_samples name (row ∷ rows) =
+    leg_sample name row (codes "carried") row.carried ++ (leg_sample name row (codes "lost") row.lost ++ leg_samples name rows)
+
+-- what became of legs, by node
+abbrev pub legs_family : List LegCount → List ℕ
+legs_family rows =
+    family_head (codes "migctl_proxy_legs_total") (codes "Legs of requests, by pool, by node and by what became of them.") Counter
+    ++ leg_samples (codes "migctl_proxy_legs_total") rows

@@ -1,0 +1,7 @@
+pub mod Counts
+pub mod Exposition
+pub mod Families
+pub mod Node
+pub mod Proxy
+pub mod Service
+pub mod Times

@@ -1,0 +1,228 @@
+//! What a proxy tells of itself.
+ghost use Rattle.std.specs.Prelude.{◌≡◌, ◌++◌, IfOk, OnOk};
+ghost use Rattle.mr_metrics.specs.Exposition.{family_head};
+ghost use Rattle.mr_metrics.specs.Proxy.{config_family, leg_times_family, under_way_family, room_family, last_issue_family, hop_family, state_of, phase_state, phase_states, phase_family, next_phase_family, traffic_text, schedule_text, proxy_text};
+ghost use Rattle.mr_metrics.specs.declared.exposition.Kind.TheVariants.{Gauge};
+
+use crate::counts::{AnswerCount, LegCount, RequestCount, push_answers, push_legs, push_requests};
+use crate::exposition::{Kind, push_family};
+use crate::families::{push_info, push_labelled, push_one, push_perhaps};
+use crate::service::{ServiceSnapshot, push_service};
+use crate::times::{Times, push_times};
+use mr_phases::PhaseName;
+use std::alloc::{AllocError, Global};
+
+/// What is known of a proxy at a moment.
+#[derive(Clone, Copy, Debug)]
+pub struct ProxySnapshot<'a> {
+    /// What is known of its service.
+    pub service: ServiceSnapshot<'a>,
+    /// The SHA-256 of its configuration as transcripts write it, in hexadecimal digits.
+    pub config: &'a str,
+    /// How many requests were issued, by command and phase.
+    pub requests: &'a [RequestCount],
+    /// What clients were answered, by kind.
+    pub answers: &'a [AnswerCount],
+    /// What became of legs, by node.
+    pub legs: &'a [LegCount<'a>],
+    /// How long legs took that came back.
+    pub leg_times: Times<'a>,
+    /// How many requests are under way.
+    pub under_way: u64,
+    /// How many may be at once.
+    pub room: u64,
+    /// The reading at which the last request was issued, in seconds since the epoch.
+    pub last_issue: Option<u64>,
+    /// The migration in force by its clock, counted from 0.
+    pub hop: u64,
+    /// The phase in force by its clock.
+    pub phase: PhaseName,
+    /// When the next phase begins, in seconds since the epoch.
+    pub next_phase: Option<u64>,
+}
+
+/// Adds the digest of the configuration.
+fn push_config(text: &mut Vec<u8>, config: &str) -> Result<(), AllocError>
+    ensures { OnOk result (text.new.items ≡ text.old.items ++ config_family config.now) }
+{
+    push_info(
+        text,
+        "migctl_proxy_config_info",
+        "The SHA-256 of the configuration as transcripts write it.",
+        "sha256",
+        config,
+    )
+}
+
+/// Adds how many requests are under way.
+fn push_under_way(text: &mut Vec<u8>, under_way: u64) -> Result<(), AllocError>
+    ensures { OnOk result (text.new.items ≡ text.old.items ++ under_way_family under_way) }
+{
+    push_one(
+        text,
+        "migctl_proxy_requests_under_way",
+        "Requests that are under way.",
+        Kind::Gauge,
+        under_way,
+    )
+}
+
+/// Adds how many requests may be under way.
+fn push_room(text: &mut Vec<u8>, room: u64) -> Result<(), AllocError>
+    ensures { OnOk result (text.new.items ≡ text.old.items ++ room_family room) }
+{
+    push_one(
+        text,
+        "migctl_proxy_room_requests",
+        "Requests that may be under way at once.",
+        Kind::Gauge,
+        room,
+    )
+}
+
+/// Adds at which reading the last request was issued.
+fn push_last_issue(text: &mut Vec<u8>, last_issue: Option<u64>) -> Result<(), AllocError>
+    ensures { OnOk result (text.new.items ≡ text.old.items ++ last_issue_family last_issue) }
+{
+    push_perhaps(
+        text,
+        "migctl_proxy_last_issue_seconds",
+        "The reading at which the last request was issued, in seconds since the epoch.",
+        last_issue,
+    )
+}
+
+/// Adds which migration is in force.
+fn push_hop(text: &mut Vec<u8>, hop: u64) -> Result<(), AllocError>
+    ensures { OnOk result (text.new.items ≡ text.old.items ++ hop_family hop) }
+{
+    push_one(
+        text,
+        "migctl_proxy_hop",
+        "The migration in force, counted from 0.",
+        Kind::Gauge,
+        hop,
+    )
+}
+
+/// Adds when the next phase begins.
+fn push_next_phase(text: &mut Vec<u8>, next_phase: Option<u64>) -> Result<(), AllocError>
+    ensures { OnOk result (text.new.items ≡ text.old.items ++ next_phase_family next_phase) }
+{
+    push_perhaps(
+        text,
+        "migctl_proxy_next_phase_seconds",
+        "When the next phase begins, in seconds since the epoch.",
+        next_phase,
+    )
+}
+
+/// Adds how long legs took.
+fn push_leg_times(text: &mut Vec<u8>, times: &Times<'_>) -> Result<(), AllocError>
+    ensures { OnOk result (text.new.items ≡ text.old.items ++ leg_times_family times.now) }
+{
+    push_times(
+        text,
+        "migctl_proxy_leg_seconds",
+        "How long legs took that came back, in seconds.",
+        times,
+    )
+}
+
+/// 1 where this phase is the one in force, else 0.
+fn state_of(in_force: PhaseName, phase: PhaseName) -> u64
+    ensures { result ≡ state_of in_force phase }
+{
+    if in_force == phase { 1 } else { 0 }
+}
+
+/// Adds 1 for this phase where it is the one in force, else 0.
+fn push_state(
+    text: &mut Vec<u8>,
+    name: &str,
+    in_force: PhaseName,
+    phase: PhaseName,
+) -> Result<(), AllocError>
+    ensures { OnOk result (text.new.items ≡ text.old.items ++ phase_state name.now in_force phase) }
+{
+    push_labelled(
+        text,
+        name,
+        "phase",
+        phase.as_str(),
+        state_of(in_force, phase),
+    )
+}
+
+/// Adds the state of each phase, in the order in which they follow one another.
+fn push_states(text: &mut Vec<u8>, name: &str, in_force: PhaseName) -> Result<(), AllocError>
+    ensures { OnOk result (text.new.items ≡ text.old.items ++ phase_states name.now in_force) }
+{
+    push_state(text, name, in_force, PhaseName::OldOnly)?;
+    push_state(text, name, in_force, PhaseName::BothReadOld)?;
+    push_state(text, name, in_force, PhaseName::BothReadNew)?;
+    push_state(text, name, in_force, PhaseName::NewOnly)?;
+    Ok(())
+}
+
+/// Adds a family that tells the phase in force.
+fn push_phase_at(
+    text: &mut Vec<u8>,
+    name: &str,
+    help: &str,
+    in_force: PhaseName,
+) -> Result<(), AllocError>
+    ensures { OnOk result (text.new.items ≡ text.old.items ++ (family_head name.now help.now Gauge ++ phase_states name.now in_force)) }
+{
+    push_family(text, name, help, Kind::Gauge)?;
+    push_states(text, name, in_force)?;
+    Ok(())
+}
+
+/// Adds which phase is in force.
+fn push_phase(text: &mut Vec<u8>, in_force: PhaseName) -> Result<(), AllocError>
+    ensures { OnOk result (text.new.items ≡ text.old.items ++ phase_family in_force) }
+{
+    push_phase_at(
+        text,
+        "migctl_proxy_phase",
+        "1 for the phase in force, 0 for each other.",
+        in_force,
+    )
+}
+
+/// Adds what is known of requests and their legs.
+fn push_traffic(text: &mut Vec<u8>, snapshot: &ProxySnapshot<'_>) -> Result<(), AllocError>
+    ensures { OnOk result (text.new.items ≡ text.old.items ++ traffic_text snapshot.now) }
+{
+    push_requests(text, snapshot.requests)?;
+    push_answers(text, snapshot.answers)?;
+    push_legs(text, snapshot.legs)?;
+    push_leg_times(text, &snapshot.leg_times)?;
+    push_under_way(text, snapshot.under_way)?;
+    push_room(text, snapshot.room)?;
+    Ok(())
+}
+
+/// Adds what is known of its place in the schedule.
+fn push_schedule(text: &mut Vec<u8>, snapshot: &ProxySnapshot<'_>) -> Result<(), AllocError>
+    ensures { OnOk result (text.new.items ≡ text.old.items ++ schedule_text snapshot.now) }
+{
+    push_config(text, snapshot.config)?;
+    push_last_issue(text, snapshot.last_issue)?;
+    push_hop(text, snapshot.hop)?;
+    push_phase(text, snapshot.phase)?;
+    push_next_phase(text, snapshot.next_phase)?;
+    Ok(())
+}
+
+/// What a proxy tells of itself, in the text exposition format of version 0.0.4.
+pub fn proxy_metrics(alloc: Global, snapshot: &ProxySnapshot<'_>) -> Result<Vec<u8>, AllocError>
+    ensures { IfOk result (λ text. text.items ≡ proxy_text snapshot.now) }
+{
+    let mut text = Vec::new(alloc);
+    push_service(&mut text, &snapshot.service)?;
+    push_schedule(&mut text, snapshot)?;
+    push_traffic(&mut text, snapshot)?;
+    Ok(text)
+}
