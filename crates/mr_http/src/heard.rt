@@ -12,7 +12,7 @@ pub const MAX_FIELDS: usize = 64;
 
 /// What is heard of the head of a request.
 #[derive(Clone, Copy, Debug, PartialEq, Eq)]
-pub enum Heard {
+pub(crate) enum Heard {
     /// A GET of the metrics.
     Get,
     /// A HEAD of the metrics.
@@ -45,7 +45,7 @@ fn heard_of(method: &[u8], target: &[u8]) -> Heard
 }
 
 /// What is heard of the bytes that came so far.
-pub fn hear(bytes: &[u8]) -> Heard
+pub(crate) fn hear(bytes: &[u8]) -> Heard
     ensures hears { Hears bytes.now result }
     ensures found { (head : RequestHead) (rest : List ℕ) → ReadsRequest bytes.now head rest
         → length head.fields ≤ MAX_FIELDS → result ≡ heard_of head.method head.target }

@@ -6,7 +6,6 @@ mod reading;
 mod response;
 mod scrape;
 
-pub use heard::{Heard, MAX_FIELDS, hear};
+pub use heard::MAX_FIELDS;
 pub use reading::MAX_HEAD;
-pub use response::{Status, push_response_head, refusal};
 pub use scrape::{ScrapeFault, Tells, serve_scrape};

@@ -15,7 +15,7 @@ const PIECE_LENGTH: usize = 1024;
 
 /// Why a head isn't read.
 #[derive(Clone, Copy, Debug, PartialEq, Eq, Error)]
-pub enum HeadFault {
+pub(crate) enum HeadFault {
     /// A read failed.
     #[error("a read failed")]
     ReadFault,

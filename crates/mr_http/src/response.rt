@@ -7,7 +7,7 @@ use std::alloc::{AllocError, Global};
 
 /// How a request ended.
 #[derive(Clone, Copy, Debug, PartialEq, Eq)]
-pub enum Status {
+pub(crate) enum Status {
     /// Here is what was asked for.
     Ok,
     /// The request is none.
@@ -100,7 +100,11 @@ fn push_close(text: &mut Vec<u8>) -> Result<(), AllocError>
 }
 
 /// Adds the head of a response whose body has so many bytes. The connection is closed after it.
-pub fn push_response_head(text: &mut Vec<u8>, status: Status, bytes: u64) -> Result<(), AllocError>
+pub(crate) fn push_response_head(
+    text: &mut Vec<u8>,
+    status: Status,
+    bytes: u64,
+) -> Result<(), AllocError>
     ensures { OnOk result (text.new.items ≡ text.old.items ++ response_head status bytes) }
 {
     push_status_line(text, status)?;
@@ -121,7 +125,7 @@ fn push_refusal_body(text: &mut Vec<u8>, status: Status) -> Result<(), AllocErro
 }
 
 /// A refusal, whole. To a HEAD its body is left out.
-pub fn refusal(alloc: Global, status: Status) -> Result<Vec<u8>, AllocError>
+pub(crate) fn refusal(alloc: Global, status: Status) -> Result<Vec<u8>, AllocError>
     ensures { IfOk result (λ text. text.items ≡ refusal_text status) }
 {
     let mut text = Vec::new(alloc);

@@ -8,7 +8,7 @@ use std::alloc::AllocError;
 
 /// What the numbers of a family are.
 #[derive(Clone, Copy, Debug, PartialEq, Eq)]
-pub enum Kind {
+pub(crate) enum Kind {
     /// They only rise, from 0 at the start of the service.
     Counter,
     /// They rise and fall.
@@ -55,7 +55,12 @@ fn push_type(text: &mut Vec<u8>, name: &str, kind: Kind) -> Result<(), AllocErro
 }
 
 /// Begins a family: what it tells, in which there is no backslash and no line end, and its type.
-pub fn push_family(text: &mut Vec<u8>, name: &str, help: &str, kind: Kind) -> Result<(), AllocError>
+pub(crate) fn push_family(
+    text: &mut Vec<u8>,
+    name: &str,
+    help: &str,
+    kind: Kind,
+) -> Result<(), AllocError>
     ensures { OnOk result (text.new.items ≡ text.old.items ++ family_head name.now help.now kind) }
 {
     push_help(text, name, help)?;
@@ -74,7 +79,7 @@ fn push_rest(text: &mut Vec<u8>, labels: &[Label<'_>], number: Number) -> Result
 }
 
 /// Adds a sample: its name, its labels and its number, in a line.
-pub fn push_sample(
+pub(crate) fn push_sample(
     text: &mut Vec<u8>,
     name: &str,
     labels: &[Label<'_>],

@@ -10,7 +10,7 @@ use crate::number::Number;
 use std::alloc::AllocError;
 
 /// Adds a family of one number, without labels.
-pub fn push_one(
+pub(crate) fn push_one(
     text: &mut Vec<u8>,
     name: &str,
     help: &str,
@@ -24,7 +24,7 @@ pub fn push_one(
 }
 
 /// Adds a family of one number that rises and falls, without a sample where there is none.
-pub fn push_perhaps(
+pub(crate) fn push_perhaps(
     text: &mut Vec<u8>,
     name: &str,
     help: &str,
@@ -40,7 +40,7 @@ pub fn push_perhaps(
 }
 
 /// Adds a sample with one label.
-pub fn push_labelled(
+pub(crate) fn push_labelled(
     text: &mut Vec<u8>,
     name: &str,
     label: &str,
@@ -54,7 +54,7 @@ pub fn push_labelled(
 }
 
 /// Adds a family that tells a text: its one sample has the text in a label, and is always 1.
-pub fn push_info(
+pub(crate) fn push_info(
     text: &mut Vec<u8>,
     name: &str,
     help: &str,
@@ -69,15 +69,15 @@ pub fn push_info(
 
 /// A count, with the value of the label at which it stands.
 #[derive(Clone, Copy, Debug)]
-pub struct Count<'a> {
+pub(crate) struct Count<'a> {
     /// The value of the label.
-    pub at: &'a str,
+    pub(crate) at: &'a str,
     /// The count.
-    pub count: u64,
+    pub(crate) count: u64,
 }
 
 /// Adds a counter of two counts, each at a value of a label.
-pub fn push_two(
+pub(crate) fn push_two(
     text: &mut Vec<u8>,
     name: &str,
     help: &str,

@@ -6,11 +6,11 @@ use std::alloc::AllocError;
 
 /// A name, with what stands under it here.
 #[derive(Clone, Copy, Debug)]
-pub struct Label<'a> {
+pub(crate) struct Label<'a> {
     /// The name: letters, digits and underscores.
-    pub name: &'a str,
+    pub(crate) name: &'a str,
     /// What stands under it: any text.
-    pub value: &'a str,
+    pub(crate) value: &'a str,
 }
 
 /// Adds a byte of a label's value, escaped where it has to be.

@@ -7,7 +7,7 @@ use std::alloc::AllocError;
 
 /// The number of a sample.
 #[derive(Clone, Copy, Debug, PartialEq, Eq)]
-pub enum Number {
+pub(crate) enum Number {
     /// A count, or whole seconds.
     Whole(u64),
     /// A time, of so many microseconds, which is told in seconds.

@@ -50,7 +50,7 @@ fn push_buckets(text: &mut Vec<u8>, name: &str, buckets: &[Bucket<'_>]) -> Resul
 }
 
 /// Adds a histogram. More than 64 bits count stays at the most that they do.
-pub fn push_times(
+pub(crate) fn push_times(
     text: &mut Vec<u8>,
     name: &str,
     help: &str,

@@ -9,7 +9,6 @@ mod proxies;
 mod scrapes;
 mod words;
 
-use digits::digits_of;
 use nodes::told_of_node;
 use proxies::told_of_proxy;
 use scrapes::told_of_scrape;
@@ -30,7 +29,7 @@ fn told_of(alloc: Global, row: &str) -> Result<Vec<u8>, Fail> {
 fn main(rt: HostRuntime) -> Result<(), Fail> {
     for row in rt.lines(rt.alloc()) {
         let told = told_of(rt.alloc(), row?.as_str())?;
-        let digits = digits_of(rt.alloc(), told.as_slice())?;
+        let digits = hex::encode(rt.alloc(), told.as_slice())?;
         println!(rt; "{digits}")?;
     }
     Ok(())

@@ -1,5 +1,5 @@
 //! The words of a row, one after another.
-use crate::digits::{bytes_of_word, number_of, perhaps_number_of, text_of};
+use crate::digits::{bytes_of, number_of, perhaps_number_of, text_of};
 use std::alloc::Global;
 use std::test::Fail;
 
@@ -28,12 +28,12 @@ impl<'a> Words<'a> {
 
     /// The next word, as a number.
     pub fn number(&mut self) -> Result<u64, Fail> {
-        Ok(number_of(self.word()?))
+        number_of(self.word()?)
     }
 
     /// The next word, as a number that may be none.
     pub fn perhaps(&mut self) -> Result<Option<u64>, Fail> {
-        Ok(perhaps_number_of(self.word()?))
+        perhaps_number_of(self.word()?)
     }
 
     /// The next word, as a text.
@@ -43,6 +43,6 @@ impl<'a> Words<'a> {
 
     /// The next word, as bytes.
     pub fn bytes(&mut self, alloc: Global) -> Result<Vec<u8>, Fail> {
-        Ok(bytes_of_word(alloc, self.word()?)?)
+        bytes_of(alloc, self.word()?)
     }
 }
