@@ -10,6 +10,10 @@ use Rattle.mr_http.specs.declared.reading.HeadFault.TheVariants.{ReadFault, OutO
 abbrev pub MAX_HEAD : ℕ
 MAX_HEAD = 8192
 
+-- how many reads are made at most: each but the last brings a byte
+abbrev pub most_reads : ℕ
+most_reads = 8193
+
 -- one read brought a piece, which is empty at the end of the input alone
 pub record AddsPiece (before after : List ℕ) (old new : SourceView) (ended : Bool) : Type 0 where
   pub piece : List ℕ

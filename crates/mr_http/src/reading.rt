@@ -1,6 +1,6 @@
 //! Reads of a request's head.
 ghost use Rattle.std.specs.Prelude.{◌≡◌, ◌+◌, ◌<◌, ◌≤◌, length, vec_len, IfOk, IfErr};
-ghost use Rattle.mr_http.specs.Reading.{AddsPiece, Fails, HeadIs, MAX_HEAD};
+ghost use Rattle.mr_http.specs.Reading.{AddsPiece, Fails, HeadIs, MAX_HEAD, most_reads};
 
 use crate::heard::{Heard, hear};
 use mr_text::{ReadFault, Source};
@@ -74,6 +74,7 @@ fn add_piece<S: Source>(bytes: &mut Vec<u8>, reader: &mut S) -> Result<bool, Hea
 pub(crate) fn read_head<S: Source>(alloc: Global, reader: &mut S) -> Result<ReadHead, HeadFault>
     ensures head { IfOk result (λ head. HeadIs head.bytes.items head.heard (S.told reader.old) (S.told reader.new)) }
     ensures fails { IfErr result (λ fault. Fails fault (S.told reader.old) (S.told reader.new)) }
+    ensures reads { (S.told reader.new).reads ≤ (S.told reader.old).reads + most_reads }
 {
     let mut bytes = Vec::new(alloc);
     while bytes.len() < MAX_HEAD {

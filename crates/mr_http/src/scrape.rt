@@ -1,5 +1,6 @@
 //! The service of one scraper.
-ghost use Rattle.std.specs.Prelude.{◌≡◌, ℕ, List, IfOk};
+ghost use Rattle.std.specs.Prelude.{◌≡◌, ◌+◌, ◌≤◌, ℕ, List, IfOk};
+ghost use Rattle.mr_http.specs.Reading.{most_reads};
 ghost use Rattle.mr_http.specs.Scrape.{IsAnswer, Scrapes, status_of, unavailable_text};
 
 use crate::heard::Heard;
@@ -89,7 +90,7 @@ fn answer<T: Tells>(
     }
 }
 
-/// Reads a scraper's request, and answers it in one write. ReadFault where a read failed, before anything is written;
+/// Reads a scraper's request, in at most 8,193 reads, and answers it in one write. ReadFault where a read failed, before anything is written;
 /// WriteFault where the write did. Where memory is refused the answer is that the service is unavailable now.
 pub fn serve_scrape<T: Tells, S: Source, W: Sink>(
     alloc: Global,
@@ -97,7 +98,8 @@ pub fn serve_scrape<T: Tells, S: Source, W: Sink>(
     reader: &mut S,
     writer: &mut W,
 ) -> Result<(), ScrapeFault>
-    ensures { Scrapes (T.told tells.now) (S.told reader.old) (W.told writer.old) result (S.told reader.new) (W.told writer.new) }
+    ensures scraped { Scrapes (T.told tells.now) (S.told reader.old) (W.told writer.old) result (S.told reader.new) (W.told writer.new) }
+    ensures reads { (S.told reader.new).reads ≤ (S.told reader.old).reads + most_reads }
 {
     let text = match read_head(alloc, reader) {
         Ok(head) => answer(alloc, tells, head.heard, head.bytes.len()),

@@ -1,4 +1,4 @@
-use Rattle.std.proofs.Common.{◌≡◌, ◌++◌, ◌-◌, ◌≤◌, length, vec_len}
+use Rattle.std.proofs.Common.{◌≡◌, ◌++◌, ◌-◌, ◌≤◌, ◌+◌, length, vec_len}
 use Rattle.mr_http.specs.Reading.{MAX_HEAD}
 use Rattle.mr_http.proofs.reading.read_head.Given as goal
 
@@ -7,6 +7,7 @@ abbrev pub invariant-loop-bytes : goal.invariant-loop-bytes
 invariant-loop-bytes g l = record {
   taken : (g.S.Source.told l.reader).taken ≡ (g.S.Source.told l.initial.reader).taken ++ l.bytes.items;
   steady : (g.S.Source.told l.reader).failures ≡ (g.S.Source.told l.initial.reader).failures;
+  reads : (g.S.Source.told l.reader).reads ≤ (g.S.Source.told l.initial.reader).reads + length l.bytes.items;
   few : length l.bytes.items ≤ MAX_HEAD;
 }
 
