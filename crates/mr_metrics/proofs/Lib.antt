@@ -1,1 +1,2 @@
+mod LabelLemmas
 mod NumberLemmas

@@ -5,6 +5,7 @@ mod counts;
 mod exposition;
 mod families;
 mod label;
+pub mod laws;
 mod node;
 mod number;
 mod proxy;
