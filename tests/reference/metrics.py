@@ -3,7 +3,7 @@ import re
 
 PHASES = ("old-only", "both-read-old", "both-read-new", "new-only")
 COMMANDS = ("get", "set", "delete")
-KINDS = ("hit", "miss", "stored", "deleted", "not found", "leg lost", "busy", "out of memory", "clock fault")
+KINDS = ("hit", "miss", "stored", "deleted", "not found", "leg lost", "busy", "out of memory", "clock fault", "other fault")
 MOST = 2**64 - 1
 MOST_HEAD = 8192
 MOST_FIELDS = 64

@@ -4,7 +4,7 @@ use Rattle.mr_phases.specs.PhaseText.{phase_text}
 use Rattle.mr_metrics.specs.Exposition.{family_head, labelled_sample, shown_pair, shown_number}
 use Rattle.mr_metrics.specs.declared.counts.AnswerCount.{AnswerCount}
 use Rattle.mr_metrics.specs.declared.counts.AnswerKind.{AnswerKind}
-use Rattle.mr_metrics.specs.declared.counts.AnswerKind.TheVariants.{Hit, Miss, Stored, Deleted, NotFound, LegLost, Busy, OutOfMemory, ClockFault}
+use Rattle.mr_metrics.specs.declared.counts.AnswerKind.TheVariants.{Hit, Miss, Stored, Deleted, NotFound, LegLost, Busy, OutOfMemory, ClockFault, OtherFault}
 use Rattle.mr_metrics.specs.declared.counts.Command.{Command}
 use Rattle.mr_metrics.specs.declared.counts.Command.TheVariants.{Get, Set, Delete}
 use Rattle.mr_metrics.specs.declared.counts.LegCount.{LegCount}
@@ -29,6 +29,7 @@ answer_text LegLost = codes "leg lost"
 answer_text Busy = codes "busy"
 answer_text OutOfMemory = codes "out of memory"
 answer_text ClockFault = codes "clock fault"
+answer_text OtherFault = codes "other fault"
 
 -- how many requests of a command were issued in a phase
 abbrev pub request_sample : List ℕ → RequestCount → List ℕ

@@ -57,6 +57,8 @@ pub enum AnswerKind {
     OutOfMemory,
     /// The clock gave no reading.
     ClockFault,
+    /// Any other failure, as one that a node told.
+    OtherFault,
 }
 
 impl AnswerKind {
@@ -74,6 +76,7 @@ impl AnswerKind {
             AnswerKind::Busy => "busy",
             AnswerKind::OutOfMemory => "out of memory",
             AnswerKind::ClockFault => "clock fault",
+            AnswerKind::OtherFault => "other fault",
         }
     }
 }

@@ -39,7 +39,8 @@ fn kind_of(number: u64) -> AnswerKind {
         5 => AnswerKind::LegLost,
         6 => AnswerKind::Busy,
         7 => AnswerKind::OutOfMemory,
-        _ => AnswerKind::ClockFault,
+        8 => AnswerKind::ClockFault,
+        _ => AnswerKind::OtherFault,
     }
 }
 
