@@ -65,6 +65,13 @@ impl<C: Carrier> SharedState<C> {
         }
     }
 
+    /// The share of a session that issued nothing yet.
+    pub fn share() -> Share
+        ensures { result ≡ 0 }
+    {
+        Share::new()
+    }
+
     /// Does nothing but tell the prover what the type keeps of its proxy.
     fn keeps(&self)
         ensures { IsUnderLock C.gave self.now }

@@ -1,0 +1,138 @@
+//! A proxy that counts what it is asked and what it answers.
+ghost use Rattle.std.specs.Prelude.{◌≡◌, ◌≢◌, ◌≤◌, length, Some, None, OnErr, IfOk, IfErr, MatchResult};
+ghost use Rattle.mr_text.specs.declared.request.Request.{Request};
+ghost use Rattle.mr_proxy.specs.Transitions.{given_up_of};
+ghost use Rattle.mr_desks.specs.Desk.{IsUnderLock};
+ghost use Rattle.mr_desks.specs.Issuing.{clock_call, with_share};
+ghost use Rattle.mr_desks.specs.Recorded.{AnswerStands};
+ghost use Rattle.mr_desks.specs.Shared.{SharedIssues, SharedRefuses};
+ghost use Rattle.mr_desks.specs.Taking.{BecomesOf, TakenStands, TakenInTime};
+ghost use Rattle.mr_desks.specs.declared.desk_error.DeskError.{DeskError};
+ghost use Rattle.mr_counting.specs.CountedState.{after_taken};
+ghost use Rattle.mr_counting.specs.ProxyCounts.{after_issued, after_answered, after_refused};
+
+use crate::proxy_counts::ProxyCounts;
+use mr_clock::Clock;
+use mr_desks::{Carried, Carrier, DeskError, Share, SharedState};
+use mr_history::OpId;
+use mr_phases::Schedule;
+use mr_proxy::{Answer, Issued, ProxyCore, Taken};
+use mr_text::Request;
+use std::marker::Model;
+
+/// A proxy without a book, with what it has counted.
+pub struct CountedState<C: Carrier> {
+    state: SharedState<C>,
+    schedule: Schedule,
+    counts: ProxyCounts,
+}
+
+impl<C: Carrier> Drop for CountedState<C> {
+    fn drop(self) {
+        let Self {
+            state: _,
+            schedule: _,
+            counts: _,
+        } = self;
+    }
+}
+
+impl<C: Carrier> Model for CountedState<C> {
+    ghost use Rattle.mr_counting.specs.CountedState.{CountedProxyView};
+
+    ghost Value = { CountedProxyView };
+
+    ghost view = { λ s. record { proxy = s.state; schedule = s.schedule; counts = s.counts } };
+}
+
+impl<C: Carrier> CountedState<C> {
+    ghost use Rattle.mr_proxy.specs.ProxyView.{IsFresh};
+
+    /// The fresh proxy, of which nothing was counted yet.
+    pub fn new(core: ProxyCore) -> CountedState<C>
+        requires { IsFresh core }
+        ensures { result ≡ record { proxy = core; schedule = core.schedule; counts = ProxyCounts.NONE } }
+    {
+        let schedule = core.schedule();
+        CountedState {
+            state: SharedState::new(core),
+            schedule,
+            counts: ProxyCounts::NONE,
+        }
+    }
+
+    /// What was counted.
+    pub fn counts(&self) -> ProxyCounts
+        ensures { result ≡ self.now.counts }
+    {
+        self.counts
+    }
+
+    /// Issues a request as `SharedState` does, and counts that, or why it was refused.
+    pub fn issue<K: Clock>(
+        &mut self,
+        share: &mut Share,
+        clock: &mut K,
+        request: &Request,
+    ) -> Result<Issued, DeskError>
+        requires { request.now ≢ Request.Quit }
+        ensures issued { IfOk result (λ issued. SharedIssues (clock_call K.reads K.failures clock.old clock.new)
+            (with_share self.old.proxy share.old) request.now issued.op issued.legs.items (with_share self.new.proxy share.new)) }
+        ensures has_leg { IfOk result (λ issued. 1 ≤ length issued.legs.items) }
+        ensures refused { IfErr result (SharedRefuses (clock_call K.reads K.failures clock.old clock.new)
+            (with_share self.old.proxy share.old)) }
+        ensures unchanged { OnErr result ((self.new.proxy ≡ self.old.proxy) × (share.new ≡ share.old)) }
+        ensures counted { MatchResult result
+            (λ _. self.new.counts ≡ after_issued self.old.counts)
+            (λ e. self.new.counts ≡ after_refused e self.old.counts) }
+        ensures schedule { self.new.schedule ≡ self.old.schedule }
+        ensures locked { IsUnderLock C.gave self.old.proxy }
+    {
+        match self.state.issue(share, clock, request) {
+            Ok(issued) => {
+                self.counts.add_issue();
+                Ok(issued)
+            }
+            Err(refusal) => {
+                self.counts.add_refusal(refusal);
+                Err(refusal)
+            }
+        }
+    }
+
+    /// Takes a leg that came back as `SharedState` does, and counts the answer that it makes whole.
+    pub fn take(&mut self, carried: &mut Carried<C>) -> Taken
+        ensures became { BecomesOf self.old.proxy carried.old.back result }
+        ensures counted { self.new.counts ≡ after_taken self.old.schedule result self.old.counts }
+        ensures schedule { self.new.schedule ≡ self.old.schedule }
+        ensures stands { TakenStands C.gave result }
+        ensures in_time { TakenInTime result }
+        ensures locked { IsUnderLock C.gave self.old.proxy }
+    {
+        let taken = self.state.take(carried);
+        if let Taken::Answered(answer) = &taken {
+            self.counts.add_answer(self.schedule, answer);
+        }
+        taken
+    }
+
+    /// Gives a request up as `SharedState` does, and counts its answer.
+    pub fn give_up(&mut self, op: OpId) -> Result<Answer, DeskError>
+        ensures answer { IfOk result (λ answer. given_up_of self.old.proxy op ≡ Some answer) }
+        ensures stands { IfOk result (AnswerStands C.gave) }
+        ensures unknown { IfErr result (λ e. (given_up_of self.old.proxy op ≡ None) × (e ≡ DeskError.NoSuchOp)) }
+        ensures counted { MatchResult result
+            (λ answer. self.new.counts ≡ after_answered self.old.schedule answer self.old.counts)
+            (λ _. self.new.counts ≡ self.old.counts) }
+        ensures schedule { self.new.schedule ≡ self.old.schedule }
+        ensures locked { IsUnderLock C.gave self.old.proxy }
+    {
+        match self.state.give_up(op) {
+            Ok(answer) => {
+                self.counts.add_answer(self.schedule, &answer);
+                Ok(answer)
+            }
+            Err(refusal) => Err(refusal),
+        }
+    }
+}

@@ -1,0 +1,72 @@
+//! What became of the legs to each node, counted by all connections.
+ghost use Rattle.std.specs.Prelude.{◌≡◌, IfOk, length, map, vec_len};
+
+use mr_pools::{Pool, Routing};
+use std::alloc::{AllocError, Global};
+use std::sync::atomic::{AtomicU64, Ordering};
+
+/// What became of the legs to a node, counted by all connections.
+pub struct LegCounts {
+    carried: AtomicU64,
+    lost: AtomicU64,
+}
+
+impl Drop for LegCounts {
+    fn drop(self) {
+        let Self {
+            carried: _,
+            lost: _,
+        } = self;
+    }
+}
+
+impl LegCounts {
+    /// None yet.
+    pub fn new() -> LegCounts {
+        LegCounts {
+            carried: AtomicU64::new(0),
+            lost: AtomicU64::new(0),
+        }
+    }
+
+    /// Counts a leg that was carried, or lost.
+    pub(crate) fn add(&self, carried: bool) {
+        if carried {
+            self.carried.fetch_add(1, Ordering::SeqCst);
+        } else {
+            self.lost.fetch_add(1, Ordering::SeqCst);
+        }
+    }
+
+    /// How many legs were carried.
+    pub fn carried(&self) -> u64 {
+        self.carried.load(Ordering::SeqCst)
+    }
+
+    /// How many legs were lost.
+    pub fn lost(&self) -> u64 {
+        self.lost.load(Ordering::SeqCst)
+    }
+}
+
+/// Counts for each node of a pool, in order.
+fn counts_of_pool(alloc: Global, pool: &Pool) -> Result<Vec<LegCounts>, AllocError>
+    ensures { IfOk result (λ counts. vec_len counts ≡ length pool.now) }
+{
+    let mut counts = Vec::new(alloc);
+    for _name in pool.names() {
+        counts.push(LegCounts::new())?;
+    }
+    Ok(counts)
+}
+
+/// Counts for each node of a routing: a list for each pool, the first one first.
+pub fn leg_counts(alloc: Global, routing: &Routing) -> Result<Vec<Vec<LegCounts>>, AllocError>
+    ensures { IfOk result (λ pools. map (λ counts. vec_len counts) pools.items ≡ map (λ pool. length pool) routing.now.pools) }
+{
+    let mut pools = Vec::new(alloc);
+    for pool in routing.pools() {
+        pools.push(counts_of_pool(alloc, pool)?)?;
+    }
+    Ok(pools)
+}

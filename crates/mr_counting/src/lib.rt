@@ -1,0 +1,39 @@
+//! What a running node or proxy counts: wrappers of a cache, a proxy, a carrier and a clock that count and pass on.
+#![tactic(auto)]
+
+mod answer_counts;
+mod connections;
+mod counted_cache;
+mod counted_carrier;
+mod counted_node;
+mod counted_proxy;
+mod counted_state;
+mod counting;
+mod leg_times;
+mod legs;
+mod node_counts;
+mod node_teller;
+mod proxy_counts;
+mod proxy_teller;
+mod request_counts;
+mod rows;
+mod service_counts;
+mod standing;
+mod watched_clock;
+
+pub use answer_counts::AnswerCounts;
+pub use connections::Connections;
+pub use counted_cache::CountedCache;
+pub use counted_carrier::CountedCarrier;
+pub use counted_node::{CountedDesk, CountedNode, NodeLook};
+pub use counted_proxy::CountedProxy;
+pub use counted_state::CountedState;
+pub use leg_times::{BUCKETS, LegTimes};
+pub use legs::{LegCounts, leg_counts};
+pub use node_counts::NodeCounts;
+pub use node_teller::{NodeIdentity, NodeTeller};
+pub use proxy_counts::ProxyCounts;
+pub use proxy_teller::{Legs, ProxyIdentity, ProxyTeller};
+pub use request_counts::{PhaseCounts, RequestCounts};
+pub use service_counts::ServiceCounts;
+pub use watched_clock::{ClockWatch, WatchedClock};
