@@ -1,9 +1,13 @@
 //! What became of the legs to each node, counted by all connections.
 ghost use Rattle.std.specs.Prelude.{◌≡◌, IfOk, length, map, vec_len};
 
+use crate::counted_carrier::CountedCarrier;
+use crate::leg_times::LegTimes;
+use mr_desks::Carrier;
 use mr_pools::{Pool, Routing};
 use std::alloc::{AllocError, Global};
 use std::sync::atomic::{AtomicU64, Ordering};
+use std::time;
 
 /// What became of the legs to a node, counted by all connections.
 pub struct LegCounts {
@@ -61,7 +65,7 @@ fn counts_of_pool(alloc: Global, pool: &Pool) -> Result<Vec<LegCounts>, AllocErr
 }
 
 /// Counts for each node of a routing: a list for each pool, the first one first.
-pub fn leg_counts(alloc: Global, routing: &Routing) -> Result<Vec<Vec<LegCounts>>, AllocError>
+fn counts_of_routing(alloc: Global, routing: &Routing) -> Result<Vec<Vec<LegCounts>>, AllocError>
     ensures { IfOk result (λ pools. map (λ counts. vec_len counts) pools.items ≡ map (λ pool. length pool) routing.now.pools) }
 {
     let mut pools = Vec::new(alloc);
@@ -69,4 +73,89 @@ pub fn leg_counts(alloc: Global, routing: &Routing) -> Result<Vec<Vec<LegCounts>
         pools.push(counts_of_pool(alloc, pool)?)?;
     }
     Ok(pools)
+}
+
+/// What all connections of a proxy count of legs.
+pub struct LegTotals {
+    pools: Vec<Vec<LegCounts>>,
+    // of legs to a node that the routing doesn't have, of which there are none
+    others: LegCounts,
+    times: LegTimes,
+}
+
+impl Drop for LegTotals {
+    fn drop(self) {
+        let Self {
+            pools: _,
+            others: _,
+            times: _,
+        } = self;
+    }
+}
+
+impl LegTotals {
+    /// None yet, for the nodes of a routing.
+    pub fn new(alloc: Global, routing: &Routing) -> Result<LegTotals, AllocError> {
+        Ok(LegTotals {
+            pools: counts_of_routing(alloc, routing)?,
+            others: LegCounts::new(),
+            times: LegTimes::new(),
+        })
+    }
+
+    /// The counts of a node of a pool.
+    fn at(&self, pool: usize, node: usize) -> &LegCounts {
+        match self.pools.get(pool) {
+            Some(nodes) => nodes.get(node).unwrap_or(&self.others),
+            None => &self.others,
+        }
+    }
+
+    /// How long legs took that came back.
+    pub fn times(&self) -> &LegTimes {
+        &self.times
+    }
+
+    /// What became of the legs to each node of each pool.
+    pub(crate) fn pools(&self) -> &[Vec<LegCounts>] {
+        self.pools.as_slice()
+    }
+
+    /// A pool's carriers, in order, whose legs are counted here.
+    fn counted_pool<'a, C: Carrier + Drop, R: time::Clock + Copy>(
+        &'a self,
+        alloc: Global,
+        rt: R,
+        pool: usize,
+        nodes: Vec<C>,
+    ) -> Result<Vec<CountedCarrier<'a, C, R>>, AllocError>
+        ensures { IfOk result (λ counted. counted.items ≡ nodes.items) }
+    {
+        let mut counted = Vec::new(alloc);
+        let mut node = 0usize;
+        for carrier in nodes {
+            let legs = self.at(pool, node);
+            counted.push(CountedCarrier::new(carrier, rt, legs, &self.times))?;
+            node = node.saturating_add(1);
+        }
+        Ok(counted)
+    }
+
+    /// The carriers of a connection, in order, whose legs are counted here. They carry as these do.
+    pub fn counted<'a, C: Carrier + Drop, R: time::Clock + Copy>(
+        &'a self,
+        alloc: Global,
+        rt: R,
+        pools: Vec<Vec<C>>,
+    ) -> Result<Vec<Vec<CountedCarrier<'a, C, R>>>, AllocError>
+        ensures { IfOk result (λ counted. map (λ nodes. nodes.items) counted.items ≡ map (λ nodes. nodes.items) pools.items) }
+    {
+        let mut counted = Vec::new(alloc);
+        let mut pool = 0usize;
+        for nodes in pools {
+            counted.push(self.counted_pool(alloc, rt, pool, nodes)?)?;
+            pool = pool.saturating_add(1);
+        }
+        Ok(counted)
+    }
 }

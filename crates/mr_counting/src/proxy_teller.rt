@@ -3,8 +3,7 @@ ghost use Rattle.std.specs.Prelude.{◌≡◌, IfOk};
 ghost use Rattle.mr_counting.specs.Telling.{IsSnapshotOf, TellsCounts, answer_rows, request_rows};
 
 use crate::counted_proxy::CountedProxy;
-use crate::leg_times::LegTimes;
-use crate::legs::LegCounts;
+use crate::legs::{LegCounts, LegTotals};
 use crate::proxy_counts::ProxyCounts;
 use crate::rows::{answer_rows, request_rows};
 use crate::service_counts::ServiceCounts;
@@ -33,17 +32,6 @@ pub struct ProxyIdentity<'a> {
     pub room: u64,
 }
 
-/// What connections count of legs.
-#[derive(Clone, Copy)]
-pub struct Legs<'a> {
-    /// The names of the nodes.
-    pub routing: &'a Routing,
-    /// What became of the legs to each of them.
-    pub counts: &'a [Vec<LegCounts>],
-    /// How long legs took that came back.
-    pub times: &'a LegTimes,
-}
-
 /// What a running proxy tells of itself to those that scrape it.
 pub struct ProxyTeller<'a, C: Carrier, K: Clock + Clone + Drop, R: Wait> {
     /// What may wait for the proxy's lock.
@@ -52,8 +40,10 @@ pub struct ProxyTeller<'a, C: Carrier, K: Clock + Clone + Drop, R: Wait> {
     pub identity: ProxyIdentity<'a>,
     /// The proxy.
     pub proxy: &'a CountedProxy<C>,
+    /// The names of its nodes.
+    pub routing: &'a Routing,
     /// What its connections count of legs.
-    pub legs: Legs<'a>,
+    pub legs: &'a LegTotals,
     /// What its service counts.
     pub service: &'a ServiceCounts,
     /// Its clock.
@@ -66,6 +56,7 @@ impl<'a, C: Carrier, K: Clock + Clone + Drop, R: Wait> Drop for ProxyTeller<'a, 
             rt: _,
             identity: _,
             proxy: _,
+            routing: _,
             legs: _,
             service: _,
             clock: _,
@@ -92,10 +83,14 @@ fn push_pool<'a>(
 }
 
 /// What became of legs, node by node.
-fn leg_rows<'a>(alloc: Global, legs: Legs<'a>) -> Result<Vec<LegCount<'a>>, AllocError> {
+fn leg_rows<'a>(
+    alloc: Global,
+    routing: &'a Routing,
+    legs: &LegTotals,
+) -> Result<Vec<LegCount<'a>>, AllocError> {
     let mut rows = Vec::new(alloc);
-    let pools = legs.routing.pools();
-    for (number, counts) in legs.counts.iter().enumerate() {
+    let pools = routing.pools();
+    for (number, counts) in legs.pools().iter().enumerate() {
         if let Some(pool) = pools.get(number) {
             push_pool(&mut rows, number as u64, pool, counts.as_slice())?;
         }
@@ -180,11 +175,11 @@ impl<'a, C: Carrier, K: Clock + Clone + Drop, R: Wait> Tells for ProxyTeller<'a,
     fn tell(&self, alloc: Global) -> Result<Vec<u8>, AllocError> {
         let counts = self.proxy.counts(self.rt);
         let service = self.service.snapshot(self.clock, self.identity.version);
-        let legs = leg_rows(alloc, self.legs)?;
-        let buckets = self.legs.times.buckets();
+        let legs = leg_rows(alloc, self.routing, self.legs)?;
+        let buckets = self.legs.times().buckets();
         let times = Times {
             buckets: &buckets,
-            micros: self.legs.times.micros(),
+            micros: self.legs.times().micros(),
         };
         told(
             alloc,

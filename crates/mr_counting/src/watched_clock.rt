@@ -1,5 +1,6 @@
 //! A clock of which it is counted how often it goes back.
 use mr_clock::{Clock, ClockFault};
+use std::marker::Model;
 use std::sync::atomic::{AtomicU64, Ordering};
 
 /// How often the clock of a service went back, seen by all who read it.
@@ -63,21 +64,28 @@ impl<'a, K: Clock + Drop> Drop for WatchedClock<'a, K> {
     }
 }
 
+/// To contracts it is the clock within.
+impl<'a, K: Clock> Model for WatchedClock<'a, K> {
+    ghost Value = { K };
+
+    ghost view = { λ c. c.clock };
+}
+
 impl<'a, K: Clock> WatchedClock<'a, K> {
     ghost use Rattle.std.specs.Prelude.{◌≡◌};
 
     /// This clock, watched there.
     pub fn new(clock: K, watch: &'a ClockWatch) -> WatchedClock<'a, K>
-        ensures { result.clock ≡ clock }
+        ensures { result ≡ clock }
     {
         WatchedClock { clock, watch }
     }
 }
 
 impl<'a, K: Clock> Clock for WatchedClock<'a, K> {
-    ghost failures = { λ c. K.failures c.clock };
+    ghost failures = { K.failures };
 
-    ghost reads = { λ old reading new. K.reads old.clock reading new.clock };
+    ghost reads = { K.reads };
 
     fn now(&mut self) -> Result<u64, ClockFault> {
         let before = self.watch.latest();

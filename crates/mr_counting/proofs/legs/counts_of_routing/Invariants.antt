@@ -1,5 +1,5 @@
 use Rattle.std.proofs.Common.{◌≡◌, ◌++◌, length, map, drop, vec_len}
-use Rattle.mr_counting.proofs.legs.leg_counts.Given as goal
+use Rattle.mr_counting.proofs.legs.counts_of_routing.Given as goal
 
 -- there are counts for each pool so far
 abbrev pub invariant-loop-pool : goal.invariant-loop-pool
