@@ -95,7 +95,7 @@ def of_times(times, micros):
         count = min(count + more, MOST)
         samples.append(("_bucket", [("le", bound)], count))
     samples += [("_sum", [], seconds(micros)), ("_count", [], count)]
-    return family("migctl_proxy_leg_seconds", "How long legs took that came back, in seconds.", "histogram", samples)
+    return family("migctl_proxy_leg_seconds", "How long legs took, carried and lost ones, in seconds.", "histogram", samples)
 
 
 def of_proxy(known):
@@ -119,7 +119,7 @@ def of_proxy(known):
         )
         + one(
             "migctl_proxy_last_issue_seconds",
-            "The reading at which the last request was issued, in seconds since the epoch.",
+            "The latest reading by which an answered request was judged, in seconds since the epoch.",
             "gauge",
             known["last_issue"],
         )
@@ -133,7 +133,7 @@ def of_proxy(known):
         )
         + family(
             "migctl_proxy_requests_total",
-            "Requests that were issued, by command and by the phase in force.",
+            "Requests that came to an answer, by command and by the phase of their reading.",
             "counter",
             requests,
         )

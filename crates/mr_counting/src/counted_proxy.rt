@@ -34,9 +34,16 @@ impl<C: Carrier> CountedProxy<C> {
             state: Mutex::new(CountedState::new(core)),
         }
     }
+}
 
+/// What tells its counts.
+pub trait Counts {
     /// What was counted so far.
-    pub fn counts<R: Wait>(&self, rt: &R) -> ProxyCounts {
+    fn counts<R: Wait>(&self, rt: &R) -> ProxyCounts;
+}
+
+impl<C: Carrier> Counts for CountedProxy<C> {
+    fn counts<R: Wait>(&self, rt: &R) -> ProxyCounts {
         self.state.lock(rt).counts()
     }
 }

@@ -1,4 +1,4 @@
-//! How long legs took that came back, counted by all connections.
+//! How long legs took, carried and lost ones, counted by all connections.
 ghost use Rattle.std.specs.Prelude.{◌≡◌, ◌<◌, ◌≤◌, length};
 ghost use Rattle.mr_counting.specs.LegTimes.{bounds, place_in};
 
@@ -44,7 +44,7 @@ fn place_of(micros: u64) -> usize
     place_among(&BOUNDS, micros)
 }
 
-/// How long legs took that came back, counted by all connections.
+/// How long legs took, carried and lost ones, counted by all connections.
 pub struct LegTimes {
     counts: [AtomicU64; BUCKETS],
     micros: AtomicU64,

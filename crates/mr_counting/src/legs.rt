@@ -1,13 +1,11 @@
 //! What became of the legs to each node, counted by all connections.
 ghost use Rattle.std.specs.Prelude.{◌≡◌, IfOk, length, map, vec_len};
 
-use crate::counted_carrier::CountedCarrier;
 use crate::leg_times::LegTimes;
-use mr_desks::Carrier;
 use mr_pools::{Pool, Routing};
+use mr_proxy::LegSheet;
 use std::alloc::{AllocError, Global};
 use std::sync::atomic::{AtomicU64, Ordering};
-use std::time;
 
 /// What became of the legs to a node, counted by all connections.
 pub struct LegCounts {
@@ -111,7 +109,13 @@ impl LegTotals {
         }
     }
 
-    /// How long legs took that came back.
+    /// Counts a leg that was carried, or lost.
+    pub(crate) fn add(&self, sheet: &LegSheet, carried: bool) {
+        self.at(sheet.pool_number(), sheet.node as usize)
+            .add(carried);
+    }
+
+    /// How long legs took.
     pub fn times(&self) -> &LegTimes {
         &self.times
     }
@@ -119,43 +123,5 @@ impl LegTotals {
     /// What became of the legs to each node of each pool.
     pub(crate) fn pools(&self) -> &[Vec<LegCounts>] {
         self.pools.as_slice()
-    }
-
-    /// A pool's carriers, in order, whose legs are counted here.
-    fn counted_pool<'a, C: Carrier + Drop, R: time::Clock + Copy>(
-        &'a self,
-        alloc: Global,
-        rt: R,
-        pool: usize,
-        nodes: Vec<C>,
-    ) -> Result<Vec<CountedCarrier<'a, C, R>>, AllocError>
-        ensures { IfOk result (λ counted. counted.items ≡ nodes.items) }
-    {
-        let mut counted = Vec::new(alloc);
-        let mut node = 0usize;
-        for carrier in nodes {
-            let legs = self.at(pool, node);
-            counted.push(CountedCarrier::new(carrier, rt, legs, &self.times))?;
-            node = node.saturating_add(1);
-        }
-        Ok(counted)
-    }
-
-    /// The carriers of a connection, in order, whose legs are counted here. They carry as these do.
-    pub fn counted<'a, C: Carrier + Drop, R: time::Clock + Copy>(
-        &'a self,
-        alloc: Global,
-        rt: R,
-        pools: Vec<Vec<C>>,
-    ) -> Result<Vec<Vec<CountedCarrier<'a, C, R>>>, AllocError>
-        ensures { IfOk result (λ counted. map (λ nodes. nodes.items) counted.items ≡ map (λ nodes. nodes.items) pools.items) }
-    {
-        let mut counted = Vec::new(alloc);
-        let mut pool = 0usize;
-        for nodes in pools {
-            counted.push(self.counted_pool(alloc, rt, pool, nodes)?)?;
-            pool = pool.saturating_add(1);
-        }
-        Ok(counted)
     }
 }

@@ -20,7 +20,7 @@ pub struct NodeIdentity<'a> {
 }
 
 /// What a running node tells of itself to those that scrape it.
-pub struct NodeTeller<'a, K: Clock + Clone + Drop, R: Wait> {
+pub struct NodeTeller<'a, K: Clock + Clone, R: Wait> {
     /// What may wait for the node's lock.
     pub rt: &'a R,
     /// Who it is.
@@ -33,7 +33,7 @@ pub struct NodeTeller<'a, K: Clock + Clone + Drop, R: Wait> {
     pub clock: &'a K,
 }
 
-impl<'a, K: Clock + Clone + Drop, R: Wait> Drop for NodeTeller<'a, K, R> {
+impl<'a, K: Clock + Clone, R: Wait> Drop for NodeTeller<'a, K, R> {
     fn drop(self) {
         let Self {
             rt: _,
@@ -82,7 +82,7 @@ fn told(
     Ok(text)
 }
 
-impl<'a, K: Clock + Clone + Drop, R: Wait> Tells for NodeTeller<'a, K, R> {
+impl<'a, K: Clock + Clone, R: Wait> Tells for NodeTeller<'a, K, R> {
     ghost use Rattle.mr_counting.specs.Telling.{TellsNode};
 
     ghost told = { λ t text. TellsNode (record { version = t.identity.version.now; address = t.identity.address.now }) text };

@@ -2,14 +2,13 @@
 ghost use Rattle.std.specs.Prelude.{◌≡◌, IfOk};
 ghost use Rattle.mr_counting.specs.Telling.{IsSnapshotOf, TellsCounts, answer_rows, request_rows};
 
-use crate::counted_proxy::CountedProxy;
+use crate::counted_proxy::Counts;
 use crate::legs::{LegCounts, LegTotals};
 use crate::proxy_counts::ProxyCounts;
 use crate::rows::{answer_rows, request_rows};
 use crate::service_counts::ServiceCounts;
 use crate::standing::{next_phase, reading_in_force};
 use mr_clock::Clock;
-use mr_desks::Carrier;
 use mr_http::Tells;
 use mr_metrics::{
     AnswerCount, LegCount, ProxySnapshot, RequestCount, ServiceSnapshot, Times, proxy_metrics,
@@ -33,13 +32,13 @@ pub struct ProxyIdentity<'a> {
 }
 
 /// What a running proxy tells of itself to those that scrape it.
-pub struct ProxyTeller<'a, C: Carrier, K: Clock + Clone + Drop, R: Wait> {
+pub struct ProxyTeller<'a, P: Counts, K: Clock + Clone, R: Wait> {
     /// What may wait for the proxy's lock.
     pub rt: &'a R,
     /// Who it is.
-    pub identity: ProxyIdentity<'a>,
+    pub identity: &'a ProxyIdentity<'a>,
     /// The proxy.
-    pub proxy: &'a CountedProxy<C>,
+    pub proxy: &'a P,
     /// The names of its nodes.
     pub routing: &'a Routing,
     /// What its connections count of legs.
@@ -50,7 +49,7 @@ pub struct ProxyTeller<'a, C: Carrier, K: Clock + Clone + Drop, R: Wait> {
     pub clock: &'a K,
 }
 
-impl<'a, C: Carrier, K: Clock + Clone + Drop, R: Wait> Drop for ProxyTeller<'a, C, K, R> {
+impl<'a, P: Counts, K: Clock + Clone, R: Wait> Drop for ProxyTeller<'a, P, K, R> {
     fn drop(self) {
         let Self {
             rt: _,
@@ -162,14 +161,14 @@ fn told<'a>(
     Ok(text)
 }
 
-impl<'a, C: Carrier, K: Clock + Clone + Drop, R: Wait> Tells for ProxyTeller<'a, C, K, R> {
+impl<'a, P: Counts, K: Clock + Clone, R: Wait> Tells for ProxyTeller<'a, P, K, R> {
     ghost use Rattle.mr_counting.specs.Telling.{TellsProxy};
 
     ghost told = { λ t text. TellsProxy (record {
-      version = t.identity.version.now;
-      config = t.identity.config.now;
-      schedule = t.identity.schedule;
-      room = t.identity.room;
+      version = t.identity.now.version.now;
+      config = t.identity.now.config.now;
+      schedule = t.identity.now.schedule;
+      room = t.identity.now.room;
     }) text };
 
     fn tell(&self, alloc: Global) -> Result<Vec<u8>, AllocError> {
@@ -183,7 +182,7 @@ impl<'a, C: Carrier, K: Clock + Clone + Drop, R: Wait> Tells for ProxyTeller<'a,
         };
         told(
             alloc,
-            &self.identity,
+            self.identity,
             service,
             &counts,
             legs.as_slice(),

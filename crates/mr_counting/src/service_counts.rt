@@ -35,7 +35,7 @@ fn reading_of<K: Clock + Clone>(clock: &K, watch: &ClockWatch) -> Option<u64> {
 
 impl ServiceCounts {
     /// Nothing yet of a service that begins now, by this clock.
-    pub fn new<K: Clock + Clone + Drop>(clock: &K) -> ServiceCounts {
+    pub fn new<K: Clock + Clone>(clock: &K) -> ServiceCounts {
         let watch = ClockWatch::new();
         let began = reading_of(clock, &watch);
         ServiceCounts {
@@ -46,7 +46,7 @@ impl ServiceCounts {
     }
 
     /// What is known now, by this clock.
-    pub(crate) fn snapshot<'a, K: Clock + Clone + Drop>(
+    pub(crate) fn snapshot<'a, K: Clock + Clone>(
         &self,
         clock: &K,
         version: &'a str,

@@ -53,25 +53,25 @@ impl ClockWatch {
 }
 
 /// A clock whose readings are watched. It gives those of the one within.
-pub struct WatchedClock<'a, K: Clock> {
+pub struct WatchedClock<'a, K: Clock + Clone> {
     clock: K,
     watch: &'a ClockWatch,
 }
 
-impl<'a, K: Clock + Drop> Drop for WatchedClock<'a, K> {
+impl<'a, K: Clock + Clone> Drop for WatchedClock<'a, K> {
     fn drop(self) {
         let Self { clock: _, watch: _ } = self;
     }
 }
 
 /// To contracts it is the clock within.
-impl<'a, K: Clock> Model for WatchedClock<'a, K> {
+impl<'a, K: Clock + Clone> Model for WatchedClock<'a, K> {
     ghost Value = { K };
 
     ghost view = { λ c. c.clock };
 }
 
-impl<'a, K: Clock> WatchedClock<'a, K> {
+impl<'a, K: Clock + Clone> WatchedClock<'a, K> {
     ghost use Rattle.std.specs.Prelude.{◌≡◌};
 
     /// This clock, watched there.
@@ -82,7 +82,7 @@ impl<'a, K: Clock> WatchedClock<'a, K> {
     }
 }
 
-impl<'a, K: Clock> Clock for WatchedClock<'a, K> {
+impl<'a, K: Clock + Clone> Clock for WatchedClock<'a, K> {
     ghost failures = { K.failures };
 
     ghost reads = { K.reads };

@@ -44,7 +44,7 @@ request_samples name (row ∷ rows) = request_sample name row ++ request_samples
 -- how many requests were issued, by command and phase
 abbrev pub requests_family : List RequestCount → List ℕ
 requests_family rows =
-    family_head (codes "migctl_proxy_requests_total") (codes "Requests that were issued, by command and by the phase in force.") Counter
+    family_head (codes "migctl_proxy_requests_total") (codes "Requests that came to an answer, by command and by the phase of their reading.") Counter
     ++ request_samples (codes "migctl_proxy_requests_total") rows
 
 abbrev pub answer_samples : List ℕ → List AnswerCount → List ℕ

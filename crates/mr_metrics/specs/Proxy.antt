@@ -31,7 +31,7 @@ room_family room =
 -- at which reading it issued the last request
 abbrev pub last_issue_family : Option ℕ → List ℕ
 last_issue_family last_issue =
-    perhaps_number (codes "migctl_proxy_last_issue_seconds") (codes "The reading at which the last request was issued, in seconds since the epoch.") last_issue
+    perhaps_number (codes "migctl_proxy_last_issue_seconds") (codes "The latest reading by which an answered request was judged, in seconds since the epoch.") last_issue
 
 -- which migration is in force
 abbrev pub hop_family : ℕ → List ℕ
@@ -45,7 +45,7 @@ next_phase_family next_phase =
 
 -- how long legs took that came back
 abbrev pub leg_times_family : Times → List ℕ
-leg_times_family times = histogram (codes "migctl_proxy_leg_seconds") (codes "How long legs took that came back, in seconds.") times
+leg_times_family times = histogram (codes "migctl_proxy_leg_seconds") (codes "How long legs took, carried and lost ones, in seconds.") times
 
 -- 1 where this phase is the one in force
 abbrev pub state_of : PhaseName → PhaseName → ℕ

@@ -164,7 +164,7 @@ pub(crate) fn push_requests(text: &mut Vec<u8>, rows: &[RequestCount]) -> Result
     push_family_of_requests(
         text,
         "migctl_proxy_requests_total",
-        "Requests that were issued, by command and by the phase in force.",
+        "Requests that came to an answer, by command and by the phase of their reading.",
         rows,
     )
 }

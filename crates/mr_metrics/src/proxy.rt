@@ -31,7 +31,7 @@ pub struct ProxySnapshot<'a> {
     pub under_way: u64,
     /// How many may be at once.
     pub room: u64,
-    /// The reading at which the last request was issued, in seconds since the epoch.
+    /// The latest reading by which an answered request was judged, in seconds since the epoch.
     pub last_issue: Option<u64>,
     /// The migration in force by its clock, counted from 0.
     pub hop: u64,
@@ -87,7 +87,7 @@ fn push_last_issue(text: &mut Vec<u8>, last_issue: Option<u64>) -> Result<(), Al
     push_perhaps(
         text,
         "migctl_proxy_last_issue_seconds",
-        "The reading at which the last request was issued, in seconds since the epoch.",
+        "The latest reading by which an answered request was judged, in seconds since the epoch.",
         last_issue,
     )
 }
@@ -124,7 +124,7 @@ fn push_leg_times(text: &mut Vec<u8>, times: &Times<'_>) -> Result<(), AllocErro
     push_times(
         text,
         "migctl_proxy_leg_seconds",
-        "How long legs took that came back, in seconds.",
+        "How long legs took, carried and lost ones, in seconds.",
         times,
     )
 }

@@ -8,23 +8,37 @@ use Rattle.mr_sockets.specs.Address.{IsAddress}
 use Rattle.mr_sockets.specs.SeededNode.{SeededView}
 use Rattle.mr_sockets.specs.declared.bounds.ServiceBounds.{ServiceBounds}
 use Rattle.mr_sockets.specs.declared.fault.OpenFault.{OpenFault}
+use Rattle.mr_sockets.specs.declared.fault.OpenFault.TheVariants.{Net, Metrics}
 use Rattle.mr_sockets.specs.declared.fault.SeedFault.{SeedFault}
 
--- a service that is asked for, with the address that it listens at, the number of its clients, and the reads of each
+-- where a service listens for clients, and where its metrics are told, if they are
+pub record Places : Type 0 where
+  pub listen : List ℕ
+  pub metrics : Option (List ℕ)
+
+-- for clients alone
+abbrev pub clients_at : List ℕ → Places
+clients_at listen = record { listen = listen; metrics = None }
+
+-- for clients, and for those that scrape its metrics
+abbrev pub told_at : List ℕ → List ℕ → Places
+told_at listen metrics = record { listen = listen; metrics = Some metrics }
+
+-- a service that is asked for, with the addresses that it listens at, the number of its clients, and the reads of each
 pub data Asked : Type 0 where
   -- a node
-  NodeAt : (listen : List ℕ) (node : SeededView) (bounds : ServiceBounds) → Asked
+  NodeAt : (places : Places) (node : SeededView) (bounds : ServiceBounds) → Asked
   -- a proxy, and the routing that its carriers are made of
-  ProxyAt : (listen : List ℕ) (proxy : ProxyView) (routing : RoutingView) (bounds : ServiceBounds) → Asked
+  ProxyAt : (places : Places) (proxy : ProxyView) (routing : RoutingView) (bounds : ServiceBounds) → Asked
 
--- the address that it listens at, and the number of its clients
-abbrev pub listen_of : Asked → List ℕ
-listen_of (NodeAt listen node bounds) = listen
-listen_of (ProxyAt listen proxy routing bounds) = listen
+-- the addresses that it listens at, and the number of its clients
+abbrev pub places_of : Asked → Places
+places_of (NodeAt places node bounds) = places
+places_of (ProxyAt places proxy routing bounds) = places
 
 abbrev pub clients_of : Asked → ℕ
-clients_of (NodeAt listen node bounds) = bounds.clients
-clients_of (ProxyAt listen proxy routing bounds) = bounds.clients
+clients_of (NodeAt places node bounds) = bounds.clients
+clients_of (ProxyAt places proxy routing bounds) = bounds.clients
 
 -- what each connection is served by
 pub data Serving : Type 0 where
@@ -44,8 +58,8 @@ run serving clients = record { serving = serving; clients = clients }
 
 -- the service that runs where this one is asked for
 abbrev pub run_of : Asked → Run
-run_of (NodeAt listen node bounds) = run (NodeServing (Some node) bounds.turns) bounds.clients
-run_of (ProxyAt listen proxy routing bounds) = run (ProxyServing (Some proxy) routing bounds.turns) bounds.clients
+run_of (NodeAt places node bounds) = run (NodeServing (Some node) bounds.turns) bounds.clients
+run_of (ProxyAt places proxy routing bounds) = run (ProxyServing (Some proxy) routing bounds.turns) bounds.clients
 
 pub record ServersView : Type 0 where
   -- the addresses that a socket was asked to listen at, in order
@@ -88,20 +102,39 @@ abbrev pub Opens : {L : Type 0} → List ℕ → List SocketAddrV4 → Option L 
 Opens text old (Some listener) new = Listens text old new
 Opens text old None new = Listens text old new ⊎ ListensNowhere text old new
 
--- a service ran at a socket of its own, and so many of its clients ended without a fault
+-- a socket was asked for at the address of clients, and then one at that of metrics, if there is one
+abbrev pub ListensAtBoth : List ℕ → Option (List ℕ) → List SocketAddrV4 → List SocketAddrV4 → Type 0
+ListensAtBoth listen None old new = Listens listen old new
+ListensAtBoth listen (Some metrics) old new = (between : List SocketAddrV4) × Listens listen old between × Listens metrics between new
+
+-- a service ran at sockets of its own, and so many of its clients ended without a fault
 pub record Ran (asked : Asked) (old : ServersView) (served : ℕ) (new : ServersView) : Type 0 where
-  pub listens : Listens (listen_of asked) old.listened new.listened
+  pub listens : ListensAtBoth (places_of asked).listen (places_of asked).metrics old.listened new.listened
   pub ran : new.runs ≡ old.runs ++ run_of asked ∷ []
   pub among : served ≤ clients_of asked
 
--- a service had no socket, and didn't run
-pub record RanNot (asked : Asked) (old new : ServersView) : Type 0 where
-  pub listens : Listens (listen_of asked) old.listened new.listened ⊎ ListensNowhere (listen_of asked) old.listened new.listened
+-- no socket listens at the address that a text is, which was asked for once, or not at all since it is none
+abbrev pub LacksSocket : List ℕ → List SocketAddrV4 → List SocketAddrV4 → Type 0
+LacksSocket text old new = Listens text old new ⊎ ListensNowhere text old new
+
+-- no socket for metrics was had, once there was one for clients
+abbrev pub LacksMetrics : List ℕ → Option (List ℕ) → List SocketAddrV4 → List SocketAddrV4 → Type 0
+LacksMetrics listen None old new = ⊥
+LacksMetrics listen (Some metrics) old new = (between : List SocketAddrV4) × Listens listen old between × LacksSocket metrics between new
+
+-- which socket of a service was not had
+abbrev pub LacksPlace : Places → OpenFault → List SocketAddrV4 → List SocketAddrV4 → Type 0
+LacksPlace places Net old new = LacksSocket places.listen old new
+LacksPlace places Metrics old new = LacksMetrics places.listen places.metrics old new
+
+-- a service lacked a socket, and didn't run
+pub record RanNot (asked : Asked) (old : ServersView) (fault : OpenFault) (new : ServersView) : Type 0 where
+  pub lacks : LacksPlace (places_of asked) fault old.listened new.listened
   pub none_ran : new.runs ≡ old.runs
 
 abbrev pub RunsSo : Asked → ServersView → Result ℕ OpenFault → ServersView → Type 0
 RunsSo asked old (Ok served) new = Ran asked old served new
-RunsSo asked old (Err fault) new = RanNot asked old new
+RunsSo asked old (Err fault) new = RanNot asked old fault new
 
 -- one service was asked for, once, and this came of it
 pub record IsOneService (asked : Asked) (old : ServersView) (result : Result ℕ OpenFault) (new : ServersView) : Type 0 where

@@ -125,6 +125,20 @@ fn serve_counted<
 
 /// Accepts so many connections, serves each in a thread of its own, and gives the listener back, with how many connections
 /// ended without a fault, once all have ended. Nothing is kept of a connection that has ended.
+pub(crate) fn accept_clients<
+    L: Listener + Drop,
+    S: Service + Sync,
+    R: Threads + Wait + Clock + Sync,
+>(rt: &R, listener: L, service: &S, clients: u64) -> (L, u64)
+    ensures { AreAccepted clients (L.told listener) result.1 (L.told result.0) }
+{
+    if clients == 0 {
+        return (listener, 0);
+    }
+    serve_counted::<Brand, L, S, R>(rt, listener, service, clients, Blank::new(clients))
+}
+
+/// Notes a service, and accepts its clients, as `accept_clients` does.
 pub(crate) fn serve_connections<
     L: Listener + Drop,
     S: Service + Sync,
@@ -134,8 +148,5 @@ pub(crate) fn serve_connections<
     ensures ran { runs.new ≡ runs.old ++ run (S.serves service.now) clients ∷ [] }
 {
     service.note(clients, runs);
-    if clients == 0 {
-        return (listener, 0);
-    }
-    serve_counted::<Brand, L, S, R>(rt, listener, service, clients, Blank::new(clients))
+    accept_clients(rt, listener, service, clients)
 }

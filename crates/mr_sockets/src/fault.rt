@@ -8,6 +8,9 @@ pub enum OpenFault {
     /// The address is none, or no socket can listen there.
     #[error("no socket can be opened")]
     Net,
+    /// The address of its metrics is none, or no socket can listen there.
+    #[error("no socket can be opened for metrics")]
+    Metrics,
 }
 
 /// The machine gave no seed.

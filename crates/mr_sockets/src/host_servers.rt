@@ -1,7 +1,7 @@
 //! The services of this machine.
 ghost use Rattle.std.specs.Prelude.{◌≡◌};
 ghost use Rattle.mr_proxy.specs.ProxyView.{IsFresh};
-ghost use Rattle.mr_sockets.specs.Servers.{DrawsSeed, IsOneService, NodeAt, ProxyAt};
+ghost use Rattle.mr_sockets.specs.Servers.{DrawsSeed, IsOneService, NodeAt, ProxyAt, clients_at, told_at};
 
 use crate::bounds::ServiceBounds;
 use crate::fault::{OpenFault, SeedFault};
@@ -11,6 +11,9 @@ use crate::proxy_service::run_proxy;
 use crate::runs::GhostRuns;
 use crate::seeded_node::SeededNode;
 use crate::seeds::GhostSeeds;
+use crate::told_node::run_told_node;
+use crate::told_proxy::run_told_proxy;
+use mr_counting::{LegTotals, NodeIdentity};
 use mr_pools::Routing;
 use mr_proxy::ProxyCore;
 use mr_text::GhostCount;
@@ -22,6 +25,15 @@ use std::random::RandomSource;
 use std::sync::Wait;
 use std::thread::Threads;
 use std::time;
+
+/// Where the metrics of a service are told, and of which version of the program.
+#[derive(Clone, Copy, Debug)]
+pub struct Scraped<'a> {
+    /// Where those that scrape them connect: a host and a port, with a colon between them.
+    pub address: &'a str,
+    /// The version of the program.
+    pub version: &'a str,
+}
 
 /// The sockets, the threads, the time and the random source of this machine, with what was asked of them and what ran as
 /// contracts see it.
@@ -126,7 +138,7 @@ impl<
         node: SeededNode,
         bounds: ServiceBounds,
     ) -> Result<u64, OpenFault>
-        ensures { IsOneService (NodeAt listen.now node bounds) self.old result self.new }
+        ensures { IsOneService (NodeAt (clients_at listen.now) node bounds) self.old result self.new }
     {
         let wait = bounds.patience.for_client();
         let Some(listener) = open(&mut self.listens, listen, wait) else {
@@ -149,7 +161,7 @@ impl<
         bounds: ServiceBounds,
     ) -> Result<u64, OpenFault>
         requires { IsFresh core }
-        ensures { IsOneService (ProxyAt listen.now core routing.now bounds) self.old result self.new }
+        ensures { IsOneService (ProxyAt (clients_at listen.now) core routing.now bounds) self.old result self.new }
     {
         let wait = bounds.patience.for_client();
         let Some(listener) = open(&mut self.listens, listen, wait) else {
@@ -162,6 +174,86 @@ impl<
             listener,
             core,
             routing,
+            bounds,
+            &mut self.runs,
+        );
+        Ok(served)
+    }
+
+    /// Serves a node as `serve_node` does, and tells its metrics to those that scrape them. Metrics where their address is none or
+    /// no socket listens there.
+    pub fn tell_node(
+        &mut self,
+        alloc: Global,
+        listen: &str,
+        scraped: Scraped<'_>,
+        node: SeededNode,
+        bounds: ServiceBounds,
+    ) -> Result<u64, OpenFault>
+        ensures { IsOneService (NodeAt (told_at listen.now scraped.entry.address.now) node bounds) self.old result self.new }
+    {
+        let wait = bounds.patience.for_client();
+        let Some(listener) = open(&mut self.listens, listen, wait) else {
+            self.failures.add_one();
+            return Err(OpenFault::Net);
+        };
+        let Some(scrapers) = open(&mut self.listens, scraped.address, None) else {
+            self.failures.add_one();
+            return Err(OpenFault::Metrics);
+        };
+        let identity = NodeIdentity {
+            version: scraped.version,
+            address: listen,
+        };
+        let served = run_told_node(
+            self.rt,
+            alloc,
+            listener,
+            scrapers,
+            identity,
+            node,
+            bounds,
+            &mut self.runs,
+        );
+        Ok(served)
+    }
+
+    /// Serves a proxy as `serve_proxy` does, and tells its metrics to those that scrape them, with the digest of its
+    /// configuration. Metrics where their address is none or no socket listens there. What becomes of its
+    /// legs is counted in the totals that are lent.
+    pub fn tell_proxy(
+        &mut self,
+        alloc: Global,
+        listen: &str,
+        scraped: Scraped<'_>,
+        config: &str,
+        core: ProxyCore,
+        routing: &Routing,
+        totals: &LegTotals,
+        bounds: ServiceBounds,
+    ) -> Result<u64, OpenFault>
+        requires { IsFresh core }
+        ensures { IsOneService (ProxyAt (told_at listen.now scraped.entry.address.now) core routing.now bounds) self.old result self.new }
+    {
+        let wait = bounds.patience.for_client();
+        let Some(listener) = open(&mut self.listens, listen, wait) else {
+            self.failures.add_one();
+            return Err(OpenFault::Net);
+        };
+        let Some(scrapers) = open(&mut self.listens, scraped.address, None) else {
+            self.failures.add_one();
+            return Err(OpenFault::Metrics);
+        };
+        let served = run_told_proxy(
+            self.rt,
+            alloc,
+            listener,
+            scrapers,
+            scraped.version,
+            config,
+            core,
+            routing,
+            totals,
             bounds,
             &mut self.runs,
         );

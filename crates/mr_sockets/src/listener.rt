@@ -58,6 +58,19 @@ impl OverListener {
     }
 }
 
+impl OverListener {
+    /// The socket.
+    pub(crate) fn into_socket(self) -> TcpListener {
+        let OverListener {
+            inner,
+            wait: _,
+            accepted: _,
+            failures: _,
+        } = self;
+        inner
+    }
+}
+
 impl Listener for OverListener {
     ghost told = { λ l. record { accepted = l.accepted; failures = l.failures } };
 

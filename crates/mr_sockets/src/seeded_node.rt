@@ -12,6 +12,7 @@ use std::snapshot::Snapshot;
 #[derive(Drop)]
 pub struct SeededNode {
     cache: CacheNode,
+    capacity: usize,
     seed: Snapshot<RandomState>,
 }
 
@@ -21,6 +22,10 @@ impl Model for SeededNode {
     ghost Value = { SeededView };
 
     ghost view = { λ s. record { cache = s.cache; seed = s.seed.value } };
+
+    ghost use Rattle.std.specs.Prelude.{◌≡◌};
+
+    ghost invariant = { λ s. s.capacity ≡ s.cache.capacity };
 }
 
 impl SeededNode {
@@ -31,8 +36,16 @@ impl SeededNode {
         let cache = CacheNode::seeded(alloc, capacity, seed)?;
         Ok(SeededNode {
             cache,
+            capacity,
             seed: Snapshot::of(&seed),
         })
+    }
+
+    /// How many items it holds at most.
+    pub(crate) fn capacity(&self) -> usize
+        ensures { result ≡ self.now.cache.capacity }
+    {
+        self.capacity
     }
 
     /// The cache.

@@ -9,7 +9,7 @@ use Rattle.clap.specs.Words.{Row, Text, fault_of, subcommand_of}
 use Rattle.mr_words.proofs.PlainPlan.{IsTakenNumber, number_is_taken, value_taken}
 use Rattle.mr_words.proofs.PlainWalk.{IsPlainWord, IsWalked, Leads, after_walk, all_walked, asking, flag_before, no_words, option_before, plain_word, standing, with_flag, with_given, with_named}
 use Rattle.mr_words.specs.Command.{forever_rule, node_app, program_app}
-use Rattle.mr_words.specs.Words.{Say, SaysPlainly}
+use Rattle.mr_words.specs.Words.{Say, SaysPlainly, path_in}
 use Rattle.mr_words.specs.declared.service_words.NodeValues.{NodeValues}
 use Rattle.mr_words.specs.declared.words.Wanted.TheVariants.{Node}
 
@@ -172,7 +172,7 @@ node_said said values (inl says) =
       finds = (
         rows,
         subst (λ (w : List Text). subcommand_of program_app w ≡ Some (codes "node", rows)) (sym says.words_are) (short_found listen listen_plain),
-        record { listen_is = refl; capacity_is = says.capacity_is; clients_is = says.clients_is; turns_is = says.turns_is; idle_is = says.idle_is },
+        record { listen_is = refl; capacity_is = says.capacity_is; clients_is = says.clients_is; turns_is = says.turns_is; idle_is = says.idle_is; metrics_is = sym (ap path_in says.metrics_is) },
       );
     }
 node_said said values (inr (inl says)) =
@@ -189,7 +189,7 @@ node_said said values (inr (inl says)) =
         rows,
         subst (λ (w : List Text). subcommand_of program_app w ≡ Some (codes "node", rows)) (sym says.words_are)
             (rows_found listen says.capacity says.clients says.turns listen_plain capacity_taken clients_taken turns_taken),
-        record { listen_is = refl; capacity_is = says.capacity_is; clients_is = says.clients_is; turns_is = says.turns_is; idle_is = says.idle_is },
+        record { listen_is = refl; capacity_is = says.capacity_is; clients_is = says.clients_is; turns_is = says.turns_is; idle_is = says.idle_is; metrics_is = sym (ap path_in says.metrics_is) },
       );
     }
 node_said said values (inr (inr says)) =
@@ -203,6 +203,6 @@ node_said said values (inr (inr says)) =
         rows,
         subst (λ (w : List Text). subcommand_of program_app w ≡ Some (codes "node", rows)) (sym says.words_are)
             (forever_found listen says.capacity listen_plain capacity_taken),
-        record { listen_is = refl; capacity_is = says.capacity_is; clients_is = says.clients_is; turns_is = says.turns_is; idle_is = says.idle_is },
+        record { listen_is = refl; capacity_is = says.capacity_is; clients_is = says.clients_is; turns_is = says.turns_is; idle_is = says.idle_is; metrics_is = sym (ap path_in says.metrics_is) },
       );
     }

@@ -9,7 +9,7 @@ use Rattle.clap.specs.Words.{Row, Text, fault_of, subcommand_of}
 use Rattle.mr_words.proofs.PlainPlan.{IsTakenNumber, number_is_taken, value_taken}
 use Rattle.mr_words.proofs.PlainWalk.{IsPlainWord, IsWalked, Leads, after_walk, all_walked, asking, flag_before, no_words, option_before, plain_word, standing, with_flag, with_given, with_named}
 use Rattle.mr_words.specs.Command.{forever_rule, program_app, proxy_app}
-use Rattle.mr_words.specs.Words.{Say, SaysPlainly}
+use Rattle.mr_words.specs.Words.{Say, SaysPlainly, path_in}
 use Rattle.mr_words.specs.declared.service_words.ProxyValues.{ProxyValues}
 use Rattle.mr_words.specs.declared.words.Wanted.TheVariants.{Proxy}
 
@@ -193,7 +193,7 @@ proxy_said said values (inl says) =
         rows,
         subst (λ (w : List Text). subcommand_of program_app w ≡ Some (codes "proxy", rows)) (sym says.words_are)
             (short_found config listen config_plain listen_plain),
-        record { config_is = refl; listen_is = refl; room_is = says.room_is; clients_is = says.clients_is; turns_is = says.turns_is; leg_is = says.leg_is; idle_is = says.idle_is },
+        record { config_is = refl; listen_is = refl; room_is = says.room_is; clients_is = says.clients_is; turns_is = says.turns_is; leg_is = says.leg_is; idle_is = says.idle_is; metrics_is = sym (ap path_in says.metrics_is) },
       );
     }
 proxy_said said values (inr (inl says)) =
@@ -212,7 +212,7 @@ proxy_said said values (inr (inl says)) =
         rows,
         subst (λ (w : List Text). subcommand_of program_app w ≡ Some (codes "proxy", rows)) (sym says.words_are)
             (rows_found config listen says.room says.clients says.turns config_plain listen_plain room_taken clients_taken turns_taken),
-        record { config_is = refl; listen_is = refl; room_is = says.room_is; clients_is = says.clients_is; turns_is = says.turns_is; leg_is = says.leg_is; idle_is = says.idle_is },
+        record { config_is = refl; listen_is = refl; room_is = says.room_is; clients_is = says.clients_is; turns_is = says.turns_is; leg_is = says.leg_is; idle_is = says.idle_is; metrics_is = sym (ap path_in says.metrics_is) },
       );
     }
 proxy_said said values (inr (inr says)) =
@@ -229,6 +229,6 @@ proxy_said said values (inr (inr says)) =
         rows,
         subst (λ (w : List Text). subcommand_of program_app w ≡ Some (codes "proxy", rows)) (sym says.words_are)
             (forever_found config listen says.room config_plain listen_plain room_taken),
-        record { config_is = refl; listen_is = refl; room_is = says.room_is; clients_is = says.clients_is; turns_is = says.turns_is; leg_is = says.leg_is; idle_is = says.idle_is },
+        record { config_is = refl; listen_is = refl; room_is = says.room_is; clients_is = says.clients_is; turns_is = says.turns_is; leg_is = says.leg_is; idle_is = says.idle_is; metrics_is = sym (ap path_in says.metrics_is) },
       );
     }

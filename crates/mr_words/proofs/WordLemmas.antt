@@ -214,6 +214,7 @@ one_found found (Node read) (Node values) r p =
       same_bound _ _ _ _ _ r.2.clients_is also.clients_is,
       same_bound _ _ _ _ _ r.2.turns_is also.turns_is,
       same_number_or _ _ _ _ r.2.idle_is also.idle_is,
+      sym r.2.metrics_is ∙ also.metrics_is,
     )
 one_found found (Proxy read) (Proxy values) r p =
     let also : HasProxyValues r.0 values = subst (λ (rows : List Row). HasProxyValues rows values) (same_rows found _ p.0 r.0 p.1 r.1) p.2 in (
@@ -224,6 +225,7 @@ one_found found (Proxy read) (Proxy values) r p =
       same_bound _ _ _ _ _ r.2.turns_is also.turns_is,
       same_number_or _ _ _ _ r.2.leg_is also.leg_is,
       same_number_or _ _ _ _ r.2.idle_is also.idle_is,
+      sym r.2.metrics_is ∙ also.metrics_is,
     )
 one_found found (Explain read) (Explain explanation) r p =
     let also : HasExplanation r.0 (told_by explanation) =

@@ -34,6 +34,10 @@ listen_rule = option_rule (codes "listen") None true
 abbrev pub number_rule : List ℕ → Rule
 number_rule name = option_rule name (Some numbers) false
 
+-- the option that names where metrics are told, which may be left out
+abbrev pub metrics_rule : Rule
+metrics_rule = option_rule (codes "metrics") None false
+
 -- the flag that stands in place of the numbers of clients and turns
 abbrev pub forever_rule : Rule
 forever_rule = record (new_rule (codes "forever")) { long = Some (codes "forever"); action = Some SetTrue }
@@ -74,7 +78,8 @@ node_app =
     let with_clients = with_rule with_capacity (number_rule (codes "clients")) in
     let with_turns = with_rule with_clients (number_rule (codes "turns")) in
     let with_idle = with_rule with_turns (number_rule (codes "idle-timeout")) in
-    with_rule with_idle forever_rule
+    let with_metrics = with_rule with_idle metrics_rule in
+    with_rule with_metrics forever_rule
 
 -- the command `proxy`
 abbrev pub proxy_app : App
@@ -86,7 +91,8 @@ proxy_app =
     let with_turns = with_rule with_clients (number_rule (codes "turns")) in
     let with_leg = with_rule with_turns (number_rule (codes "leg-timeout")) in
     let with_idle = with_rule with_leg (number_rule (codes "idle-timeout")) in
-    with_rule with_idle forever_rule
+    let with_metrics = with_rule with_idle metrics_rule in
+    with_rule with_metrics forever_rule
 
 -- a word of its own, by its name, which has to be there
 abbrev pub word_rule : List ℕ → Option ValueParser → Rule

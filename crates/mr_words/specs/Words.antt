@@ -66,7 +66,7 @@ pub record HasBadReadings (rows : List Row) : Type 0 where
   pub is : first_of (codes "readings") rows ≡ Some text
   pub bad : (numbers : List ℕ) → ¬ IsNumberList text numbers
 
--- the path of the file that was named, if one was
+-- the text of an option or the path of a file, if there was one
 abbrev pub path_in : Option (Bor (List ℕ)) → Option (List ℕ)
 path_in file = option_map (λ path. path.now) file
 
@@ -125,6 +125,7 @@ pub record HasNodeValues (rows : List Row) (values : NodeValues) : Type 0 where
   pub clients_is : IsBoundOr usual_clients (is_forever rows) (one_of (codes "clients") rows) values.clients
   pub turns_is : IsBoundOr usual_turns (is_forever rows) (one_of (codes "turns") rows) values.turns
   pub idle_is : IsNumberOr usual_idle_timeout (one_of (codes "idle-timeout") rows) values.idle_timeout
+  pub metrics_is : first_of (codes "metrics") rows ≡ path_in values.metrics
 
 -- the rows that a parse found hold the values of a proxy
 pub record HasProxyValues (rows : List Row) (values : ProxyValues) : Type 0 where
@@ -135,6 +136,7 @@ pub record HasProxyValues (rows : List Row) (values : ProxyValues) : Type 0 wher
   pub turns_is : IsBoundOr usual_turns (is_forever rows) (one_of (codes "turns") rows) values.turns
   pub leg_is : IsNumberOr usual_leg_timeout (one_of (codes "leg-timeout") rows) values.leg_timeout
   pub idle_is : IsNumberOr usual_idle_timeout (one_of (codes "idle-timeout") rows) values.idle_timeout
+  pub metrics_is : first_of (codes "metrics") rows ≡ path_in values.metrics
 
 -- the rows that a parse found name a refusal that is told of
 pub record HasExplanation (rows : List Row) (told : Told) : Type 0 where
@@ -234,6 +236,7 @@ pub record SaysNodeAlone (words : List Text) (values : NodeValues) : Type 0 wher
   pub clients_is : values.clients ≡ usual_clients
   pub turns_is : values.turns ≡ usual_turns
   pub idle_is : values.idle_timeout ≡ usual_idle_timeout
+  pub metrics_is : values.metrics ≡ None
 
 -- the words are `node`, where it listens and its three numbers, and where it listens doesn't look like an option
 pub record SaysNode (words : List Text) (values : NodeValues) : Type 0 where
@@ -247,6 +250,7 @@ pub record SaysNode (words : List Text) (values : NodeValues) : Type 0 where
   pub clients_is : IsNumberWord clients values.clients
   pub turns_is : IsNumberWord turns values.turns
   pub idle_is : values.idle_timeout ≡ usual_idle_timeout
+  pub metrics_is : values.metrics ≡ None
 
 -- the words are `node`, where it listens, how many items it holds, and `--forever`, and where it listens doesn't look like an
 -- option
@@ -258,6 +262,7 @@ pub record SaysNodeForever (words : List Text) (values : NodeValues) : Type 0 wh
   pub clients_is : values.clients ≡ without_end
   pub turns_is : values.turns ≡ without_end
   pub idle_is : values.idle_timeout ≡ usual_idle_timeout
+  pub metrics_is : values.metrics ≡ None
 
 -- the words are `proxy`, the file's name and where it listens, neither of which looks like an option, and the numbers are
 -- the usual ones
@@ -270,6 +275,7 @@ pub record SaysProxyAlone (words : List Text) (values : ProxyValues) : Type 0 wh
   pub turns_is : values.turns ≡ usual_turns
   pub leg_is : values.leg_timeout ≡ usual_leg_timeout
   pub idle_is : values.idle_timeout ≡ usual_idle_timeout
+  pub metrics_is : values.metrics ≡ None
 
 -- the words are `proxy`, the file's name, where it listens and its three numbers, and neither the file's name nor where it listens looks like an option
 pub record SaysProxy (words : List Text) (values : ProxyValues) : Type 0 where
@@ -285,6 +291,7 @@ pub record SaysProxy (words : List Text) (values : ProxyValues) : Type 0 where
   pub turns_is : IsNumberWord turns values.turns
   pub leg_is : values.leg_timeout ≡ usual_leg_timeout
   pub idle_is : values.idle_timeout ≡ usual_idle_timeout
+  pub metrics_is : values.metrics ≡ None
 
 -- the words are `proxy`, the file's name, where it listens, how many requests may be under way, and `--forever`, and neither
 -- the file's name nor where it listens looks like an option
@@ -299,6 +306,7 @@ pub record SaysProxyForever (words : List Text) (values : ProxyValues) : Type 0 
   pub turns_is : values.turns ≡ without_end
   pub leg_is : values.leg_timeout ≡ usual_leg_timeout
   pub idle_is : values.idle_timeout ≡ usual_idle_timeout
+  pub metrics_is : values.metrics ≡ None
 
 -- the words are `explain`, and the layer and the number of a refusal that is told of
 pub record SaysExplain (words : List Text) (told : Told) : Type 0 where
@@ -328,9 +336,11 @@ AgreesWith (Check file) (Check read) = path_in read ≡ path_in file
 AgreesWith (Upgrade file) (Upgrade read) = path_in read ≡ path_in file
 AgreesWith (Node values) (Node read) = (read.listen.now ≡ values.listen.now) × (read.capacity ≡ values.capacity)
     × (read.clients ≡ values.clients) × (read.turns ≡ values.turns) × (read.idle_timeout ≡ values.idle_timeout)
+    × (path_in read.metrics ≡ path_in values.metrics)
 AgreesWith (Proxy values) (Proxy read) = (read.config.now ≡ values.config.now) × (read.listen.now ≡ values.listen.now)
     × (read.room ≡ values.room) × (read.clients ≡ values.clients) × (read.turns ≡ values.turns)
     × (read.leg_timeout ≡ values.leg_timeout) × (read.idle_timeout ≡ values.idle_timeout)
+    × (path_in read.metrics ≡ path_in values.metrics)
 AgreesWith (Explain explanation) (Explain read) = told_by read ≡ told_by explanation
 AgreesWith _ _ = ⊥
 

@@ -15,5 +15,5 @@ mod words;
 pub use explain::{Explanation, find_explanation};
 pub use lines::{node_line, plan_line, text_line};
 pub use service_words::{NodeValues, ProxyValues};
-pub use version::version_line;
+pub use version::{version_line, version_number};
 pub use words::{PlanValues, TimelineValues, Wanted, WordsFault, read_words};

@@ -1,7 +1,7 @@
 //! The options of the commands, and the numbers that they give.
 ghost use Rattle.std.specs.Prelude.{◌≡◌, ℕ, None, Some, false, true, IfOk, IsOkAnd, IfSome, IfNone, codes};
 ghost use Rattle.clap.specs.Words.{AddsArg, found_of, one_of, rows_of, rule_of};
-ghost use Rattle.mr_words.specs.Command.{config_rule, listen_rule, number_rule, option_rule};
+ghost use Rattle.mr_words.specs.Command.{config_rule, listen_rule, metrics_rule, number_rule, option_rule};
 ghost use Rattle.mr_words.specs.Words.{IsNumberOr};
 
 use clap::{Arg, ArgAction, ArgMatches, Command, value_parser};
@@ -35,6 +35,19 @@ pub fn listen_option<'a>(alloc: Global) -> Arg<'a>
 {
     let listen = option(alloc, "listen", "host:port", "Where clients connect");
     listen.required(true)
+}
+
+/// The option that names where metrics are told.
+pub fn metrics_option<'a>(alloc: Global) -> Arg<'a>
+    ensures rule { rule_of result ≡ metrics_rule }
+    ensures local { result.global ≡ false }
+{
+    option(
+        alloc,
+        "metrics",
+        "host:port",
+        "Where metrics are told to those that scrape them; nowhere where it is left out",
+    )
 }
 
 /// An option that gives a number, and may be left out.

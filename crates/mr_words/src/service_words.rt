@@ -6,7 +6,8 @@ ghost use Rattle.mr_words.specs.Words.{HasNodeValues, HasProxyValues, IsBoundOr,
 
 use crate::help::{NODE_NOTES, PROXY_NOTES};
 use crate::options::{
-    config_option, listen_option, number_option, number_or, quantity_option, with_option,
+    config_option, listen_option, metrics_option, number_option, number_or, quantity_option,
+    with_option,
 };
 use clap::{Arg, ArgAction, ArgMatches, Command};
 use std::alloc::{AllocError, Global};
@@ -45,6 +46,8 @@ pub struct NodeValues<'a> {
     pub turns: u64,
     /// How many seconds a client may be silent, or read nothing of what it is answered; 0 for as many as it likes.
     pub idle_timeout: u64,
+    /// Where metrics are told, if they are: a host and a port, with a colon between them.
+    pub metrics: Option<&'a str>,
 }
 
 /// The values of the command `proxy`.
@@ -65,6 +68,8 @@ pub struct ProxyValues<'a> {
     pub leg_timeout: u64,
     /// How many seconds a client may be silent, or read nothing of what it is answered; 0 for as many as it likes.
     pub idle_timeout: u64,
+    /// Where metrics are told, if they are: a host and a port, with a colon between them.
+    pub metrics: Option<&'a str>,
 }
 
 /// The option that says how many clients are served.
@@ -145,6 +150,7 @@ pub fn node_command<'a>(alloc: Global) -> Result<Command<'a>, AllocError>
     let node = with_option(node, clients_option(alloc));
     let node = with_option(node, turns_option(alloc));
     let node = with_option(node, idle_timeout_option(alloc));
+    let node = with_option(node, metrics_option(alloc));
     with_option(node, forever_flag(alloc))
 }
 
@@ -167,6 +173,7 @@ pub fn proxy_command<'a>(alloc: Global) -> Result<Command<'a>, AllocError>
     let proxy = with_option(proxy, turns_option(alloc));
     let proxy = with_option(proxy, leg_timeout_option(alloc));
     let proxy = with_option(proxy, idle_timeout_option(alloc));
+    let proxy = with_option(proxy, metrics_option(alloc));
     with_option(proxy, forever_flag(alloc))
 }
 
@@ -208,6 +215,7 @@ pub fn node_values<'a>(matches: &ArgMatches<'a>) -> Option<NodeValues<'a>>
         clients: bound_or(matches, "clients", USUAL_CLIENTS)?,
         turns: bound_or(matches, "turns", USUAL_TURNS)?,
         idle_timeout: number_or(matches, "idle-timeout", USUAL_IDLE_TIMEOUT)?,
+        metrics: matches.get_str("metrics"),
     })
 }
 
@@ -225,5 +233,6 @@ pub fn proxy_values<'a>(matches: &ArgMatches<'a>) -> Option<ProxyValues<'a>>
         turns: bound_or(matches, "turns", USUAL_TURNS)?,
         leg_timeout: number_or(matches, "leg-timeout", USUAL_LEG_TIMEOUT)?,
         idle_timeout: number_or(matches, "idle-timeout", USUAL_IDLE_TIMEOUT)?,
+        metrics: matches.get_str("metrics"),
     })
 }

@@ -1,6 +1,6 @@
 //! The version of the program.
 ghost use Rattle.std.specs.Prelude.{◌≡◌};
-ghost use Rattle.mr_words.specs.Version.{told_version};
+ghost use Rattle.mr_words.specs.Version.{told_number, told_version};
 
 /// A version, as it is told.
 #[derive(Clone, Copy, Debug)]
@@ -22,11 +22,18 @@ macro_rules! version {
 }
 
 /// The version of the program: the newest of the changelog. `told_version` in `specs` has the same number.
-pub const VERSION: Version = version!("0.8.0");
+pub const VERSION: Version = version!("0.9.0");
 
 /// The line that tells the version of the program.
 pub fn version_line() -> &'static str
     ensures { result.now ≡ told_version }
 {
     VERSION.line
+}
+
+/// The version of the program, as its number.
+pub fn version_number() -> &'static str
+    ensures { result.now ≡ told_number }
+{
+    VERSION.number
 }

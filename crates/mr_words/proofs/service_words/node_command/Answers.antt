@@ -1,6 +1,6 @@
 use Rattle.std.proofs.Common.{◌≡◌, codes, Ok}
 use Rattle.clap.specs.Words.{app_of, new_app}
-use Rattle.mr_words.specs.Command.{forever_rule, listen_rule, number_rule}
+use Rattle.mr_words.specs.Command.{forever_rule, listen_rule, metrics_rule, number_rule}
 use Rattle.mr_words.proofs.CommandLemmas.{option_added}
 use Rattle.mr_words.proofs.service_words.node_command.Goals as goal
 
@@ -16,4 +16,6 @@ returns c =
     let turns = option_added _ _ _ _ (number_rule (codes "turns")) c.with_option-node-4.ensures c.turns_option.ensures.local clients c.turns_option.ensures.rule in
     let idle = option_added _ _ _ _ (number_rule (codes "idle-timeout")) c.with_option-node-5.ensures c.idle_timeout_option.ensures.local turns
     c.idle_timeout_option.ensures.rule in
-    option_added _ _ _ _ forever_rule c.with_option.ensures c.forever_flag.ensures.local idle c.forever_flag.ensures.rule
+    let metrics = option_added _ _ _ _ metrics_rule c.with_option-node-6.ensures c.metrics_option.ensures.local idle
+    c.metrics_option.ensures.rule in
+    option_added _ _ _ _ forever_rule c.with_option.ensures c.forever_flag.ensures.local metrics c.forever_flag.ensures.rule

@@ -11,6 +11,7 @@ returns-clause-found c = record {
   clients_is = c.in_ok-bound_or.ensures.found;
   turns_is = c.in_ok-bound_or-2.ensures.found;
   idle_is = c.in_ok-number_or-2.ensures.found;
+  metrics_is = sym (c.get_str-2.ensures ∙ first_value-rows (found_of c.args.matches.now) (codes "metrics"));
 }
 
 pub returns-in_err-get_str-clause-missing : goal.returns-in_err-get_str-clause-missing

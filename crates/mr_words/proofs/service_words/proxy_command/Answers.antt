@@ -1,6 +1,6 @@
 use Rattle.std.proofs.Common.{◌≡◌, codes, Ok}
 use Rattle.clap.specs.Words.{app_of, new_app}
-use Rattle.mr_words.specs.Command.{config_rule, forever_rule, listen_rule, number_rule}
+use Rattle.mr_words.specs.Command.{config_rule, forever_rule, listen_rule, metrics_rule, number_rule}
 use Rattle.mr_words.proofs.CommandLemmas.{option_added}
 use Rattle.mr_words.proofs.service_words.proxy_command.Goals as goal
 
@@ -19,4 +19,6 @@ returns c =
     c.leg_timeout_option.ensures.rule in
     let idle = option_added _ _ _ _ (number_rule (codes "idle-timeout")) c.with_option-proxy-7.ensures c.idle_timeout_option.ensures.local leg
     c.idle_timeout_option.ensures.rule in
-    option_added _ _ _ _ forever_rule c.with_option.ensures c.forever_flag.ensures.local idle c.forever_flag.ensures.rule
+    let metrics = option_added _ _ _ _ metrics_rule c.with_option-proxy-8.ensures c.metrics_option.ensures.local idle
+    c.metrics_option.ensures.rule in
+    option_added _ _ _ _ forever_rule c.with_option.ensures c.forever_flag.ensures.local metrics c.forever_flag.ensures.rule

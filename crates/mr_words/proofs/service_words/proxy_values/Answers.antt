@@ -13,6 +13,7 @@ returns-clause-found c = record {
   turns_is = c.in_ok-bound_or-2.ensures.found;
   leg_is = c.in_ok-number_or-2.ensures.found;
   idle_is = c.in_ok-number_or-3.ensures.found;
+  metrics_is = sym (c.get_str-3.ensures ∙ first_value-rows (found_of c.args.matches.now) (codes "metrics"));
 }
 
 pub returns-in_err-get_str-clause-missing : goal.returns-in_err-get_str-clause-missing

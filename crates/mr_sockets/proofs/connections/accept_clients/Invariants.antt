@@ -1,4 +1,4 @@
-use Rattle.mr_sockets.proofs.connections.serve_connections.Given as goal
+use Rattle.mr_sockets.proofs.connections.accept_clients.Given as goal
 
 abbrev pub ghosts-serve_counted-C-Clients : goal.ghosts-serve_counted-C-Clients
 ghosts-serve_counted-C-Clients g a = record { clients = a.clients }
