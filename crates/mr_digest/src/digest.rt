@@ -1,8 +1,9 @@
 //! The digest of a configuration.
-ghost use Rattle.std.specs.Prelude.{◌≡◌, ◌≤◌, string_bytes, IfOk, IfErr};
-ghost use Rattle.serde_json.specs.Data.{depth as nesting};
+ghost use Rattle.std.specs.Prelude.{◌≡◌, ◌≤◌, false, string_bytes, IfOk, IfErr};
+ghost use Rattle.serde_json.specs.Data.{Data, depth as nesting};
 ghost use Rattle.serde_json.specs.Read.{max_depth};
 ghost use Rattle.serde_json.specs.View.{view};
+ghost use Rattle.serde_json.specs.Written.{has_float, compact_text};
 ghost use Rattle.mr_digest.specs.Digest.{IsJson, IsNoJson, IsDigest, digits_of_text};
 
 use crate::error::DigestFault;
@@ -38,6 +39,8 @@ fn digits_of_text(alloc: Global, text: &str) -> Result<String, AllocError>
 /// NotJson where the bytes are no JSON text in UTF-8, OutOfMemory.
 pub fn config_digest(alloc: Global, bytes: &[u8]) -> Result<String, DigestFault>
     ensures digest { IfOk result (λ digest. IsDigest bytes.now (string_bytes digest)) }
+    ensures exact { IfOk result (λ digest. (value : Data) → IsJson bytes.now value → has_float value ≡ false
+        → string_bytes digest ≡ digits_of_text (compact_text value)) }
     ensures refused { IfErr result (λ fault. IsNoJson bytes.now fault) }
 {
     let value = value_of(alloc, bytes)?;

@@ -1,5 +1,5 @@
 -- Lemmas on what is given of an answer.
-use Rattle.std.proofs.Common.{◌≡◌, List, ℕ, Result, Ok, Err, IfErr, inr}
+use Rattle.std.proofs.Common.{List, ℕ, Result, Ok, Err, IfErr, inr}
 use Rattle.mr_text.specs.Sink.{SinkView}
 use Rattle.mr_text.specs.Source.{SourceView}
 use Rattle.mr_http.specs.Fetch.{IsAsked, IsNotFetched}

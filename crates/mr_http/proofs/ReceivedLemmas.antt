@@ -1,9 +1,8 @@
 -- Lemmas on the body of a response.
-use Rattle.std.proofs.Common.{◌≡◌, ℕ, ◌-◌, ◌<◌, ◌≤◌, List, length, take, drop, map, All, get_or, refl, sym, ap, ◌∙◌, subst, arith, length-drop, length-take, Ok}
+use Rattle.std.proofs.Common.{◌≡◌, ℕ, ◌-◌, ◌<◌, ◌≤◌, List, length, take, drop, map, All, sym, ap, ◌∙◌, subst, arith, length-drop, length-take, Ok}
 use Rattle.std.proofs.lemmas.List.{length-map, get_or-map}
 use Rattle.std.proofs.lemmas.List.Elements.{All-map}
 use Rattle.std.specs.Prelude.{Result}
-use Rattle.httparse.specs.Grammar.{ResponseHead, ReadsResponse}
 use Rattle.httparse.specs.Spans.{IsResponseAt, IsResponseOf, FindsResponse, header_bytes, name_and_value}
 use Rattle.httparse.specs.Outcome.{IsCompleteAnd}
 use Rattle.httparse.specs.declared.Error.{Error}

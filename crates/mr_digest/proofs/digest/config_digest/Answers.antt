@@ -1,5 +1,6 @@
 use Rattle.std.proofs.Common.{string_bytes}
 use Rattle.serde_json.specs.View.{view}
+use Rattle.mr_digest.proofs.DigestLemmas.{digest_of_value}
 use Rattle.mr_digest.proofs.digest.config_digest.Goals as goal
 
 pub returns-clause-digest : goal.returns-clause-digest
@@ -13,3 +14,6 @@ returns-clause-digest c = record {
   };
   digits = rw c.as_str.ensures.value at c.in_ok-digits_of_text.ensures;
 }
+
+pub returns-clause-exact : goal.returns-clause-exact
+returns-clause-exact c = digest_of_value _ _ (returns-clause-digest c)

@@ -5,7 +5,7 @@ use Rattle.mr_http.proofs.received.body_start.Goals as goal
 pub returns-then-all_agree-clause-body : goal.returns-then-all_agree-clause-body
 returns-then-all_agree-clause-body c =
     let complete = rw c.in-Ok-Complete.field-0-is at c.in-Ok-Complete.ensures.complete in
-    body_of_head c.args.response.now c.parse_response.new.headers c.in-Ok-Complete.head _ complete (search rules) c.if-head-ne200.false refl
+    body_of_head c.args.response.now c.parse_response.new.headers c.in-Ok-Complete.head _ complete (search rules) (search rules) refl
     (c.if-all_agree.ensures.0 refl)
 
 pub returns-else-all_agree-clause-none : goal.returns-else-all_agree-clause-none
