@@ -1,0 +1,2 @@
+pub mod PremiseLemmas
+pub mod SpreadLemmas

@@ -1,0 +1,5 @@
+pub mod Finding
+pub mod Judging
+pub mod Premises
+pub mod Spread
+pub mod Walk

@@ -1,0 +1,17 @@
+//! What a watcher sees of a fleet while it migrates: what services tell of themselves, the premises that it judges by that, and
+//! how it is shown. Nothing here reads or writes: values come in, values go out.
+#![tactic(auto)]
+
+mod finding;
+mod judging;
+mod look;
+mod premises;
+mod spread;
+mod told;
+
+pub use finding::{Finding, Findings};
+pub use judging::{all_in_last_phase, findings_after};
+pub use look::{Look, NodeSeen, ProxySeen};
+pub use premises::{empty_after, forward_after, same_after};
+pub use spread::{Spread, near_after, spread_of};
+pub use told::{NodeTold, Place, ProxyTold, Told, Traffic};
