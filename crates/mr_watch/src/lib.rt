@@ -4,14 +4,19 @@
 
 mod finding;
 mod judging;
+mod lines;
 mod look;
 mod premises;
+mod reading;
 mod spread;
+mod stats;
 mod told;
 
 pub use finding::{Finding, Findings};
 pub use judging::{all_in_last_phase, findings_after};
 pub use look::{Look, NodeSeen, ProxySeen};
 pub use premises::{empty_after, forward_after, same_after};
+pub use reading::read_told;
 pub use spread::{Spread, near_after, spread_of};
+pub use stats::{StatsTold, read_stats};
 pub use told::{NodeTold, Place, ProxyTold, Told, Traffic};
