@@ -1,3 +1,4 @@
+pub mod LawLemmas
 pub mod LineLemmas
 pub mod PremiseLemmas
 pub mod SpreadLemmas

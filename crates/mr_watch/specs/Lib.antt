@@ -1,7 +1,9 @@
 pub mod Finding
 pub mod Judging
+pub mod Laws
 pub mod Lines
 pub mod Premises
+pub mod Shown
 pub mod Spread
 pub mod Stats
 pub mod Told

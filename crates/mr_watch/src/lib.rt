@@ -4,10 +4,12 @@
 
 mod finding;
 mod judging;
+pub mod laws;
 mod lines;
 mod look;
 mod premises;
 mod reading;
+mod shown;
 mod spread;
 mod stats;
 mod told;
