@@ -3,6 +3,8 @@ pub mod Judging
 pub mod Laws
 pub mod Lines
 pub mod Premises
+pub mod Proxies
+pub mod Rate
 pub mod Shown
 pub mod Spread
 pub mod Stats

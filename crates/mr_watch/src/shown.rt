@@ -1,5 +1,5 @@
 //! What lines for people are made of.
-ghost use Rattle.std.specs.Prelude.{◌≡◌, ◌++◌, ◌+◌, ◌≤◌, length, OnOk};
+ghost use Rattle.std.specs.Prelude.{◌≡◌, ◌++◌, ◌+◌, ◌-◌, ◌≤◌, length, OnOk};
 ghost use Rattle.mr_watch.specs.Shown.{shown_byte, printable, padding, cut, left, scaled, unit_of, short, signed_cell, cell, perhaps_cell, colour_text, coloured};
 
 use itoa::Buffer;
