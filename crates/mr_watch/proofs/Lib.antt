@@ -1,4 +1,6 @@
 pub mod LawLemmas
 pub mod LineLemmas
+pub mod NodeLemmas
 pub mod PremiseLemmas
 pub mod SpreadLemmas
+pub mod UpcomingLemmas

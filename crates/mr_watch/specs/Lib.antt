@@ -2,11 +2,15 @@ pub mod Finding
 pub mod Judging
 pub mod Laws
 pub mod Lines
+pub mod Next
+pub mod Nodes
+pub mod PremiseLines
 pub mod Premises
 pub mod Proxies
 pub mod Rate
 pub mod Shown
 pub mod Spread
 pub mod Stats
+pub mod Text
 pub mod Told
 pub mod Walk

@@ -10,8 +10,8 @@ use Rattle.mr_watch.specs.declared.told.ProxyTold.{ProxyTold}
 use Rattle.mr_watch.specs.declared.told.Traffic.{Traffic}
 
 -- what stands above
-abbrev pub proxies_head : List ℕ
-proxies_head = codes "proxy                    phase            clock   req/s    hits    lost    busy\n"
+unfoldable pub proxies_head : List ℕ
+proxies_head = codes "proxy                    phase           clock   req/s    hits    lost    busy\n"
 
 -- a phase in a column of thirteen
 abbrev pub phase_cell : Bool → PhaseName → List ℕ

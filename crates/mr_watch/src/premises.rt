@@ -130,7 +130,7 @@ fn any_may_have_begun(proxies: &[ProxySeen<'_>], start: u64) -> bool
 }
 
 /// Whether a proxy answered, and each that did is before this second.
-fn are_before(proxies: &[ProxySeen<'_>], start: u64) -> bool
+pub(crate) fn are_before(proxies: &[ProxySeen<'_>], start: u64) -> bool
     ensures { result ≡ are_before start proxies.now }
 {
     has_told(proxies) && !any_may_have_begun(proxies, start)

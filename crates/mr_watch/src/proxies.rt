@@ -118,6 +118,17 @@ fn push_each_proxy(
     Ok(())
 }
 
+/// Adds what stands above the lines of proxies.
+#[tactic(auto, unfolding(crate::specs::Proxies::proxies_head))]
+fn push_head(text: &mut Vec<u8>) -> Result<(), AllocError>
+    ensures { OnOk result (text.new.items ≡ text.old.items ++ proxies_head) }
+{
+    text.extend_from_slice(
+        b"proxy                    phase           clock   req/s    hits    lost    busy\n",
+    )?;
+    Ok(())
+}
+
 /// Adds the lines of proxies, where the look before saw those, and the watcher's clock says this.
 pub(crate) fn push_proxies(
     text: &mut Vec<u8>,
@@ -128,9 +139,7 @@ pub(crate) fn push_proxies(
 ) -> Result<(), AllocError>
     ensures { OnOk result (text.new.items ≡ text.old.items ++ proxies_text colours at earlier.now proxies.now) }
 {
-    text.extend_from_slice(
-        b"proxy                    phase            clock   req/s    hits    lost    busy\n",
-    )?;
+    push_head(text)?;
     push_each_proxy(text, colours, at, earlier, proxies)?;
     Ok(())
 }
