@@ -2,6 +2,7 @@
 //! how it is shown. Nothing here reads or writes: values come in, values go out.
 #![tactic(auto)]
 
+mod changes;
 mod finding;
 mod judging;
 pub mod laws;
@@ -21,6 +22,7 @@ mod text;
 mod told;
 mod view;
 
+pub use changes::change_lines;
 pub use finding::{Finding, Findings};
 pub use judging::{all_in_last_phase, findings_after};
 pub use look::{Look, NodeSeen, ProxySeen};

@@ -232,7 +232,7 @@ fn push_named_line(
 }
 
 /// Adds the line of the premise that all proxies have one configuration.
-fn push_same(
+pub(crate) fn push_same(
     alloc: Global,
     text: &mut Vec<u8>,
     colours: bool,
@@ -269,7 +269,11 @@ fn push_pool_line(
 }
 
 /// Adds the line of the premise that each new pool is empty when its migration begins.
-fn push_empty(text: &mut Vec<u8>, colours: bool, view: &View<'_>) -> Result<(), AllocError>
+pub(crate) fn push_empty(
+    text: &mut Vec<u8>,
+    colours: bool,
+    view: &View<'_>,
+) -> Result<(), AllocError>
     ensures { OnOk result (text.new.items ≡ text.old.items ++ empty_line colours view.now) }
 {
     let pool = upcoming_pool(&view.schedule, view.look.proxies);
@@ -301,7 +305,11 @@ fn push_spread_line(
 }
 
 /// Adds the line of the premise that no two clocks differ by more than the least interval.
-fn push_near(text: &mut Vec<u8>, colours: bool, view: &View<'_>) -> Result<(), AllocError>
+pub(crate) fn push_near(
+    text: &mut Vec<u8>,
+    colours: bool,
+    view: &View<'_>,
+) -> Result<(), AllocError>
     ensures { OnOk result (text.new.items ≡ text.old.items ++ near_line colours view.now) }
 {
     let spread = spread_of(view.look.proxies);
@@ -316,7 +324,7 @@ fn push_near(text: &mut Vec<u8>, colours: bool, view: &View<'_>) -> Result<(), A
 }
 
 /// Adds the line of the premise that no clock goes back.
-fn push_forward(
+pub(crate) fn push_forward(
     alloc: Global,
     text: &mut Vec<u8>,
     colours: bool,
