@@ -4,6 +4,7 @@
 
 mod changes;
 mod finding;
+mod json;
 mod judging;
 pub mod laws;
 mod lines;
@@ -24,6 +25,7 @@ mod view;
 
 pub use changes::change_lines;
 pub use finding::{Finding, Findings};
+pub use json::look_json;
 pub use judging::{all_in_last_phase, findings_after};
 pub use look::{Look, NodeSeen, ProxySeen};
 pub use next::{Next, next_of};
