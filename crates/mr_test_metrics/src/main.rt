@@ -1,19 +1,23 @@
 //! Tells what nodes and proxies tell of themselves, and what scrapers are answered, a row on the standard input for each: `node`
-//! or `proxy` with what is known of it, or `scrape` with the bytes of a request. For each row a line is printed: the text, in
-//! hexadecimal digits.
+//! or `proxy` with what is known of it, `scrape` with the bytes of a request, `told` or `stats` with what a service tells, or `look` with
+//! what a watcher saw. For each row a line is printed: the text that it comes to, in hexadecimal digits.
 #![tactic(auto)]
 
 mod digits;
+mod looks;
 mod nodes;
 mod proxies;
 mod scrapes;
+mod told;
 mod words;
 
+use looks::told_of_look;
 use nodes::told_of_node;
 use proxies::told_of_proxy;
 use scrapes::told_of_scrape;
 use std::alloc::Global;
 use std::test::Fail;
+use told::{told_of_stats, told_of_text};
 use words::Words;
 
 /// The text that a row is answered by.
@@ -22,6 +26,9 @@ fn told_of(alloc: Global, row: &str) -> Result<Vec<u8>, Fail> {
     match words.word()? {
         "node" => told_of_node(alloc, &mut words),
         "proxy" => told_of_proxy(alloc, &mut words),
+        "told" => told_of_text(alloc, &mut words),
+        "stats" => told_of_stats(alloc, &mut words),
+        "look" => told_of_look(alloc, &mut words),
         _ => told_of_scrape(alloc, &mut words),
     }
 }

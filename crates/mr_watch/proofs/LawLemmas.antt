@@ -1,5 +1,5 @@
 -- The laws of findings and of spreads.
-use Rattle.std.proofs.Common.{◌≡◌, ℕ, ◌+◌, ◌-◌, ◌≤◌, max, Bool, List, [], ◌∷◌, ◌++◌, Option, Some, None, refl, ap, sym, ◌∙◌, arith}
+use Rattle.std.proofs.Common.{◌≡◌, ℕ, ◌-◌, ◌≤◌, max, Bool, List, [], ◌∷◌, ◌++◌, Option, Some, None, refl, arith}
 use Rattle.mr_phases.specs.Schedule.{Hop}
 use Rattle.mr_watch.specs.Finding.{finding_after}
 use Rattle.mr_watch.specs.Judging.{findings_after}

@@ -1,8 +1,8 @@
 -- How the lines of a text come one by one.
-use Rattle.std.proofs.Common.{◌≡◌, ℕ, suc, ◌+◌, ◌<◌, ◌==◌, Bool, true, false, List, [], ◌∷◌, Option, Some, None, length, take, drop, refl, arith, option_map, if◌then◌else◌, add-one, ◌-◌, ◌≤◌, length-drop}
+use Rattle.std.proofs.Common.{◌≡◌, ℕ, suc, ◌+◌, ◌==◌, Bool, true, false, List, [], ◌∷◌, Option, Some, None, length, take, drop, refl, arith, option_map, if◌then◌else◌, add-one, ◌-◌, ◌≤◌, length-drop}
 use Rattle.std.proofs.lemmas.List.{take_all}
 use Rattle.mr_lines.specs.Lines.{byte_place}
-use Rattle.mr_watch.specs.Lines.{lines_of, begun_with}
+use Rattle.mr_watch.specs.Lines.{lines_of}
 
 abbrev LinesAt : List ℕ → Option ℕ → Type 0
 LinesAt bytes None = lines_of bytes ≡ []

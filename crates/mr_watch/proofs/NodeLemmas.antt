@@ -1,5 +1,5 @@
 -- The lines of pools, pool by pool.
-use Rattle.std.proofs.Common.{◌≡◌, ℕ, ◌+◌, List, ◌++◌, refl, sym, append_assoc, add-one}
+use Rattle.std.proofs.Common.{◌≡◌, ℕ, ◌+◌, List, ◌++◌, append_assoc, add-one}
 use Rattle.mr_watch.specs.Nodes.{pool_text, pools_text}
 use Rattle.mr_watch.specs.declared.look.NodeSeen.{NodeSeen}
 

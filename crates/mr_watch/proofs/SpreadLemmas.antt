@@ -1,5 +1,5 @@
 -- What is kept while clocks are gone through one by one says how far they are apart.
-use Rattle.std.proofs.Common.{◌≡◌, ℕ, ◌+◌, ◌-◌, ◌<◌, ◌≤◌, List, [], ◌∷◌, ◌++◌, Option, Some, None, option_map, option_to_list, max, min, refl, ap, sym, ◌∙◌, arith}
+use Rattle.std.proofs.Common.{◌≡◌, ℕ, ◌-◌, List, [], ◌∷◌, ◌++◌, Option, Some, None, option_map, option_to_list, max, min, refl, ap, sym, ◌∙◌, arith}
 use Rattle.mr_watch.specs.Spread.{ahead_of, all_ahead, apart_at_least, apart_at_most, greatest_to, greatest_of_pairs, spread_in}
 use Rattle.mr_watch.specs.Walk.{first_seen, seen_with, next_seen, walk}
 use Rattle.mr_watch.specs.declared.look.ProxySeen.{ProxySeen}

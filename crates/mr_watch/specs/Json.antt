@@ -1,6 +1,6 @@
 -- A look as JSON.
 use Rattle.std.specs.Prelude.{ℕ, ◌-◌, ◌^◌, min, true, false, List, map, Option, Some, None, codes}
-use Rattle.serde_json.specs.Data.{Data, null, boolean, number, unsigned, string, array, object, Items, Members, no_members, put}
+use Rattle.serde_json.specs.Data.{Data, null, boolean, number, unsigned, string, array, object, Members, no_members, put}
 use Rattle.serde_json.specs.View.{items_of}
 use Rattle.std.specs.Borrow.{Bor}
 use Rattle.std.specs.Prelude.{[], ◌∷◌}

@@ -1,6 +1,5 @@
 -- What the laws speak of.
-use Rattle.std.specs.Prelude.{◌≡◌, ℕ, ◌+◌, ◌-◌, ◌≤◌, max, List, [], ◌∷◌}
-use Rattle.mr_watch.specs.declared.finding.Finding.{Finding}
+use Rattle.std.specs.Prelude.{◌≡◌, ℕ, ◌-◌, ◌≤◌, max, List, [], ◌∷◌}
 use Rattle.mr_watch.specs.declared.finding.Finding.TheVariants.{Broken}
 use Rattle.mr_watch.specs.declared.finding.Findings.{Findings}
 use Rattle.mr_watch.specs.declared.spread.Ahead.{Ahead}

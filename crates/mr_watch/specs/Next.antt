@@ -1,5 +1,5 @@
 -- When the next phase begins, and how far it is.
-use Rattle.std.specs.Prelude.{ℕ, ◌+◌, ◌-◌, ◌*◌, ◌/◌, ◌^◌, min, nat_lt, Bool, List, [], ◌∷◌, ◌++◌, length, take, Option, Some, None, if◌then◌else◌, codes, decimal}
+use Rattle.std.specs.Prelude.{ℕ, ◌+◌, ◌-◌, ◌*◌, ◌/◌, min, nat_lt, Bool, List, ◌++◌, length, take, Option, Some, None, if◌then◌else◌, codes, decimal}
 use Rattle.mr_phases.specs.PhaseText.{phase_text}
 use Rattle.mr_phases.specs.Schedule.{Hop, hop_of, phase_of, start_at, interval_at}
 use Rattle.mr_phases.specs.declared.phase_name.PhaseName.{PhaseName}

@@ -1,5 +1,5 @@
 -- The lines of nodes.
-use Rattle.std.specs.Prelude.{ℕ, zero, suc, ◌+◌, ◌-◌, ◌^◌, ◌==◌, min, nat_le, is_some, unwrap_or, Bool, List, [], ◌∷◌, ◌++◌, length, Option, Some, None, if◌then◌else◌, codes, decimal}
+use Rattle.std.specs.Prelude.{ℕ, zero, suc, ◌+◌, ◌-◌, ◌^◌, min, nat_le, is_some, unwrap_or, List, [], ◌∷◌, ◌++◌, length, if◌then◌else◌, codes, decimal}
 use Rattle.mr_watch.specs.Premises.{is_in}
 use Rattle.mr_watch.specs.Shown.{left, padding, short, perhaps_cell}
 use Rattle.mr_watch.specs.declared.look.NodeSeen.{NodeSeen}

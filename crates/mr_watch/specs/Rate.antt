@@ -1,5 +1,5 @@
 -- What a proxy did since the look before.
-use Rattle.std.specs.Prelude.{ℕ, ◌+◌, ◌-◌, ◌*◌, ◌^◌, ◌/◌, ◌&&◌, max, min, is_some, Bool, List, Option, Some, None, option_map, find}
+use Rattle.std.specs.Prelude.{ℕ, ◌-◌, ◌*◌, ◌^◌, ◌/◌, ◌&&◌, max, min, is_some, Bool, List, Option, Some, None, find}
 use Rattle.std.specs.Str.{bytes_eq}
 use Rattle.mr_watch.specs.declared.look.ProxySeen.{ProxySeen}
 use Rattle.mr_watch.specs.declared.told.ProxyTold.{ProxyTold}

@@ -1,5 +1,5 @@
 -- What lines for people are made of.
-use Rattle.std.specs.Prelude.{ℕ, ◌+◌, ◌-◌, ◌*◌, ◌^◌, ◌/◌, ◌%◌, min, nat_lt, nat_le, Bool, true, false, List, [], ◌∷◌, ◌++◌, length, take, map, Option, Some, None, if◌then◌else◌, codes, decimal}
+use Rattle.std.specs.Prelude.{ℕ, ◌+◌, ◌-◌, ◌^◌, ◌/◌, min, nat_lt, Bool, true, false, List, [], ◌∷◌, ◌++◌, length, take, map, Option, Some, None, if◌then◌else◌, codes, decimal}
 use Rattle.mr_watch.specs.declared.shown.Colour.{Colour}
 use Rattle.mr_watch.specs.declared.shown.Colour.TheVariants.{Green, Red, Yellow, Cyan}
 

@@ -1,5 +1,5 @@
 -- How far the clocks of proxies are apart, in milliseconds, as far as a look can tell.
-use Rattle.std.specs.Prelude.{ℕ, ◌+◌, ◌-◌, ◌*◌, ◌^◌, max, min, nat_lt, nat_le, List, [], ◌∷◌, ◌++◌, Option, Some, None, option_map, option_to_list}
+use Rattle.std.specs.Prelude.{ℕ, ◌+◌, ◌-◌, ◌*◌, ◌^◌, max, nat_lt, nat_le, List, [], ◌∷◌, ◌++◌, Option, Some, None, option_map, option_to_list}
 use Rattle.mr_watch.specs.Finding.{finding_after}
 use Rattle.mr_watch.specs.Premises.{reading_of}
 use Rattle.mr_watch.specs.declared.finding.Finding.{Finding}

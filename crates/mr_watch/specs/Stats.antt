@@ -1,5 +1,5 @@
 -- What a memcached says of itself.
-use Rattle.std.specs.Prelude.{ℕ, nat_eq, List, Option, Some, None, option_map, option_and_then, if◌then◌else◌, codes}
+use Rattle.std.specs.Prelude.{ℕ, nat_eq, List, Option, Some, None, option_and_then, if◌then◌else◌, codes}
 use Rattle.std.specs.List.{ends_with}
 use Rattle.mr_lines.specs.Lines.{without_carriage_return}
 use Rattle.mr_watch.specs.Lines.{value_of, whole_number}

@@ -1,5 +1,5 @@
 -- What the texts of services tell.
-use Rattle.std.specs.Prelude.{ℕ, ◌^◌, ◌==◌, nat_lt, Bool, true, false, List, Option, Some, None, option_map, option_and_then, if◌then◌else◌, codes}
+use Rattle.std.specs.Prelude.{ℕ, ◌==◌, Bool, false, List, Option, Some, None, option_map, if◌then◌else◌, codes}
 use Rattle.mr_phases.specs.declared.phase_name.PhaseName.{PhaseName}
 use Rattle.mr_phases.specs.declared.phase_name.PhaseName.TheVariants.{OldOnly, BothReadOld, BothReadNew, NewOnly}
 use Rattle.mr_watch.specs.Lines.{number_of, perhaps_number_of, label_of, sum_of}

@@ -1,5 +1,5 @@
 -- How the clocks are gone through one by one.
-use Rattle.std.specs.Prelude.{ℕ, ◌-◌, max, min, List, [], ◌∷◌, Option, Some, None}
+use Rattle.std.specs.Prelude.{◌-◌, max, min, List, [], ◌∷◌, Option, Some, None}
 use Rattle.mr_watch.specs.Spread.{ahead_of}
 use Rattle.mr_watch.specs.declared.look.ProxySeen.{ProxySeen}
 use Rattle.mr_watch.specs.declared.spread.Ahead.{Ahead}
