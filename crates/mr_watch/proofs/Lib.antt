@@ -1,3 +1,4 @@
+pub mod JsonLemmas
 pub mod LawLemmas
 pub mod LineLemmas
 pub mod NodeLemmas

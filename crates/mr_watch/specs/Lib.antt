@@ -1,5 +1,6 @@
 pub mod Changes
 pub mod Finding
+pub mod Findings
 pub mod Json
 pub mod Judging
 pub mod Laws

@@ -42,9 +42,11 @@ pub struct Findings {
 }
 
 impl Findings {
+    ghost use Rattle.mr_watch.specs.Findings.{all_unseen};
+
     /// Before the first look.
     pub fn unseen() -> Findings
-        ensures { result ≡ record { same = Finding.Unseen; empty = Finding.Unseen; near = Finding.Unseen; forward = Finding.Unseen } }
+        ensures { result ≡ all_unseen }
     {
         Findings {
             same: Finding::Unseen,

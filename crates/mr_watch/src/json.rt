@@ -3,7 +3,7 @@ ghost use Rattle.std.specs.Prelude.{◌≡◌, ◌++◌, IfOk, OnOk, Some, false
 ghost use Rattle.std.specs.String.{string_bytes};
 ghost use Rattle.serde_json.specs.Data.{object, no_members};
 ghost use Rattle.serde_json.specs.View.{view as value_view, members_view};
-ghost use Rattle.serde_json.specs.Written.{compact_text, has_float};
+ghost use Rattle.serde_json.specs.Written.{compact_text};
 ghost use Rattle.mr_watch.specs.Shown.{printable};
 ghost use Rattle.mr_watch.specs.Json.{part_json, members_json, unreached_json, reached_json, told_json, proxy_json, proxies_json, node_json, nodes_json, premises_json, next_at_json, next_json, capped, apart_json, spread_json, look_json};
 
@@ -285,8 +285,9 @@ fn look_value(alloc: Global, view: &View<'_>) -> Result<Value, AllocError>
 }
 
 /// A look as JSON: one object, compact, its keys in byte order.
+#[tactic(auto, using(crate::proofs::JsonLemmas::look_no_float))]
 pub fn look_json(alloc: Global, view: &View<'_>) -> Result<String, AllocError>
-    ensures { IfOk result (λ text. has_float (look_json view.now) ≡ false → string_bytes text ≡ compact_text (look_json view.now)) }
+    ensures { IfOk result (λ text. string_bytes text ≡ compact_text (look_json view.now)) }
 {
     look_value(alloc, view)?.to_string(alloc)
 }

@@ -183,9 +183,9 @@ fn node_in<'a>(address: &'a [u8], bytes: &[u8]) -> Option<NodeTold<'a>>
     })
 }
 
-/// What the text of a service tells: of a proxy where it has the digest of a configuration, and else of a node where it has an address.
-/// None where it has neither, or where a number is missing that has to be there, or isn't one of 64 bits. What stands behind the
-/// last line end isn't read.
+/// What the text of a service tells: of a proxy where it has the digest of a configuration, and else of a node where it has an
+/// address. None where it has neither, or where a number is missing that has to be there, or isn't one of 64 bits. What stands
+/// behind the last line end isn't read.
 pub fn read_told(bytes: &[u8]) -> Option<Told<'_>>
     ensures { option_map said result ≡ said_in bytes.now }
 {
