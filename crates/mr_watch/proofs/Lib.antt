@@ -3,5 +3,6 @@ pub mod LawLemmas
 pub mod LineLemmas
 pub mod NodeLemmas
 pub mod PremiseLemmas
+pub mod SameLemmas
 pub mod SpreadLemmas
 pub mod UpcomingLemmas

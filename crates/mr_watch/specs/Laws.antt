@@ -1,8 +1,10 @@
 -- What the laws speak of.
-use Rattle.std.specs.Prelude.{◌≡◌, ℕ, ◌-◌, ◌≤◌, max, List, [], ◌∷◌}
+use Rattle.std.specs.Prelude.{◌≡◌, ℕ, ◌-◌, ◌≤◌, max, List, [], ◌∷◌, Some}
 use Rattle.mr_watch.specs.declared.finding.Finding.TheVariants.{Broken}
 use Rattle.mr_watch.specs.declared.finding.Findings.{Findings}
+use Rattle.mr_watch.specs.declared.look.ProxySeen.{ProxySeen}
 use Rattle.mr_watch.specs.declared.spread.Ahead.{Ahead}
+use Rattle.mr_watch.specs.declared.told.ProxyTold.{ProxyTold}
 
 -- each premise that was broken is broken
 pub record StaysBroken (before after : Findings) : Type 0 where
@@ -10,6 +12,10 @@ pub record StaysBroken (before after : Findings) : Type 0 where
   pub empty : before.empty ≡ Broken → after.empty ≡ Broken
   pub near : before.near ≡ Broken → after.near ≡ Broken
   pub forward : before.forward ≡ Broken → after.forward ≡ Broken
+
+-- where it answered, it told this digest
+abbrev pub TellsOnly : List ℕ → ProxySeen → Type 0
+TellsOnly expected proxy = (told : ProxyTold) → proxy.told ≡ Some told → told.digest.now ≡ expected
 
 -- how far two clocks are apart that are ahead by so much
 abbrev pub distance : ℕ → ℕ → ℕ

@@ -1,9 +1,11 @@
 //! What is known of findings and of spreads.
-ghost use Rattle.std.specs.Prelude.{◌≡◌, ◌≤◌, ◌++◌, ◌∷◌, ℕ, List};
+ghost use Rattle.std.specs.Prelude.{◌≡◌, ◌≤◌, ◌++◌, ◌∷◌, ℕ, List, All};
 ghost use Rattle.mr_phases.specs.Schedule.{Hop};
 ghost use Rattle.mr_watch.specs.Judging.{findings_after};
-ghost use Rattle.mr_watch.specs.Laws.{StaysBroken, AreWithin, greatest_distance};
+ghost use Rattle.mr_watch.specs.Laws.{StaysBroken, TellsOnly, AreWithin, greatest_distance};
+ghost use Rattle.mr_watch.specs.Premises.{same_after};
 ghost use Rattle.mr_watch.specs.Spread.{apart_at_least, apart_at_most, greatest_of_pairs};
+ghost use Rattle.mr_watch.specs.declared.finding.Finding.{Finding};
 ghost use Rattle.mr_watch.specs.declared.finding.Findings.{Findings};
 ghost use Rattle.mr_watch.specs.declared.look.Look.{Look};
 ghost use Rattle.mr_watch.specs.declared.look.ProxySeen.{ProxySeen};
@@ -13,6 +15,12 @@ ghost use Rattle.mr_watch.specs.declared.spread.Ahead.{Ahead};
 pub fn broken_stays_broken()
     ensures { (before : Findings) (earlier : List ProxySeen) (look : Look) (expected : List ℕ) (hops : List Hop)
         → StaysBroken before (findings_after before earlier look expected hops) }
+{}
+
+/// Where all proxies are found to have one configuration after a look, each that answered told the watcher's digest.
+pub fn same_is_the_watchers()
+    ensures { (before : Finding) (expected : List ℕ) (proxies : List ProxySeen)
+        → same_after before expected proxies ≡ Finding.Holds → All (TellsOnly expected) proxies }
 {}
 
 /// Where each clock is ahead by what stands within its bounds, the two that are furthest apart are so at least as far as is told.
