@@ -19,7 +19,7 @@ fn command_of(number: u64) -> Command {
 }
 
 /// The phase of a number.
-fn phase_of(number: u64) -> PhaseName {
+pub fn phase_of(number: u64) -> PhaseName {
     match number {
         0 => PhaseName::OldOnly,
         1 => PhaseName::BothReadOld,
@@ -45,7 +45,7 @@ fn kind_of(number: u64) -> AnswerKind {
 }
 
 /// The parts of a word that is a list: none of a hyphen.
-fn parts_of<'a>(alloc: Global, word: &'a str) -> Result<Vec<&'a str>, Fail> {
+pub fn parts_of<'a>(alloc: Global, word: &'a str) -> Result<Vec<&'a str>, Fail> {
     if word == "-" {
         return Ok(Vec::new(alloc));
     }

@@ -1,0 +1,12 @@
+use Rattle.std.proofs.Common.{length, arith}
+use Rattle.mr_watch.specs.Premises.{was_empty}
+use Rattle.mr_watch.proofs.PremiseLemmas.{any_below-more, any_below-end}
+use Rattle.mr_watch.proofs.premises.any_empty.Goals as goal
+
+pub loop-hop-preserved : goal.loop-hop-preserved
+loop-hop-preserved c = any_below-more _ c.loop-hop.hop _ _ c.loop-hop.invariant c.was_empty-empty.ensures
+
+pub returns : goal.returns
+returns c =
+    let test = was_empty c.args.schedule.now c.args.proxies.now c.args.nodes.now in
+    any_below-end test c.loop-hop.hop (length c.args.schedule.now) c.loop-hop.empty c.loop-hop.invariant (omega arith) (omega arith)
