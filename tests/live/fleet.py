@@ -11,6 +11,7 @@ import tempfile
 import time
 
 from children import CHILDREN
+from clocks import MovedClock
 from client import PATIENCE, Client
 from ports import is_listened_at, place_at
 from program import path
@@ -159,7 +160,7 @@ class Service:
 
     def name(self):
         """What it is called in what a failure says."""
-        return f"the {self.words[1]} at {self.address}"
+        return f"the {self.words[self.words.index(program()) + 1]} at {self.address}"
 
 
 class Fleet:
@@ -198,11 +199,16 @@ class Fleet:
         with open(output, "wb") as out, open(faults, "wb") as err:
             return CHILDREN.start(words, stdin=subprocess.DEVNULL, stdout=out, stderr=err)
 
-    def serve(self, *words, hosts=("127.0.0.1",), host=None):
-        """A service at a port that is free at each of these hosts, at the first of them or at this one. Where another
-        program took the port meanwhile, it is started at another one."""
+    def clock(self, seconds=0):
+        """A clock for services, which is so many seconds ahead of the machine's."""
+        return MovedClock(self.new_file(), seconds)
+
+    def serve(self, *words, hosts=("127.0.0.1",), host=None, clock=None):
+        """A service at a port that is free at each of these hosts, at the first of them or at this one, by the machine's time or
+        by another clock. Where another program took the port meanwhile, it is started at another one."""
+        before = clock.words() if clock else []
         for _ in range(TRIES):
-            service = Service(self, [program(), *words], self.keep(place_at(*hosts)), host)
+            service = Service(self, [*before, program(), *words], self.keep(place_at(*hosts)), host)
             self.services.append(service)
             if service.listens():
                 return service

@@ -136,6 +136,40 @@ def requests_of(samples, phase):
 
 
 @case
+def a_clock_that_goes_back_is_counted():
+    """Each step once, whoever sees it first: a client's request or a scraper."""
+    with Fleet() as fleet:
+        for make in (lambda *how, **more: told_node(fleet, *how, **more), lambda *how, **more: told_proxy(fleet, fleet.config([fleet.node()]), *how, **more)):
+            clock = fleet.clock(500)
+            told = make(clock=clock)
+            client = told.service.client()
+            steps = 0
+            for ahead, back in ((500, 0), (900, 0), (-3600, 1), (-3500, 0), (-3600, 1), (500, 0)):
+                clock.move(ahead)
+                if ahead == -3500:
+                    told.samples()
+                client.ask(get_of("k"), MISS)
+                client.ask(get_of("k"), MISS)
+                steps += back
+                samples = told.samples()
+                check(f"steps back at {ahead}", steps, samples[("migctl_clock_steps_back_total",)])
+                check_true("the clock that it tells", abs(samples[("migctl_clock_seconds",)] - time.time() - ahead) <= 2)
+
+
+@case
+def a_proxy_whose_clock_went_back_keeps_its_phase():
+    with Fleet() as fleet:
+        start = int(time.time())
+        clock = fleet.clock()
+        told = told_proxy(fleet, fleet.config([fleet.node()], new=[fleet.node()], start=start - 5, interval=1000), clock=clock)
+        told.service.ask(get_of("k"), MISS)
+        clock.move(-3600)
+        samples = told.samples()
+        check("its phase", 1, samples[("migctl_proxy_phase", "both-read-old")])
+        check("the next bound", start - 5 + 1000, samples[("migctl_proxy_next_phase_seconds",)])
+
+
+@case
 def a_proxy_without_room_counts_who_it_turns_away():
     with Fleet() as fleet:
         told = told_proxy(fleet, fleet.config([fleet.node()]), "--room", "0")
