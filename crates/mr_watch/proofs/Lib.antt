@@ -1,6 +1,7 @@
 pub mod JsonLemmas
 pub mod LawLemmas
 pub mod LineLemmas
+pub mod NearLemmas
 pub mod NodeLemmas
 pub mod PremiseLemmas
 pub mod SameLemmas

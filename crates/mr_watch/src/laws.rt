@@ -1,10 +1,10 @@
 //! What is known of findings and of spreads.
-ghost use Rattle.std.specs.Prelude.{◌≡◌, ◌≤◌, ◌++◌, ◌∷◌, ℕ, List, All};
+ghost use Rattle.std.specs.Prelude.{◌≡◌, ◌*◌, ◌<◌, ◌≤◌, ◌++◌, ◌∷◌, ℕ, List, All};
 ghost use Rattle.mr_phases.specs.Schedule.{Hop};
 ghost use Rattle.mr_watch.specs.Judging.{findings_after};
 ghost use Rattle.mr_watch.specs.Laws.{StaysBroken, TellsOnly, AreWithin, greatest_distance};
 ghost use Rattle.mr_watch.specs.Premises.{same_after};
-ghost use Rattle.mr_watch.specs.Spread.{apart_at_least, apart_at_most, greatest_of_pairs};
+ghost use Rattle.mr_watch.specs.Spread.{apart_at_least, apart_at_most, greatest_of_pairs, near_after, spread_in};
 ghost use Rattle.mr_watch.specs.declared.finding.Finding.{Finding};
 ghost use Rattle.mr_watch.specs.declared.finding.Findings.{Findings};
 ghost use Rattle.mr_watch.specs.declared.look.Look.{Look};
@@ -33,6 +33,18 @@ pub fn no_closer_than_told()
 pub fn no_further_than_told()
     ensures { (aheads : List Ahead) (clocks : List ℕ) → AreWithin aheads clocks
         → greatest_distance clocks ≤ greatest_of_pairs apart_at_most aheads }
+{}
+
+/// Where clocks are found near by one look alone, no two differ by more than the interval, wherever each is within its bounds.
+pub fn near_is_near()
+    ensures { (interval : ℕ) (aheads : List Ahead) (clocks : List ℕ) → AreWithin aheads clocks
+        → near_after Finding.Unseen interval (spread_in aheads) ≡ Finding.Holds → greatest_distance clocks ≤ interval * 1000 }
+{}
+
+/// And where they are found too far apart, two of them are.
+pub fn far_is_far()
+    ensures { (interval : ℕ) (aheads : List Ahead) (clocks : List ℕ) → AreWithin aheads clocks
+        → near_after Finding.Unseen interval (spread_in aheads) ≡ Finding.Broken → interval * 1000 < greatest_distance clocks }
 {}
 
 /// A spread is the same wherever in the order a clock stands, so it doesn't depend on the order.
