@@ -6,7 +6,7 @@ use mr_proxy::{Leg, LegBack};
 use mr_text::Cause;
 use std::marker::Model;
 use std::time;
-use std::time::Instant;
+use std::time::Duration;
 
 /// Carriers that count what becomes of their legs, and how long they take. They send and receive as those within do.
 pub struct CountedCarriers<'a, L, R: time::Clock> {
@@ -51,21 +51,33 @@ impl<'a, L, R: time::Clock> CountedCarriers<'a, L, R> {
         }
     }
 
-    /// Counts how long a leg took that was begun then.
-    fn add_time(&self, began: Option<Instant>) {
-        if let Some(began) = began {
-            if let Ok(took) = began.elapsed(self.rt) {
-                self.totals.times().add(took);
-            }
+    /// The microseconds of a clock that never goes back, where the machine gives them.
+    fn micros(&self) -> Option<u64> {
+        match self.rt.monotonic() {
+            Ok(moment) => Some(micros_of(moment)),
+            Err(_) => None,
         }
     }
+
+    /// Counts how long a leg took that was begun then.
+    fn add_time(&self, began: Option<u64>) {
+        if let (Some(began), Some(ended)) = (began, self.micros()) {
+            self.totals.times().add(ended.saturating_sub(began));
+        }
+    }
+}
+
+/// So many whole microseconds, as far as 64 bits count.
+fn micros_of(duration: Duration) -> u64 {
+    let seconds = duration.as_secs().saturating_mul(1_000_000);
+    seconds.saturating_add(u64::from(duration.subsec_micros()))
 }
 
 impl<'a, C: Carrier, L: Carriers<C>, R: time::Clock> Carriers<C> for CountedCarriers<'a, L, R> {
     ghost told = { L.told };
 
     fn send(&mut self, leg: Leg) -> Option<Leg> {
-        let began = Instant::now(self.rt).ok();
+        let began = self.micros();
         let back = self.carriers.send(leg);
         match &back {
             Some(leg) => self.totals.add(leg.sheet(), false),

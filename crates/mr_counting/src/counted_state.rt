@@ -8,6 +8,7 @@ ghost use Rattle.mr_desks.specs.Recorded.{AnswerStands};
 ghost use Rattle.mr_desks.specs.Shared.{SharedIssues, SharedRefuses};
 ghost use Rattle.mr_desks.specs.Taking.{BecomesOf, TakenStands, TakenInTime};
 ghost use Rattle.mr_desks.specs.declared.desk_error.DeskError.{DeskError};
+ghost use Rattle.mr_phases.specs.Schedule.{phase_of};
 ghost use Rattle.mr_counting.specs.CountedState.{after_taken};
 ghost use Rattle.mr_counting.specs.ProxyCounts.{after_issued, after_answered, after_refused};
 
@@ -15,7 +16,7 @@ use crate::proxy_counts::ProxyCounts;
 use mr_clock::Clock;
 use mr_desks::{Carried, Carrier, DeskError, Share, SharedState};
 use mr_history::OpId;
-use mr_phases::Schedule;
+use mr_phases::{PhaseName, Schedule, judge};
 use mr_proxy::{Answer, Issued, ProxyCore, Taken};
 use mr_text::Request;
 use std::marker::Model;
@@ -25,6 +26,9 @@ pub struct CountedState<C: Carrier> {
     state: SharedState<C>,
     schedule: Schedule,
     counts: ProxyCounts,
+    // the reading that was judged last, and its phase, since most answers are of the same second as the one before
+    judged: u64,
+    phase: PhaseName,
 }
 
 impl<C: Carrier> Drop for CountedState<C> {
@@ -33,6 +37,8 @@ impl<C: Carrier> Drop for CountedState<C> {
             state: _,
             schedule: _,
             counts: _,
+            judged: _,
+            phase: _,
         } = self;
     }
 }
@@ -43,6 +49,11 @@ impl<C: Carrier> Model for CountedState<C> {
     ghost Value = { CountedProxyView };
 
     ghost view = { λ s. record { proxy = s.state; schedule = s.schedule; counts = s.counts } };
+
+    ghost use Rattle.std.specs.Prelude.{◌≡◌};
+    ghost use Rattle.mr_phases.specs.Schedule.{phase_of};
+
+    ghost invariant = { λ s. s.phase ≡ phase_of s.schedule s.judged };
 }
 
 impl<C: Carrier> CountedState<C> {
@@ -58,7 +69,30 @@ impl<C: Carrier> CountedState<C> {
             state: SharedState::new(core),
             schedule,
             counts: ProxyCounts::NONE,
+            judged: 0,
+            phase: judge(schedule, 0).name(),
         }
+    }
+
+    /// The phase of a reading.
+    fn phase_at(&mut self, reading: u64) -> PhaseName
+        ensures phase { result ≡ phase_of self.old.schedule reading }
+        ensures same { self.new ≡ self.old }
+    {
+        if reading != self.judged {
+            let phase = judge(self.schedule, reading).name();
+            self.judged = reading;
+            self.phase = phase;
+        }
+        self.phase
+    }
+
+    /// Counts an answer.
+    fn add_answer(&mut self, answer: &Answer)
+        ensures { self.new ≡ record self.old { counts = after_answered self.old.schedule answer.now self.old.counts } }
+    {
+        let phase = self.phase_at(answer.reading());
+        self.counts.add_answer(phase, answer);
     }
 
     /// What was counted.
@@ -111,7 +145,7 @@ impl<C: Carrier> CountedState<C> {
     {
         let taken = self.state.take(carried);
         if let Taken::Answered(answer) = &taken {
-            self.counts.add_answer(self.schedule, answer);
+            self.add_answer(answer);
         }
         taken
     }
@@ -129,7 +163,7 @@ impl<C: Carrier> CountedState<C> {
     {
         match self.state.give_up(op) {
             Ok(answer) => {
-                self.counts.add_answer(self.schedule, &answer);
+                self.add_answer(&answer);
                 Ok(answer)
             }
             Err(refusal) => Err(refusal),

@@ -4,7 +4,6 @@ ghost use Rattle.mr_counting.specs.LegTimes.{bounds, place_in};
 
 use mr_metrics::Bucket;
 use std::sync::atomic::{AtomicU64, Ordering};
-use std::time::Duration;
 
 /// The longest times that are told apart, in microseconds.
 const BOUNDS: [u64; 15] = [
@@ -90,9 +89,8 @@ impl LegTimes {
         }
     }
 
-    /// Counts a leg that took so long.
-    pub(crate) fn add(&self, took: Duration) {
-        let micros = u64::try_from(took.as_micros()).unwrap_or(u64::MAX);
+    /// Counts a leg that took so many microseconds.
+    pub(crate) fn add(&self, micros: u64) {
         self.counts[place_of(micros)].fetch_add(1, Ordering::SeqCst);
         self.micros.fetch_add(micros, Ordering::SeqCst);
     }

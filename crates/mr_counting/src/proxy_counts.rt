@@ -1,12 +1,13 @@
 //! What a proxy counts of what it is asked and of what it answers.
-ghost use Rattle.std.specs.Prelude.{◌≡◌};
+ghost use Rattle.std.specs.Prelude.{◌≡◌, List};
+ghost use Rattle.mr_phases.specs.Schedule.{Hop, phase_of};
 ghost use Rattle.mr_counting.specs.ProxyCounts.{later_of, after_issued, after_answered, after_refused};
 
 use crate::answer_counts::AnswerCounts;
 use crate::counting::one_more;
 use crate::request_counts::RequestCounts;
 use mr_desks::DeskError;
-use mr_phases::{Schedule, judge};
+use mr_phases::PhaseName;
 use mr_proxy::Answer;
 
 /// What a proxy was asked and has answered since it began.
@@ -48,11 +49,11 @@ impl ProxyCounts {
         self.under_way = one_more(self.under_way);
     }
 
-    /// Counts an answer, and its request in the phase of its own reading.
-    pub(crate) fn add_answer(&mut self, schedule: Schedule, answer: &Answer)
-        ensures { self.new ≡ after_answered schedule answer.now self.old }
+    /// Counts an answer, and its request in this phase, which is that of its own reading.
+    pub(crate) fn add_answer(&mut self, phase: PhaseName, answer: &Answer)
+        ensures { (hops : List Hop) → phase ≡ phase_of hops answer.now.reading
+            → self.new ≡ after_answered hops answer.now self.old }
     {
-        let phase = judge(schedule, answer.reading()).name();
         self.requests.add(answer.request(), phase);
         self.answers.add_answer(answer);
         self.under_way = self.under_way.saturating_sub(1);
