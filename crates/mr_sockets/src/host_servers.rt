@@ -25,10 +25,9 @@ use std::marker::Model;
 use std::net::{Net, TcpListener, TcpStream};
 use std::random::RandomSource;
 use std::sync::Wait;
-use std::thread;
 use std::thread::Threads;
-use std::time;
 use std::time::{Duration, Instant, SystemTime, UNIX_EPOCH};
+use std::{thread, time};
 
 /// Where the metrics of a service are told, and of which version of the program.
 #[derive(Clone, Copy, Debug)]

@@ -8,9 +8,9 @@ use std::io::Read;
 use std::net::{Shutdown, TcpListener, TcpStream};
 use std::sync::Wait;
 use std::sync::atomic::{AtomicU64, Ordering};
+use std::thread;
 use std::thread::{Scope, Threads};
 use std::time::{Clock, Duration, Instant};
-use std::thread;
 
 /// How often it is looked whether a scraper came, and whether the service has ended, in milliseconds.
 const LOOK_MILLIS: u64 = 50;
