@@ -23,7 +23,7 @@ use Rattle.mr_tool.specs.PlanCommand.{WritesPlan}
 use Rattle.mr_tool.specs.TimelineCommand.{WritesTimeline}
 use Rattle.mr_tool.specs.Run.{Gives, EndsWith, RunsCommand, Runs}
 use Rattle.mr_tool.specs.Services.{EndsService, NodeGives, ProxyGives, RunsService}
-use Rattle.mr_sockets.specs.Servers.{Asked, IsOneService, ServersView, clients_of, listen_of}
+use Rattle.mr_sockets.specs.Servers.{Asked, IsOneService, ServersView, clients_of, places_of}
 use Rattle.mr_sockets.specs.declared.fault.OpenFault.{OpenFault}
 use Rattle.mr_tool.specs.Fault.{fault_line, readings_line}
 use Rattle.mr_tool.specs.Sources.{SourcesView}
@@ -79,7 +79,7 @@ text_steady makes file ended before between h silent =
 
 -- a service that came to its end had no failure
 ended_service : (asked : Asked) (ended : Ended) (served : Result ℕ OpenFault) (old new : SinkView) (idle busy : ServersView) → IsOneService asked idle served busy
-    → EndsService (listen_of asked) (clients_of asked) served old new (Ok ended) → (busy.failures ≡ idle.failures) × (new.failures ≡ old.failures)
+    → EndsService (places_of asked) (clients_of asked) served old new (Ok ended) → (busy.failures ≡ idle.failures) × (new.failures ≡ old.failures)
 ended_service asked ended (Ok count) old new idle busy serves ends = (serves.counted, ends.0.0.steady)
 ended_service asked ended (Err fault) old new idle busy serves ends = absurd ends
 

@@ -1,14 +1,15 @@
 -- What the commands `node` and `proxy` do.
-use Rattle.std.specs.Prelude.{◌≡◌, ◌==◌, ◌≤◌, ◌⊎◌, ℕ, List, ◌++◌, Result, Ok, Err, codes, decimal, string_bytes, if◌then◌else◌}
+use Rattle.std.specs.Prelude.{◌≡◌, ◌==◌, ◌≤◌, ◌⊎◌, ℕ, List, ◌++◌, Some, Result, Ok, Err, codes, decimal, string_bytes, if◌then◌else◌}
 use Rattle.std.specs.declared.random_state.RandomState.{RandomState}
 use Rattle.mr_configs.specs.Config.{ConfigView}
 use Rattle.mr_node.specs.declared.error.NodeError.{NodeError}
 use Rattle.mr_node.specs.declared.error.NodeError.TheVariants.{ZeroCapacity, OutOfMemory}
 use Rattle.mr_proxy.specs.ProxyView.{ProxyView, fresh_proxy}
 use Rattle.mr_sockets.specs.SeededNode.{SeededView, IsSeededNode}
-use Rattle.mr_sockets.specs.Servers.{Asked, NodeAt, ProxyAt, ServersView, DrawsSeed, IsOneService, listen_of, clients_of}
+use Rattle.mr_sockets.specs.Servers.{Asked, NodeAt, ProxyAt, ServersView, DrawsSeed, IsOneService, Places, places_of, clients_of}
 use Rattle.mr_sockets.specs.declared.bounds.ServiceBounds.{ServiceBounds}
 use Rattle.mr_sockets.specs.declared.fault.OpenFault.{OpenFault}
+use Rattle.mr_sockets.specs.declared.fault.OpenFault.TheVariants as socket
 use Rattle.mr_sockets.specs.declared.fault.SeedFault.{SeedFault}
 use Rattle.mr_text.specs.Sink.{SinkView, IsOneWrite}
 use Rattle.mr_text.specs.declared.error.WriteFault.{WriteFault}
@@ -20,6 +21,7 @@ use Rattle.mr_tool.specs.declared.ended.Ended.{Ended}
 use Rattle.mr_tool.specs.declared.ended.Ended.TheVariants.{Done, Faulted}
 use Rattle.mr_tool.specs.declared.fault.Fault.{Fault}
 use Rattle.mr_tool.specs.declared.fault.Fault.TheVariants.{Memory, Input, Output, File, Net, Plan, Node}
+use Rattle.mr_words.specs.Words.{path_in}
 use Rattle.mr_words.specs.declared.service_words.NodeValues.{NodeValues}
 use Rattle.mr_words.specs.declared.service_words.ProxyValues.{ProxyValues}
 
@@ -31,20 +33,25 @@ served_line served = codes "served " ++ (decimal served ++ codes "\n")
 abbrev pub end_of_service : ℕ → ℕ → Ended
 end_of_service clients served = if served == clients then Done else Faulted
 
--- What comes of a service at an address once it has ended. The line of it is handed over in one call; where it had no socket,
+-- the line of a socket that was not had names its address: that of clients, or that of metrics
+abbrev pub LacksSocketAt : Places → OpenFault → List ℕ → Type 0
+LacksSocketAt places socket.Net line = line ≡ net_line places.listen
+LacksSocketAt places socket.Metrics line = (metrics : List ℕ) × (places.metrics ≡ Some metrics) × (line ≡ net_line metrics)
+
+-- What comes of a service at its addresses once it has ended. The line of it is handed over in one call; where it lacked a socket,
 -- or memory is refused for a line, nothing is written.
-abbrev pub EndsService : List ℕ → ℕ → Result ℕ OpenFault → SinkView → SinkView → Result Ended Fault → Type 0
-EndsService listen clients (Ok served) old new (Ok ended) = IsOneWrite (served_line served) old (Ok tt) new × (ended ≡ end_of_service clients served)
-EndsService listen clients (Ok served) old new (Err Output) = (fault : WriteFault) × IsOneWrite (served_line served) old (Err fault) new
-EndsService listen clients (Err no_socket) old new (Err (Net line)) = (string_bytes line ≡ net_line listen) × (new ≡ old)
-EndsService listen clients served old new (Err Memory) = new ≡ old
-EndsService listen clients served old new _ = ⊥
+abbrev pub EndsService : Places → ℕ → Result ℕ OpenFault → SinkView → SinkView → Result Ended Fault → Type 0
+EndsService places clients (Ok served) old new (Ok ended) = IsOneWrite (served_line served) old (Ok tt) new × (ended ≡ end_of_service clients served)
+EndsService places clients (Ok served) old new (Err Output) = (fault : WriteFault) × IsOneWrite (served_line served) old (Err fault) new
+EndsService places clients (Err fault) old new (Err (Net line)) = LacksSocketAt places fault (string_bytes line) × (new ≡ old)
+EndsService places clients served old new (Err Memory) = new ≡ old
+EndsService places clients served old new _ = ⊥
 
 -- one service was asked for, once, and this came of it
 pub record RunsService (asked : Asked) (before after : Devices) (idle busy : ServersView) (result : Result Ended Fault) : Type 0 where
   pub served : Result ℕ OpenFault
   pub serves : IsOneService asked idle served busy
-  pub ends : EndsService (listen_of asked) (clients_of asked) served before.output after.output result
+  pub ends : EndsService (places_of asked) (clients_of asked) served before.output after.output result
 
 -- an empty node of that capacity, its keys hashed by a seed that was drawn for it, once
 pub record HasNode (capacity : ℕ) (node : SeededView) (idle between : ServersView) : Type 0 where
@@ -75,17 +82,21 @@ bounds_of_node values = record {
   patience = record { client_seconds = values.idle_timeout; leg_millis = 0 };
 }
 
+-- where a node listens
+abbrev pub places_of_node : NodeValues → Places
+places_of_node values = record { listen = values.listen.now; metrics = path_in values.metrics }
+
 -- A node was served. No file is asked for, and nothing is read.
 pub record RunsNode (values : NodeValues) (before after : Devices) (idle busy : ServersView) (result : Result Ended Fault) : Type 0 where
   pub node : SeededView
   pub between : ServersView
   pub has : HasNode values.capacity node idle between
-  pub runs : RunsService (NodeAt values.listen.now node (bounds_of_node values)) before after between busy result
+  pub runs : RunsService (NodeAt (places_of_node values) node (bounds_of_node values)) before after between busy result
   pub unasked : after.sources ≡ before.sources
   pub unread : after.input ≡ before.input
 
 -- What the command `node` does. It serves an empty node, or finds the first of the faults in this order: the capacity, the
--- seed, the socket, the output.
+-- seed, the sockets, the output.
 abbrev pub NodeGives : NodeValues → Devices → Devices → ServersView → ServersView → Result Ended Fault → Type 0
 NodeGives values before after idle busy (Err (Node refusal)) = LacksNode values.capacity refusal idle busy × (after ≡ before)
 NodeGives values before after idle busy (Err Input) = LacksSeed values.capacity idle busy × (after ≡ before)
@@ -107,11 +118,15 @@ bounds_of_proxy values = record {
   patience = record { client_seconds = values.idle_timeout; leg_millis = values.leg_timeout };
 }
 
+-- where a proxy listens
+abbrev pub places_of_proxy : ProxyValues → Places
+places_of_proxy values = record { listen = values.listen.now; metrics = path_in values.metrics }
+
 -- a fresh proxy by the configuration was served
 pub record RunsProxy (values : ProxyValues) (before after : Devices) (idle busy : ServersView) (result : Result Ended Fault) : Type 0 where
   pub config : ConfigView
   pub has : HasConfig values config before after
-  pub runs : RunsService (ProxyAt values.listen.now (proxy_of config values.room) config.routing (bounds_of_proxy values))
+  pub runs : RunsService (ProxyAt (places_of_proxy values) (proxy_of config values.room) config.routing (bounds_of_proxy values))
       before after idle busy result
 
 -- memory was refused once the configuration was had, and no service was asked for
@@ -126,7 +141,7 @@ abbrev pub RefusesProxy : ProxyValues → Fault → Devices → Devices → Serv
 RefusesProxy values fault before after idle busy = LacksConfig values.config.now fault before after × (busy ≡ idle)
 
 -- What the command `proxy` does. It serves a fresh proxy, or finds the first of the faults in this order: the file, the
--- configuration, the socket, the output.
+-- configuration, memory, the sockets, the output.
 abbrev pub ProxyGives : ProxyValues → Devices → Devices → ServersView → ServersView → Result Ended Fault → Type 0
 ProxyGives values before after idle busy (Err (File line)) = RefusesProxy values (File line) before after idle busy
 ProxyGives values before after idle busy (Err (Plan refusal)) = RefusesProxy values (Plan refusal) before after idle busy

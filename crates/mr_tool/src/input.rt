@@ -10,8 +10,10 @@ ghost use Rattle.mr_words.specs.Words.{path_in};
 use crate::fault::Fault;
 use crate::sources::{MOST_LOADED, Sources, load_bytes};
 use mr_configs::{Config, PlanError};
+use mr_digest::config_digest;
 use mr_text::{MAX_BLOCK, MAX_LINE, Request, RequestReader, Source, TextError};
 use std::alloc::Global;
+use std::marker::Model;
 
 /// The most bytes that are taken of an input: as many as of a file.
 pub const MOST_TAKEN: usize = MOST_LOADED;
@@ -78,15 +80,70 @@ pub fn given_bytes<S: Sources, I: Source>(
     }
 }
 
-/// The configuration in the file at a path, which is loaded once.
-pub fn load_config<S: Sources>(alloc: Global, path: &str, sources: &mut S) -> Result<Config, Fault>
+/// A configuration with the bytes that it was read of. To contracts it is the configuration.
+#[derive(Drop)]
+pub struct LoadedConfig {
+    config: Config,
+    bytes: Vec<u8>,
+}
+
+impl Model for LoadedConfig {
+    ghost use Rattle.mr_configs.specs.Config.{ConfigView};
+
+    ghost Value = { ConfigView };
+
+    ghost view = { λ l. l.config };
+}
+
+impl LoadedConfig {
+    /// The configuration.
+    pub fn config(&self) -> &Config
+        ensures { result.now ≡ self.now }
+    {
+        &self.config
+    }
+
+    /// The configuration, without its bytes.
+    pub fn into_config(self) -> Config
+        ensures { result ≡ self }
+    {
+        self.config
+    }
+
+    /// The digest of the bytes' value, by which services tell which configuration they have. Only memory may be refused: bytes that
+    /// are a configuration are JSON.
+    pub fn digest(&self, alloc: Global) -> Result<String, Fault>
+        ensures { IfErr result (λ fault. fault ≡ Fault.Memory) }
+    {
+        match config_digest(alloc, self.bytes.as_slice()) {
+            Ok(digest) => Ok(digest),
+            Err(_) => Err(Fault::Memory),
+        }
+    }
+}
+
+/// The configuration in the file at a path, which is loaded once, with the bytes of the file.
+pub fn load_whole_config<S: Sources>(
+    alloc: Global,
+    path: &str,
+    sources: &mut S,
+) -> Result<LoadedConfig, Fault>
     ensures { LoadsConfig path.now (S.told sources.old) result (S.told sources.new) }
 {
     let bytes = load_bytes(alloc, path, sources)?;
     if bytes.len() > MOST_CONFIG_BYTES {
         return Err(Fault::Plan(PlanError::TooLarge));
     }
-    Ok(Config::read(alloc, bytes.as_slice())?)
+    let config = Config::read(alloc, bytes.as_slice())?;
+    Ok(LoadedConfig { config, bytes })
+}
+
+/// The configuration in the file at a path, which is loaded once.
+pub fn load_config<S: Sources>(alloc: Global, path: &str, sources: &mut S) -> Result<Config, Fault>
+    ensures { LoadsConfig path.now (S.told sources.old) result (S.told sources.new) }
+{
+    let loaded = load_whole_config(alloc, path, sources)?;
+    Ok(loaded.into_config())
 }
 
 /// The request that the input holds with one more piece of it, if it holds one yet.

@@ -1,23 +1,27 @@
 //! The commands that serve clients: what is asked of the machine, and what is printed once all clients have ended.
-ghost use Rattle.std.specs.Prelude.{◌≡◌, IfOk};
+ghost use Rattle.std.specs.Prelude.{◌≡◌, Err, IfOk, IsSome, MatchResult};
+ghost use Rattle.mr_proxy.specs.ProxyView.{IsFresh};
+ghost use Rattle.mr_sockets.specs.Servers.{IsOneService, ProxyAt};
 ghost use Rattle.mr_text.specs.Sink.{SinkView};
 ghost use Rattle.mr_text.specs.Source.{SourceView};
 ghost use Rattle.mr_tool.specs.Devices.{devices};
 ghost use Rattle.mr_tool.specs.Fault.{IsNetFault};
-ghost use Rattle.mr_tool.specs.Services.{served_line, EndsService, MakesNode, NodeGives, ProxyGives};
+ghost use Rattle.mr_tool.specs.Services.{served_line, EndsService, MakesNode, NodeGives, ProxyGives, places_of_proxy};
 ghost use Rattle.mr_tool.specs.Sources.{SourcesView};
+ghost use Rattle.mr_words.specs.Words.{path_in};
 
 use crate::ended::Ended;
 use crate::fault::Fault;
-use crate::input::load_config;
+use crate::input::{LoadedConfig, load_whole_config};
 use crate::line::push_number;
 use crate::printing::write_at_once;
 use crate::sources::Sources;
+use mr_counting::LegTotals;
 use mr_node::NodeError;
 use mr_proxy::ProxyCore;
-use mr_sockets::{HostServers, OpenFault, Patience, SeededNode, ServiceBounds};
+use mr_sockets::{HostServers, OpenFault, Patience, Scraped, SeededNode, ServiceBounds};
 use mr_text::Sink;
-use mr_words::{NodeValues, ProxyValues};
+use mr_words::{NodeValues, ProxyValues, version_number};
 use std::alloc::{AllocError, Global};
 use std::net::{Net, TcpListener, TcpStream};
 use std::random::RandomSource;
@@ -46,19 +50,23 @@ fn line_of(alloc: Global, served: u64) -> Result<Vec<u8>, AllocError>
     Ok(text)
 }
 
-/// Writes what came of a service: how many of its clients ended without a fault, or that it had no socket.
+/// Writes what came of a service: how many of its clients ended without a fault, or which socket it lacked.
 fn end_service<O: Sink>(
     alloc: Global,
     listen: &str,
+    metrics: Option<&str>,
     clients: u64,
     served: Result<u64, OpenFault>,
     output: &mut O,
 ) -> Result<Ended, Fault>
-    ensures { EndsService listen.now clients served (O.told output.old) (O.told output.new) result }
+    requires { served ≡ Err OpenFault.Metrics → IsSome metrics }
+    ensures { EndsService (record { listen = listen.now; metrics = path_in metrics.entry }) clients served
+        (O.told output.old) (O.told output.new) result }
 {
     let served = match served {
         Ok(served) => served,
         Err(OpenFault::Net) => return Err(net_fault(alloc, listen)),
+        Err(OpenFault::Metrics) => return Err(net_fault(alloc, metrics.unwrap_or(listen))),
     };
     let line = line_of(alloc, served)?;
     write_at_once(line.as_slice(), output)?;
@@ -86,6 +94,16 @@ fn make_node<
     let seed = servers.draw_seed()?;
     let node = SeededNode::new(alloc, capacity as usize, seed)?;
     Ok(node)
+}
+
+/// Metrics that are told there, by this version of the program.
+fn scraped_at<'a>(address: &'a str) -> Scraped<'a>
+    ensures { result.address.now ≡ address.entry.now }
+{
+    Scraped {
+        address,
+        version: version_number(),
+    }
 }
 
 /// Serves a node, and writes how many of its clients ended without a fault once all have.
@@ -116,8 +134,60 @@ pub fn run_node<
             leg_millis: 0,
         },
     };
-    let served = servers.serve_node(alloc, values.listen, node, bounds);
-    end_service(alloc, values.listen, values.clients, served, output)
+    let served = match values.metrics {
+        None => servers.serve_node(alloc, values.listen, node, bounds),
+        Some(address) => {
+            servers.tell_node(alloc, values.listen, scraped_at(address), node, bounds)
+        }
+    };
+    end_service(
+        alloc,
+        values.listen,
+        values.metrics,
+        values.clients,
+        served,
+        output,
+    )
+}
+
+/// Serves a fresh proxy by this configuration where the values say, and tells its metrics if they say where. Memory is refused for
+/// the digest of the configuration or for counts of its nodes, and then no service was asked for.
+fn serve_loaded<
+    R: Net<Listener = TcpListener, Stream = TcpStream>
+        + Threads
+        + Wait
+        + time::Clock
+        + RandomSource
+        + Sync,
+>(
+    alloc: Global,
+    values: &ProxyValues,
+    servers: &mut HostServers<'_, R>,
+    loaded: &LoadedConfig,
+    core: ProxyCore,
+    bounds: ServiceBounds,
+) -> Result<Result<u64, OpenFault>, Fault>
+    requires { IsFresh core }
+    ensures { MatchResult result
+        (λ served. IsOneService (ProxyAt (places_of_proxy values.now) core loaded.now.routing bounds) servers.old served servers.new)
+        (λ fault. (fault ≡ Fault.Memory) × (servers.new ≡ servers.old)) }
+{
+    let routing = loaded.config().routing();
+    let Some(address) = values.metrics else {
+        return Ok(servers.serve_proxy(alloc, values.listen, core, routing, bounds));
+    };
+    let digest = loaded.digest(alloc)?;
+    let totals = LegTotals::new(alloc, routing)?;
+    Ok(servers.tell_proxy(
+        alloc,
+        values.listen,
+        scraped_at(address),
+        digest.as_str(),
+        core,
+        routing,
+        &totals,
+        bounds,
+    ))
 }
 
 /// Serves a proxy by the configuration in a file, and writes how many of its clients ended without a fault once all have.
@@ -141,7 +211,8 @@ pub fn run_proxy<
         (devices (S.told sources.old) input (O.told output.old) faults)
         (devices (S.told sources.new) input (O.told output.new) faults) servers.old servers.new result }
 {
-    let config = load_config(alloc, values.config, sources)?;
+    let loaded = load_whole_config(alloc, values.config, sources)?;
+    let config = loaded.config();
     let routing = config.routing().copy()?;
     let core = ProxyCore::new(alloc, 0, 0, routing, config.schedule(), values.room);
     let bounds = ServiceBounds {
@@ -152,6 +223,13 @@ pub fn run_proxy<
             leg_millis: values.leg_timeout,
         },
     };
-    let served = servers.serve_proxy(alloc, values.listen, core, config.routing(), bounds);
-    end_service(alloc, values.listen, values.clients, served, output)
+    let served = serve_loaded(alloc, values, servers, &loaded, core, bounds)?;
+    end_service(
+        alloc,
+        values.listen,
+        values.metrics,
+        values.clients,
+        served,
+        output,
+    )
 }

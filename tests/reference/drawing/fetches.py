@@ -6,12 +6,15 @@ from .sources import Source
 from .spelling import spelled
 
 HOSTS = ("127.0.0.1:9100", "localhost:1", "[::1]:9100", "here", "", "h\u00e9")
-STATUSES = (*[b"200 OK"] * 30, b"200", b"200 ", b"200 \t\xff", b"201 Created", b"404 Not Found", b"503 Service Unavailable", b"100", b"2000", b"20", b"")
+STATUSES = (*[b"200 OK"] * 30, b"200", b"200 ", b"200 \t\xff", b"201 Created", b"404 Not Found", b"503 Service Unavailable",
+            b"100", b"2000", b"20", b"")  # fmt: skip
 VERSIONS = (*[b"HTTP/1.1"] * 20, b"HTTP/1.0", b"HTTP/1.2", b"HTTP/2.0", b"http/1.1", b" HTTP/1.1")
 FIELDS = (b"Content-Type: text/plain", b"Connection: close", b"X:", b"A-b: \t c ", b"Content-Lengths: 1", b"X: Content-Length: 1")
 BODIES = (b"", b"a 1\n", b"\r\n\r\n", b"HTTP/1.1 200 OK\r\n\r\n", b"5\r\nmetri\r\n0\r\n\r\n", b"x" * 4096, b"y" * 9000)
-STATS = (b"STAT curr_items 5\r\n", b"STAT get_hits 7\r\n", b"STAT a b c\r\n", b"END", b"\r\n", b"END\r\n", b"ERROR\r\n", b"\n", b"x" * 5000, b"z" * 40_000)
-ODD_JSON = (b" [1, 2 ]\n", b"null", b"true", b'""', b"18446744073709551615", b"-9223372036854775808", b'{"b":1,"a":2,"b":3}', b'{"\\u00e9":1,"z":2,"\xf0\x9f\x98\x80":3,"\\uffee":4}',
+STATS = (b"STAT curr_items 5\r\n", b"STAT get_hits 7\r\n", b"STAT a b c\r\n", b"END", b"\r\n", b"END\r\n", b"ERROR\r\n", b"\n",
+         b"x" * 5000, b"z" * 40_000)  # fmt: skip
+ODD_JSON = (b" [1, 2 ]\n", b"null", b"true", b'""', b"18446744073709551615", b"-9223372036854775808", b'{"b":1,"a":2,"b":3}',
+            b'{"\\u00e9":1,"z":2,"\xf0\x9f\x98\x80":3,"\\uffee":4}',
             b'["\\u0000\\u001f\\u007f\\"\\\\\\/\\b\\f\\n\\r\\t"]', b"[" * 127 + b"]" * 127)  # fmt: skip
 
 
