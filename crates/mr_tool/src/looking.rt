@@ -32,7 +32,11 @@ fn stats_of<
         + time::Clock
         + RandomSource
         + Sync,
->(alloc: Global, servers: &HostServers<'_, R>, name: &str) -> Result<Option<StatsTold>, AllocError> {
+>(
+    alloc: Global,
+    servers: &HostServers<'_, R>,
+    name: &str,
+) -> Result<Option<StatsTold>, AllocError> {
     match servers.stats_at(alloc, name)? {
         Some(answer) => Ok(read_stats(answer.as_slice())),
         None => Ok(None),

@@ -3,12 +3,11 @@
 use mr_sockets::HostServers;
 use mr_watch::{NodeTold, ProxySeen, ProxyTold, Told, read_told};
 use std::alloc::{AllocError, Global};
-use std::mem;
 use std::net::{Net, TcpListener, TcpStream};
 use std::random::RandomSource;
 use std::sync::Wait;
 use std::thread::Threads;
-use std::time;
+use std::{mem, time};
 
 /// What a service is, by what it told last.
 #[derive(Clone, Copy, Debug, PartialEq, Eq)]
@@ -191,7 +190,10 @@ pub fn ask_proxies<
 }
 
 /// The proxies as this look saw them: all services but nodes.
-pub fn proxies_in<'b>(alloc: Global, posts: &'b [Post<'_>]) -> Result<Vec<ProxySeen<'b>>, AllocError> {
+pub fn proxies_in<'b>(
+    alloc: Global,
+    posts: &'b [Post<'_>],
+) -> Result<Vec<ProxySeen<'b>>, AllocError> {
     let mut proxies = Vec::new(alloc);
     for post in posts {
         if post.kind() != Kind::Node {
