@@ -88,6 +88,7 @@ pub const NODE_NOTES: &str = notes!(
     The capacity counts items, not bytes: a key has at most 250 bytes, a value at most 1,048,576. An item that is used\n\
     least recently makes way for a new one.\n\
     A client that sends nothing, or reads nothing of what it is answered, for --idle-timeout seconds is dropped.\n\
+    With --metrics, GET /metrics is answered at that address, for Prometheus; docs/METRICS.md says what is told.\n\
     The standard input isn't read. Once all connections have ended, 'served <n>' is printed: the number of those that\n\
     ended without a fault. Where that isn't all of them, the status is 1. With --forever it serves until a signal ends it.",
     "migctl node --listen 127.0.0.1:11211 --capacity 4096 --forever"
@@ -101,6 +102,7 @@ pub const PROXY_NOTES: &str = notes!(
     The turns bound the reads of a node too, for each leg of a request.\n\
     A leg whose node lets it wait for --leg-timeout milliseconds is lost, as one whose connection broke. A client that\n\
     sends nothing, or reads nothing of what it is answered, for --idle-timeout seconds is dropped.\n\
+    With --metrics, GET /metrics is answered at that address, for Prometheus; docs/METRICS.md says what is told.\n\
     The standard input isn't read. Once all connections have ended, 'served <n>' is printed: the number of those that\n\
     ended without a fault. Where that isn't all of them, the status is 1. With --forever it serves until a signal ends it.",
     "migctl proxy --config fleet.json --listen 127.0.0.1:11210 --room 256 --forever"

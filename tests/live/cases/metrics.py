@@ -1,0 +1,314 @@
+"""Metrics: what running nodes and proxies tell those that scrape them, and what these can't hinder."""
+import hashlib
+import json
+import pathlib
+import random
+import socket
+import threading
+import time
+
+from client import BUSY, DELETED, LOST, MISS, NOT_FOUND, STORED, Client, delete_of, get_of, hits, set_of
+from fleet import Fleet
+from moments import moment
+from placing import key_at
+from ports import place_at
+from running import case
+from scraping import asked, scraped, wait_for
+from wanted import check, check_true
+
+ANSWERS = ("hit", "miss", "stored", "deleted", "not found", "leg lost", "busy", "out of memory", "clock fault", "other fault")
+
+
+class Told:
+    """A service that tells its metrics at an address of their own."""
+
+    def __init__(self, fleet, serve):
+        self.address = fleet.keep(place_at("127.0.0.1")).address()
+        self.service = serve("--metrics", self.address)
+
+    def samples(self):
+        """All that it tells now."""
+        return scraped(self.address)
+
+
+def told_node(fleet, *words, **how):
+    return Told(fleet, lambda *more: fleet.node(*words, *more, **how))
+
+
+def told_proxy(fleet, config, *words, **how):
+    return Told(fleet, lambda *more: fleet.proxy(config, *words, *more, **how))
+
+
+def counted(samples, name, *labels):
+    """The samples of one family, at each value of a label."""
+    return {label: samples[(name, label)] for label in labels}
+
+
+@case
+def a_node_counts_what_it_performs():
+    with Fleet() as fleet:
+        told = told_node(fleet, "--capacity", "2")
+        client = told.service.client()
+        client.ask(set_of("a", "1") + set_of("b", "2") + get_of("a", "x"), STORED * 2 + hits(("a", "1")))
+        client.ask(set_of("c", "3") + get_of("b", "a"), STORED + hits(("a", "1")))
+        client.ask(set_of("a", "4", noreply=True) + delete_of("c") + delete_of("c"), DELETED + NOT_FOUND)
+        client.ask(set_of("d", "5", exptime=-1) + get_of("d"), STORED + MISS)
+        samples = told.samples()
+        check("items", (1, 2), (samples[("migctl_node_items",)], samples[("migctl_node_capacity_items",)]))
+        check("gets", {"hit": 2, "miss": 3}, counted(samples, "migctl_node_gets_total", "hit", "miss"))
+        check("sets", 5, samples[("migctl_node_sets_total",)])
+        check("deletes", {"deleted": 1, "not found": 1}, counted(samples, "migctl_node_deletes_total", "deleted", "not found"))
+        check("evictions", 1, samples[("migctl_node_evictions_total",)])
+        check("its address", 1, samples[("migctl_node_info", told.service.address)])
+        check("steps back", 0, samples[("migctl_clock_steps_back_total",)])
+        now = time.time()
+        check_true("its clock is this machine's", abs(samples[("migctl_clock_seconds",)] - now) <= 2)
+        check_true("it began a while ago", 0 <= now - samples[("migctl_start_time_seconds",)] < 60)
+
+
+@case
+def a_set_in_a_full_node_evicts_one_item():
+    """One that keeps nothing, and one of a key that is there, evict none."""
+    with Fleet() as fleet:
+        told = told_node(fleet, "--capacity", "3")
+        client = told.service.client()
+        for key in "abc":
+            client.ask(set_of(key, "v"), STORED)
+        for request, evicted in (
+            (set_of("a", "w"), 0),
+            (set_of("d", "v", exptime=-1), 0),
+            (set_of("d", "v", exptime=2592001), 0),
+            (set_of("d", "v", exptime=100), 1),
+            (set_of("e", "v"), 2),
+        ):
+            client.ask(request, STORED)
+            check(f"evictions after {request!r}", evicted, told.samples()[("migctl_node_evictions_total",)])
+
+
+@case
+def connections_are_counted():
+    with Fleet() as fleet:
+        for told in (told_node(fleet), told_proxy(fleet, fleet.config([fleet.node()]))):
+            clients = told.service.clients(3)
+            for client in clients:
+                client.ask(get_of("k"), MISS)
+            samples = told.samples()
+            check("open and in all", (3, 3), (samples[("migctl_open_connections",)], samples[("migctl_connections_total",)]))
+            clients[0].close()
+            wait_for(told.address, ("migctl_open_connections",), 2)
+            check("in all", 3, told.samples()[("migctl_connections_total",)])
+
+
+@case
+def a_proxy_counts_what_it_answers():
+    """A get of a key twice is two legs and two hits; what asks for no answer counts; a leg to what doesn't run is lost."""
+    with Fleet() as fleet:
+        node, dead = fleet.node(), fleet.keep(place_at("127.0.0.1")).address()
+        told = told_proxy(fleet, fleet.config([node, dead], hash_name="sum"))
+        client = told.service.client()
+        here, lost = key_at(0, 2, "sum", "h"), key_at(1, 2, "sum", "l")
+        client.ask(set_of(here, "v") + get_of(here, here), STORED + hits((here, "v"), (here, "v")))
+        client.ask(delete_of(here) + delete_of(here), DELETED + NOT_FOUND)
+        client.ask(get_of(here), MISS)
+        client.ask(get_of(lost) + set_of(lost, "v") + get_of(here, lost), LOST * 3)
+        client.ask(set_of(here, "v", noreply=True) + get_of(here), hits((here, "v")))
+        samples = told.samples()
+        wanted = {it: 0 for it in ANSWERS} | {"hit": 3, "miss": 1, "stored": 2, "deleted": 1, "not found": 1, "leg lost": 3}
+        check("answers", wanted, counted(samples, "migctl_proxy_answers_total", *ANSWERS))
+        check("requests", {"get": 5, "set": 3, "delete": 2}, requests_of(samples, "old-only"))
+        check("under way", 0, samples[("migctl_proxy_requests_under_way",)])
+        check("room", 64, samples[("migctl_proxy_room_requests",)])
+        legs = {name[1:]: number for name, number in samples.items() if name[0] == "migctl_proxy_legs_total" and name[1] == "0"}
+        wanted = {
+            ("0", node.address, "carried"): 9,
+            ("0", node.address, "lost"): 0,
+            ("0", dead, "carried"): 0,
+            ("0", dead, "lost"): 3,
+        }
+        check("legs", wanted, legs)
+        check("each leg was timed", 12, samples[("migctl_proxy_leg_seconds_count",)])
+        check("the last bound has all", 12, samples[("migctl_proxy_leg_seconds_bucket", "+Inf")])
+
+
+def requests_of(samples, phase):
+    """The requests of each command in a phase."""
+    return {command: samples[("migctl_proxy_requests_total", command, phase)] for command in ("get", "set", "delete")}
+
+
+@case
+def a_proxy_without_room_counts_who_it_turns_away():
+    with Fleet() as fleet:
+        told = told_proxy(fleet, fleet.config([fleet.node()]), "--room", "0")
+        told.service.ask(get_of("k"), BUSY)
+        samples = told.samples()
+        check("busy", 1, samples[("migctl_proxy_answers_total", "busy")])
+        check("issued none", {"get": 0, "set": 0, "delete": 0}, requests_of(samples, "old-only"))
+        check_true("no last issue", ("migctl_proxy_last_issue_seconds",) not in samples)
+
+
+@case
+def a_proxy_tells_its_configuration_by_its_value():
+    """Two files of one value have one digest, and another value has another."""
+    with Fleet() as fleet:
+        node, other = fleet.node(), fleet.node()
+        first = fleet.config([node], new=[other])
+        value = json.loads(pathlib.Path(first).read_bytes())
+        spread = fleet.new_file(json.dumps(value, indent=3, sort_keys=True).encode() + b"\n")
+        third = fleet.config([node], new=[other], start=5)
+        wanted = hashlib.sha256(json.dumps(value, sort_keys=True, separators=(",", ":")).encode()).hexdigest()
+        digests = []
+        for config in (first, spread, third):
+            samples = told_proxy(fleet, config).samples()
+            digests += [name[1] for name in samples if name[0] == "migctl_proxy_config_info"]
+        check("the first digest", wanted, digests[0])
+        check("the second", wanted, digests[1])
+        check_true("the third is another", digests[2] != wanted)
+
+
+PHASES = ("old-only", "both-read-old", "both-read-new", "new-only")
+
+
+@case(waits=True)
+def a_proxy_tells_its_phase_and_counts_by_it():
+    with Fleet() as fleet:
+        old, new = fleet.node(), fleet.node()
+        start, interval = int(time.time()) + 3, 3
+        told = told_proxy(fleet, fleet.config([old], new=[new], start=start, interval=interval))
+        client = told.service.client()
+        bounds = [start + n * interval for n in range(3)]
+        for number, phase in enumerate(PHASES):
+            with moment(start - 2 + number * interval):
+                client.ask(delete_of("k"), NOT_FOUND)
+                samples = told.samples()
+                check("its phase", {it: int(it == phase) for it in PHASES}, counted(samples, "migctl_proxy_phase", *PHASES))
+                check("its hop", 0, samples[("migctl_proxy_hop",)])
+                check("the next bound", bounds[number] if number < 3 else None, samples.get(("migctl_proxy_next_phase_seconds",)))
+                for other, it in enumerate(PHASES):
+                    check(f"deletes in {it}", int(other <= number), samples[("migctl_proxy_requests_total", "delete", it)])
+                check("the last issue", start - 2 + number * interval, samples[("migctl_proxy_last_issue_seconds",)])
+
+
+@case
+def what_else_is_asked_is_refused():
+    with Fleet() as fleet:
+        told = told_node(fleet)
+        wanted = asked(told.address)
+        for method, path, status in (
+            ("HEAD", "/metrics", 200),
+            ("GET", "/", 404),
+            ("POST", "/other", 404),
+            ("POST", "/metrics", 405),
+            ("DELETE", "/metrics", 405),
+        ):
+            got, fields, body = asked(told.address, method, path)
+            check(f"{method} {path}", status, got)
+            check_true("the connection is closed", fields["Connection"] == "close")
+            if method == "HEAD":
+                check("a HEAD has no body", b"", body)
+                check_true("but its length", abs(int(fields["Content-Length"]) - len(wanted[2])) < 20)
+            if status == 405:
+                check("what is allowed", "GET, HEAD", fields["Allow"])
+        for request, status in ((b"nonsense\r\n\r\n", 400), (b"GET /metrics HTTP/1.1\r\nX: " + b"a" * 8200, 431)):
+            check(f"the answer to {request[:30]!r}", status, status_of(told.address, request))
+
+
+def status_of(address, request):
+    """The status of the answer to these bytes."""
+    with Client(address) as client:
+        client.send(request)
+        return int(client.line().split()[1])
+
+
+@case
+def a_post_with_a_body_is_answered():
+    """What stands behind the head is read, so that no reset takes the answer along."""
+    with Fleet() as fleet:
+        told = told_node(fleet)
+        for _ in range(20):
+            request = b"POST /metrics HTTP/1.1\r\nContent-Length: 20000\r\n\r\n" + b"x" * 20000
+            check("the answer to a POST", 405, status_of(told.address, request))
+
+
+@case(waits=True)
+def slow_scrapers_hinder_nobody():
+    """A hundred that send a byte now and then are ended, and meanwhile clients are served and, a while later, scrapers too."""
+    with Fleet() as fleet:
+        for told in (told_node(fleet), told_proxy(fleet, fleet.config([fleet.node()]))):
+            slow = [fleet.keep(Client(told.address)) for _ in range(100)]
+            began = time.monotonic()
+            client = told.service.client()
+            while time.monotonic() - began < 6.5:
+                for it in slow:
+                    try:
+                        it.socket.send(b"G")
+                    except OSError:
+                        pass
+                client.ask(set_of("k", "v") + get_of("k"), STORED + hits(("k", "v")))
+                time.sleep(0.3)
+            ended = 0
+            for it in slow:
+                it.socket.settimeout(0.1)
+                try:
+                    ended += it.socket.recv(100) == b""
+                except ConnectionError:
+                    ended += 1
+                except TimeoutError:
+                    pass
+            check("slow scrapers that were ended", 100, ended)
+            check_true("scrapers are served", told.samples()[("migctl_connections_total",)] == 1)
+
+
+@case
+def nonsense_at_the_metrics_hinders_nobody():
+    """Altered heads, while clients are served."""
+    with Fleet() as fleet:
+        told = told_node(fleet)
+        stop = threading.Event()
+        failed = []
+
+        def serve():
+            try:
+                with Client(told.service.address) as client:
+                    while not stop.is_set():
+                        client.ask(set_of("k", "v") + get_of("k"), STORED + hits(("k", "v")))
+            except Exception as error:  # noqa: BLE001 (told below)
+                failed.append(error)
+
+        thread = threading.Thread(target=serve)
+        thread.start()
+        source = random.Random(7)
+        try:
+            for _ in range(300):
+                head = bytearray(b"GET /metrics HTTP/1.1\r\nHost: here\r\n\r\n")
+                for _ in range(source.randrange(4)):
+                    head[source.randrange(len(head))] = source.randrange(256)
+                with Client(told.address) as client:
+                    client.send(bytes(head))
+                    client.socket.shutdown(socket.SHUT_WR)
+                    check_true("the answer is one of HTTP", client.line().startswith(b"HTTP/1.1 "))
+        finally:
+            stop.set()
+            thread.join()
+        check("clients that failed", [], failed)
+        check("it tells still", 1, told.samples()[("migctl_node_info", told.service.address)])
+
+
+@case
+def a_service_with_metrics_ends_with_its_clients():
+    with Fleet() as fleet:
+        told = Told(fleet, lambda *more: fleet.node(*more, clients=2))
+        for _ in range(2):
+            told.service.ask(get_of("k"), MISS)
+        told.service.expect_served(2)
+
+
+@case
+def an_address_of_metrics_that_cannot_be_had_is_told():
+    with Fleet() as fleet:
+        taken = fleet.node().address
+        listen = fleet.keep(place_at("127.0.0.1")).address()
+        config = fleet.config([taken])
+        for words in (("node",), ("proxy", "--config", config)):
+            for address in (taken, "nowhere:1", ""):
+                got = fleet.run(*words, "--listen", listen, "--metrics", address)
+                check(f"{words[0]} with metrics at {address}", (1, b"", b"migctl: net %s\n" % address.encode()), got)
