@@ -11,15 +11,12 @@ use Rattle.mr_configs.specs.Config.{ConfigView}
 use Rattle.mr_words.specs.declared.watch_words.WatchValues.{WatchValues}
 use Rattle.mr_tool.specs.Devices.{Devices}
 use Rattle.mr_tool.specs.Input.{LoadsConfig}
-use Rattle.mr_tool.specs.Printing.{WritesAtOnce, fault_of_printing}
 use Rattle.mr_tool.specs.declared.ended.Ended.{Ended}
-use Rattle.mr_tool.specs.WatchCommand.{EndsWatch, FailsToWrite, HasEnded, HasLooked, HasShown, HasWatched, IsLook, LacksMemoryBehind, Looks, StopsBehind, WatchGives, WatchLacksMemory, WatchStops, WatchesConfig, WritesAll, WritesLook, WritesLooks, WritesView, all_shown, found_by, is_first}
+use Rattle.mr_tool.specs.WatchCommand.{EndsWatch, FailsToWrite, HasEnded, HasLooked, HasShown, HasWatched, IsLook, LacksMemoryBehind, Looks, StopsBehind, WatchGives, WatchLacksMemory, WatchStops, WatchesConfig, WritesLook, WritesLooks, WritesView, all_shown, found_by, is_first}
 use Rattle.mr_tool.specs.WatchText.{MayShow, end_of_watch, last_lines, shown}
 use Rattle.mr_tool.specs.declared.fault.Fault.{Fault}
 use Rattle.mr_tool.specs.declared.fault.Fault.TheVariants.{Memory, Input, Output, File, Net, Plan, Node, Text}
 use Rattle.mr_tool.specs.declared.manner.Manner.{Manner}
-use Rattle.mr_tool.specs.declared.printing.PrintFault.{PrintFault}
-use Rattle.mr_tool.specs.declared.printing.PrintFault.TheVariants as print
 use Rattle.mr_tool.specs.declared.watch.Found.{Found}
 
 -- Looks were written so far, with these findings; the next one is the first one, or not. Where there is to be one alone, there was
@@ -27,16 +24,16 @@ use Rattle.mr_tool.specs.declared.watch.Found.{Found}
 pub record IsUnderway (manner : Manner) (once : Bool) (hops : List Hop) (old : SinkView) (findings : Findings) (first : Bool) (new : SinkView) : Type 0 where
   pub looks : Looks
   pub shown : HasShown manner once hops looks old new
-  pub findings : findings ≡ found_by looks
-  pub first : first ≡ is_first looks
+  pub are_found : findings ≡ found_by looks
+  pub is_first : first ≡ is_first looks
   pub fresh : once ≡ true → looks ≡ []
 
 pub underway_at_first : (manner : Manner) (once : Bool) (hops : List Hop) (w : SinkView) → IsUnderway manner once hops w all_unseen true w
 underway_at_first manner once hops w = record {
   looks = [];
   shown = record { are_looks = tt; alone = λ e. omega arith; writes = written_none w };
-  findings = refl;
-  first = refl;
+  are_found = refl;
+  is_first = refl;
   fresh = λ e. refl;
 }
 
@@ -45,9 +42,9 @@ module _ (manner : Manner) (once : Bool) (hops : List Hop) (old mid new : SinkVi
   one_more : (u : IsUnderway manner once hops old findings first mid) (w : WritesView manner first findings hops mid found new)
       → HasShown manner once hops (w.view ∷ u.looks) old new
   one_more u w =
-      let is : IsLook hops (found_by u.looks) w.view = subst (λ (f : Findings). IsLook hops f w.view) u.findings w.is_look in
+      let is : IsLook hops (found_by u.looks) w.view = subst (λ (f : Findings). IsLook hops f w.view) u.are_found w.is_look in
       let same : shown manner first findings w.view ≡ shown manner (is_first u.looks) (found_by u.looks) w.view =
-      ap (λ (b : Bool). shown manner b findings w.view) u.first ∙ ap (λ (f : Findings). shown manner (is_first u.looks) f w.view) u.findings in
+      ap (λ (b : Bool). shown manner b findings w.view) u.is_first ∙ ap (λ (f : Findings). shown manner (is_first u.looks) f w.view) u.are_found in
       let writes = subst (λ (text : List ℕ). HasWritten text mid new) same w.writes in
       record {
         are_looks = (is, u.shown.are_looks);
@@ -58,7 +55,7 @@ module _ (manner : Manner) (once : Bool) (hops : List Hop) (old mid new : SinkVi
   -- it was the last one
   pub looked_last : IsUnderway manner once hops old findings first mid → WritesView manner first findings hops mid found new
       → HasLooked manner once hops old found.findings new
-  looked_last u w = record { looks = w.view ∷ u.looks; shown = one_more u w; findings = w.findings }
+  looked_last u w = record { looks = w.view ∷ u.looks; shown = one_more u w; are_found = w.findings }
 
   -- it wasn't
   pub underway_more : IsUnderway manner once hops old findings first mid → WritesView manner first findings hops mid found new → once ≡ false
@@ -66,15 +63,15 @@ module _ (manner : Manner) (once : Bool) (hops : List Hop) (old mid new : SinkVi
   underway_more u w more = record {
     looks = w.view ∷ u.looks;
     shown = one_more u w;
-    findings = w.findings;
-    first = refl;
+    are_found = w.findings;
+    is_first = refl;
     fresh = λ e. let never : true ≡ false = sym e ∙ more in cc;
   }
 
 -- all looks that there may be were made
 pub looked_all : (manner : Manner) (once : Bool) (hops : List Hop) (old new : SinkView) (findings : Findings) (first : Bool)
     → IsUnderway manner once hops old findings first new → HasLooked manner once hops old findings new
-looked_all manner once hops old new findings first u = record { looks = u.looks; shown = u.shown; findings = u.findings }
+looked_all manner once hops old new findings first u = record { looks = u.looks; shown = u.shown; are_found = u.are_found }
 
 -- a write of the next one failed
 pub stops_behind : (manner : Manner) (once : Bool) (hops : List Hop) (old mid new : SinkView) (findings : Findings) (first : Bool)
@@ -88,23 +85,10 @@ pub lacks_behind : (manner : Manner) (once : Bool) (hops : List Hop) (old mid ne
 lacks_behind manner once hops old mid new findings first u same =
     record { looks = u.looks; shown = subst (λ (w : SinkView). HasShown manner once hops u.looks old w) (sym same) u.shown }
 
--- a text that wasn't written
-pub write_fails : {T : Type 0} (holds : Result T Fault → Type 0) (result : Result T Fault) (failed : PrintFault) (text : List ℕ) (old new : SinkView)
-    → IsErrAnd result (λ other. other ≡ fault_of_printing failed) → WritesAll text old (Err failed) new → (new ≡ old → holds (Err Memory))
-    → (FailsToWrite text old new → holds (Err Output)) → holds result
-write_fails holds result print.Memory text old new is writes of_memory of_output = faulted holds result Memory is (of_memory writes)
-write_fails holds result print.Write text old new is writes of_memory of_output = faulted holds result Output is (of_output writes)
-
--- nothing is written where there is nothing to write
-pub nothing_written : (text : List ℕ) (w : SinkView) → text ≡ [] → HasWritten text w w
-nothing_written text w none = subst (λ (t : List ℕ). HasWritten t w w) (sym none) (written_none w)
-
--- a text that goes out in one call
-pub written_at_once : (text : List ℕ) (result : Result (Unit {0}) PrintFault) (old new : SinkView) → WritesAtOnce text old result new
-    → WritesAll text old result new
-written_at_once text (Ok _) old new h = h.0
-written_at_once text (Err print.Write) old new h = h
-written_at_once text (Err print.Memory) old new h = h
+-- memory was refused before the first look
+pub nothing_watched : (json once : Bool) (manner : Manner) (hops : List Hop) (w : SinkView) → MayShow json once manner → WatchLacksMemory json once hops w w
+nothing_watched json once manner hops w may =
+    record { manner = manner; may_show = may; lacks = record { looks = []; shown = record { are_looks = tt; alone = λ e. omega arith; writes = written_none w } } }
 
 -- the looks and then the last lines
 pub watched : (json once : Bool) (manner : Manner) (hops : List Hop) (old mid new : SinkView) (findings : Findings) (ended : Ended) → MayShow json once manner
@@ -117,8 +101,8 @@ watched json once manner hops old mid new findings ended may looked end = record
   alone = looked.shown.alone;
   unreached = end.unreached;
   writes = written_then (all_shown manner looked.looks) _ old mid new looked.shown.writes
-      (subst (λ (f : Findings). HasWritten (last_lines manner f end.unreached) mid new) looked.findings end.writes);
-  ends = end.ends ∙ ap (λ (f : Findings). end_of_watch f end.unreached) looked.findings;
+      (subst (λ (f : Findings). HasWritten (last_lines manner f end.unreached) mid new) looked.are_found end.writes);
+  ends = end.ends ∙ ap (λ (f : Findings). end_of_watch f end.unreached) looked.are_found;
 }
 
 -- looks were written, but not the last lines

@@ -16,6 +16,7 @@ use Rattle.mr_tool.specs.WatchText.{MayShow, shown, last_lines, end_of_watch}
 use Rattle.mr_tool.specs.declared.ended.Ended.{Ended}
 use Rattle.mr_tool.specs.declared.fault.Fault.{Fault}
 use Rattle.mr_tool.specs.declared.fault.Fault.TheVariants.{Memory, Output, File, Plan}
+use Rattle.mr_tool.specs.declared.last_lines.Unreached.{Unreached}
 use Rattle.mr_tool.specs.declared.manner.Manner.{Manner}
 use Rattle.mr_tool.specs.declared.printing.PrintFault.{PrintFault}
 use Rattle.mr_tool.specs.declared.printing.PrintFault.TheVariants as print
@@ -84,7 +85,7 @@ pub record HasShown (manner : Manner) (once : Bool) (hops : List Hop) (looks : L
 pub record HasLooked (manner : Manner) (once : Bool) (hops : List Hop) (old : SinkView) (findings : Findings) (new : SinkView) : Type 0 where
   pub looks : Looks
   pub shown : HasShown manner once hops looks old new
-  pub findings : findings ≡ found_by looks
+  pub are_found : findings ≡ found_by looks
 
 -- looks were written, and stay, and then one call that was to write a text failed
 pub record StopsBehind (manner : Manner) (once : Bool) (hops : List Hop) (old new : SinkView) : Type 0 where
@@ -108,7 +109,7 @@ WritesLooks manner once hops old (Err fault) new = ⊥
 
 -- the last lines went out, of these findings and of these services that were never reached
 pub record HasEnded (manner : Manner) (findings : Findings) (old : SinkView) (ended : Ended) (new : SinkView) : Type 0 where
-  pub unreached : List (List ℕ)
+  pub unreached : List Unreached
   pub writes : HasWritten (last_lines manner findings unreached) old new
   pub ends : ended ≡ end_of_watch findings unreached
 
@@ -127,7 +128,7 @@ pub record HasWatched (json once : Bool) (hops : List Hop) (old : SinkView) (end
   pub looks : Looks
   pub are_looks : AreLooks hops looks
   pub alone : once ≡ true → length looks ≤ 1
-  pub unreached : List (List ℕ)
+  pub unreached : List Unreached
   pub writes : HasWritten (all_shown manner looks ++ last_lines manner (found_by looks) unreached) old new
   pub ends : ended ≡ end_of_watch (found_by looks) unreached
 

@@ -10,6 +10,7 @@ use Rattle.mr_watch.specs.declared.finding.Findings.{Findings}
 use Rattle.mr_watch.specs.declared.view.View.{View}
 use Rattle.mr_tool.specs.declared.ended.Ended.{Ended}
 use Rattle.mr_tool.specs.declared.ended.Ended.TheVariants.{Done, Faulted}
+use Rattle.mr_tool.specs.declared.last_lines.Unreached.{Unreached}
 use Rattle.mr_tool.specs.declared.manner.Manner.{Manner}
 use Rattle.mr_tool.specs.declared.manner.Manner.TheVariants.{Whole, Drawn, Changes, Objects}
 
@@ -66,15 +67,15 @@ broken_lines findings =
     ++ broken_line findings.forward (codes "no clock went back")))
 
 -- a line for each service that was never reached
-abbrev pub unreached_line : List ℕ → List ℕ
+unfoldable pub unreached_line : List ℕ → List ℕ
 unreached_line address = codes "never reached: " ++ (address ++ codes "\n")
 
-abbrev pub unreached_lines : List (List ℕ) → List ℕ
+abbrev pub unreached_lines : List Unreached → List ℕ
 unreached_lines [] = []
-unreached_lines (address ∷ addresses) = unreached_line address ++ unreached_lines addresses
+unreached_lines (one ∷ others) = unreached_line one.address.now ++ unreached_lines others
 
 -- the last lines of a watch; where looks are JSON there are none
-abbrev pub last_lines : Manner → Findings → List (List ℕ) → List ℕ
+abbrev pub last_lines : Manner → Findings → List Unreached → List ℕ
 last_lines Objects findings unreached = []
 last_lines manner findings unreached = broken_lines findings ++ unreached_lines unreached
 
@@ -83,6 +84,6 @@ abbrev pub any_broken : Findings → Bool
 any_broken findings = is_broken findings.same || (is_broken findings.empty || (is_broken findings.near || is_broken findings.forward))
 
 -- how a watch ends
-abbrev pub end_of_watch : Findings → List (List ℕ) → Ended
+abbrev pub end_of_watch : Findings → List Unreached → Ended
 end_of_watch findings [] = if any_broken findings then Faulted else Done
-end_of_watch findings (address ∷ addresses) = Faulted
+end_of_watch findings (one ∷ others) = Faulted

@@ -1,11 +1,18 @@
 //! What a watch says once more at its end.
-ghost use Rattle.std.specs.Prelude.{◌≡◌, ◌++◌, map, IfOk, OnOk};
+ghost use Rattle.std.specs.Prelude.{◌≡◌, ◌++◌, IfOk, OnOk};
 ghost use Rattle.mr_tool.specs.WatchText.{is_broken, broken_line, broken_lines, unreached_line, unreached_lines, last_lines, any_broken, end_of_watch};
 
 use crate::ended::Ended;
 use crate::manner::Manner;
 use mr_watch::{Finding, Findings};
 use std::alloc::{AllocError, Global};
+
+/// A service that was never reached.
+#[derive(Clone, Copy, Debug)]
+pub struct Unreached<'a> {
+    /// Where it was to tell its metrics.
+    pub address: &'a str,
+}
 
 /// Whether a premise was seen broken.
 fn is_broken(finding: Finding) -> bool
@@ -17,13 +24,21 @@ fn is_broken(finding: Finding) -> bool
     }
 }
 
+/// Adds a word.
+fn push_word(text: &mut Vec<u8>, word: &str) -> Result<(), AllocError>
+    ensures { OnOk result (text.new.items ≡ text.old.items ++ word.now) }
+{
+    text.extend_from_slice(word.as_bytes())?;
+    Ok(())
+}
+
 /// Adds the line of a premise that was seen broken.
 fn push_broken(text: &mut Vec<u8>, finding: Finding, name: &str) -> Result<(), AllocError>
     ensures { OnOk result (text.new.items ≡ text.old.items ++ broken_line finding name.now) }
 {
     if is_broken(finding) {
         text.extend_from_slice(b"broken: ")?;
-        text.extend_from_slice(name.as_bytes())?;
+        push_word(text, name)?;
         text.extend_from_slice(b"\n")?;
     }
     Ok(())
@@ -41,21 +56,21 @@ fn push_all_broken(text: &mut Vec<u8>, findings: &Findings) -> Result<(), AllocE
 }
 
 /// Adds the line of a service that was never reached.
-fn push_unreached(text: &mut Vec<u8>, address: &str) -> Result<(), AllocError>
-    ensures { OnOk result (text.new.items ≡ text.old.items ++ unreached_line address.now) }
+fn push_unreached(text: &mut Vec<u8>, service: &Unreached<'_>) -> Result<(), AllocError>
+    ensures { OnOk result (text.new.items ≡ text.old.items ++ unreached_line service.now.address.now) }
 {
     text.extend_from_slice(b"never reached: ")?;
-    text.extend_from_slice(address.as_bytes())?;
+    push_word(text, service.address)?;
     text.extend_from_slice(b"\n")?;
     Ok(())
 }
 
 /// Adds a line for each service that was never reached.
-fn push_all_unreached(text: &mut Vec<u8>, addresses: &[&str]) -> Result<(), AllocError>
-    ensures { OnOk result (text.new.items ≡ text.old.items ++ unreached_lines (map (λ address. address.now) addresses.now)) }
+fn push_all_unreached(text: &mut Vec<u8>, services: &[Unreached<'_>]) -> Result<(), AllocError>
+    ensures { OnOk result (text.new.items ≡ text.old.items ++ unreached_lines services.now) }
 {
-    for address in addresses {
-        push_unreached(text, address)?;
+    for service in services {
+        push_unreached(text, service)?;
     }
     Ok(())
 }
@@ -66,10 +81,10 @@ pub fn last_lines(
     alloc: Global,
     manner: Manner,
     findings: &Findings,
-    unreached: &[&str],
+    unreached: &[Unreached<'_>],
 ) -> Result<Vec<u8>, AllocError>
     ensures { IfOk result (λ text. text.items
-        ≡ last_lines manner findings.now (map (λ address. address.now) unreached.now)) }
+        ≡ last_lines manner findings.now unreached.now) }
 {
     let mut text = Vec::new(alloc);
     if manner == Manner::Objects {
@@ -91,8 +106,8 @@ fn any_broken(findings: &Findings) -> bool
 }
 
 /// How a watch ends.
-pub fn end_of_watch(findings: &Findings, unreached: &[&str]) -> Ended
-    ensures { result ≡ end_of_watch findings.now (map (λ address. address.now) unreached.now) }
+pub fn end_of_watch(findings: &Findings, unreached: &[Unreached<'_>]) -> Ended
+    ensures { result ≡ end_of_watch findings.now unreached.now }
 {
     if unreached.is_empty() && !any_broken(findings) {
         Ended::Done

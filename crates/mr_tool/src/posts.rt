@@ -1,5 +1,6 @@
 //! The services that a watch asks for their metrics, with what they told at this look and at the one before.
 
+use crate::last_lines::Unreached;
 use mr_sockets::HostServers;
 use mr_watch::{NodeTold, ProxySeen, ProxyTold, Told, read_told};
 use std::alloc::{AllocError, Global};
@@ -234,13 +235,18 @@ pub fn node_in<'b>(posts: &'b [Post<'_>], name: &str) -> Option<NodeTold<'b>> {
     None
 }
 
-/// The addresses of the services that never told anything that a service tells.
-pub fn unreached_in<'a>(alloc: Global, posts: &[Post<'a>]) -> Result<Vec<&'a str>, AllocError> {
-    let mut addresses = Vec::new(alloc);
+/// The services that never told anything that a service tells.
+pub fn unreached_in<'a>(
+    alloc: Global,
+    posts: &[Post<'a>],
+) -> Result<Vec<Unreached<'a>>, AllocError> {
+    let mut services = Vec::new(alloc);
     for post in posts {
         if post.kind() == Kind::Unknown {
-            addresses.push(post.address)?;
+            services.push(Unreached {
+                address: post.address,
+            })?;
         }
     }
-    Ok(addresses)
+    Ok(services)
 }

@@ -147,8 +147,9 @@ def a_migration_is_drawn_in_place():
         check("which frames clear the screen", [True] + [False] * (len(frames) - 1), [CLEAR in frame for frame in frames])
         check_true("each line's rest is cleared", all(frame.count(b"\n") == frame.count(REST + b"\n") for frame in frames))
         check_true("phases have their colour", b"\x1b[36mnew-only\x1b[0m" in frames[-1])
-        seen = [phase for phase in PHASES if any(f"hop 0, \x1b[36m{phase}".encode() in frame for frame in frames)]
-        check("the phases that were seen", list(PHASES), seen)
+        for proxy in watched.proxies:
+            rows = [f"\n{proxy.address:<25}\x1b[36m{phase}\x1b[0m".encode() for phase in PHASES]
+            check("the phases of a proxy", [True] * len(PHASES), [any(row in frame for frame in frames) for row in rows])
 
 
 @case(waits=True)
