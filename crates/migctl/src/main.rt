@@ -1,16 +1,27 @@
-//! The program `migctl`: where the requests of a memcached migration go, and the nodes and proxies that serve them.
+//! The program `migctl`: where the requests of a memcached migration go, the nodes and proxies that serve them, and what is seen of
+//! it while it runs.
 #![tactic(auto)]
 
-use mr_sockets::HostServers;
+use mr_sockets::{HostServers, Screen};
 use mr_text::{OverReader, OverWriter};
 use mr_tool::{HostFiles, run_arguments};
 use std::env;
+use std::env::VarError;
+use std::io::IsTerminal;
 use std::process::ExitCode;
 
 fn main(rt: HostRuntime) -> ExitCode {
+    let screen = Screen {
+        terminal: rt.stdout().is_terminal(),
+        colours: match env::var(&rt, "NO_COLOR") {
+            Ok(value) => value.is_empty(),
+            Err(VarError::NotPresent) => true,
+            Err(_) => false,
+        },
+    };
     let status = run_arguments(
         rt.alloc(),
-        &mut HostServers::new(&rt),
+        &mut HostServers::new(&rt).on(screen),
         env::args(&rt),
         &mut HostFiles::new(&rt),
         &mut OverReader::new(rt.stdin()),

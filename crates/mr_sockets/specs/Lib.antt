@@ -1,5 +1,6 @@
 pub mod Address
 pub mod Addresses
+pub mod Asking
 pub mod Carriers
 pub mod Listener
 pub mod Runs

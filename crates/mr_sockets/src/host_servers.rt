@@ -3,12 +3,14 @@ ghost use Rattle.std.specs.Prelude.{◌≡◌};
 ghost use Rattle.mr_proxy.specs.ProxyView.{IsFresh};
 ghost use Rattle.mr_sockets.specs.Servers.{DrawsSeed, IsOneService, NodeAt, ProxyAt, clients_at, told_at};
 
+use crate::asking::{metrics_at, stats_at};
 use crate::bounds::ServiceBounds;
 use crate::fault::{OpenFault, SeedFault};
 use crate::listening::{HostListens, open};
 use crate::node_service::run_node;
 use crate::proxy_service::run_proxy;
 use crate::runs::GhostRuns;
+use crate::screen::Screen;
 use crate::seeded_node::SeededNode;
 use crate::seeds::GhostSeeds;
 use crate::told_node::run_told_node;
@@ -17,14 +19,15 @@ use mr_counting::{LegTotals, NodeIdentity};
 use mr_pools::Routing;
 use mr_proxy::ProxyCore;
 use mr_text::GhostCount;
-use std::alloc::Global;
+use std::alloc::{AllocError, Global};
 use std::hash::RandomState;
 use std::marker::Model;
 use std::net::{Net, TcpListener, TcpStream};
 use std::random::RandomSource;
 use std::sync::Wait;
 use std::thread::Threads;
-use std::time;
+use std::time::{Duration, Instant, SystemTime, UNIX_EPOCH};
+use std::{thread, time};
 
 /// Where the metrics of a service are told, and of which version of the program.
 #[derive(Clone, Copy, Debug)]
@@ -33,6 +36,14 @@ pub struct Scraped<'a> {
     pub address: &'a str,
     /// The version of the program.
     pub version: &'a str,
+}
+
+/// The moment now, by a clock that never goes back; None where it gives no reading.
+fn moment_now<R: time::Clock>(rt: &R) -> Option<Instant> {
+    match Instant::now(rt) {
+        Ok(now) => Some(now),
+        Err(_) => None,
+    }
 }
 
 /// The sockets, the threads, the time and the random source of this machine, with what was asked of them and what ran as
@@ -47,6 +58,8 @@ pub struct HostServers<
         + Sync,
 > {
     rt: &'a R,
+    screen: Screen,
+    begun: Option<Instant>,
     listens: HostListens<'a, R>,
     seeds: GhostSeeds,
     runs: GhostRuns,
@@ -65,6 +78,8 @@ impl<
     fn drop(self) {
         let Self {
             rt: _,
+            screen: _,
+            begun: _,
             listens: _,
             seeds: _,
             runs: _,
@@ -106,11 +121,68 @@ impl<
     {
         HostServers {
             rt,
+            screen: Screen {
+                terminal: false,
+                colours: false,
+            },
+            begun: moment_now(rt),
             listens: HostListens::new(rt),
             seeds: GhostSeeds::new(),
             runs: GhostRuns::new(),
             failures: GhostCount::new(),
         }
+    }
+
+    /// The same, with an output that goes to this place; without it that is no terminal.
+    pub fn on(mut self, screen: Screen) -> HostServers<'a, R>
+        ensures { result ≡ self.entry }
+    {
+        self.screen = screen;
+        self
+    }
+
+    /// Where the output goes.
+    pub fn screen(&self) -> Screen {
+        self.screen
+    }
+
+    /// What a service tells of itself at an address: a host and a port, with a colon between them. It is asked for a second at
+    /// most. None where the text is no address, where no connection is made, or where the answer isn't whole.
+    pub fn metrics_at(&self, alloc: Global, address: &str) -> Result<Option<Vec<u8>>, AllocError> {
+        metrics_at(self.rt, alloc, address)
+    }
+
+    /// What a node of this name answers to `stats`. It is asked for a second at most. None where the name is no address, where no
+    /// connection is made, or where nothing is answered.
+    pub fn stats_at(&self, alloc: Global, name: &str) -> Result<Option<Vec<u8>>, AllocError> {
+        stats_at(self.rt, alloc, name)
+    }
+
+    /// How many milliseconds have passed since this was made, by a clock that never goes back. 0 where it gives no reading.
+    pub fn milliseconds(&self) -> u64 {
+        match (self.begun, moment_now(self.rt)) {
+            (Some(begun), Some(now)) => {
+                let passed = now.saturating_duration_since(begun).as_millis();
+                passed.min(u128::from(u64::MAX)) as u64
+            }
+            _ => 0,
+        }
+    }
+
+    /// The second that the machine's clock says, since the epoch. 0 where it gives no reading.
+    pub fn second(&self) -> u64 {
+        let Ok(time) = SystemTime::now(self.rt) else {
+            return 0;
+        };
+        match time.duration_since(UNIX_EPOCH) {
+            Ok(passed) => passed.as_secs(),
+            Err(_) => 0,
+        }
+    }
+
+    /// Waits for so many milliseconds.
+    pub fn pause(&self, milliseconds: u64) {
+        thread::sleep(self.rt, Duration::from_millis(milliseconds))
     }
 
     /// A seed that nobody outside knows, drawn from the machine's random source.

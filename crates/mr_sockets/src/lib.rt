@@ -4,6 +4,7 @@
 
 mod address;
 mod addresses;
+mod asking;
 mod bounds;
 mod carriers;
 mod connections;
@@ -18,6 +19,7 @@ mod patience;
 mod proxy_service;
 mod runs;
 mod scrapes;
+mod screen;
 mod seeded_node;
 mod seeds;
 mod socket_carrier;
@@ -25,6 +27,7 @@ mod tally;
 mod telling;
 mod told_node;
 mod told_proxy;
+mod until;
 
 pub use address::{address_of, node_address};
 pub use bounds::ServiceBounds;
@@ -35,5 +38,6 @@ pub use listener::{AcceptFault, Listener, OverListener};
 pub use node_service::serve_node;
 pub use patience::Patience;
 pub use proxy_service::serve_proxy;
+pub use screen::Screen;
 pub use seeded_node::SeededNode;
 pub use socket_carrier::SocketCarrier;

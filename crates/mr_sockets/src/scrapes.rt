@@ -1,15 +1,16 @@
 //! The service of those that scrape metrics. No contract speaks of what it does with time and threads.
 
+use crate::until::UntilThen;
 use mr_http::{Tells, serve_scrape};
 use mr_text::{OverReader, OverWriter};
 use std::alloc::Global;
-use std::io::{Read, Write};
+use std::io::Read;
 use std::net::{Shutdown, TcpListener, TcpStream};
 use std::sync::Wait;
 use std::sync::atomic::{AtomicU64, Ordering};
+use std::thread;
 use std::thread::{Scope, Threads};
 use std::time::{Clock, Duration, Instant};
-use std::{io, thread};
 
 /// How often it is looked whether a scraper came, and whether the service has ended, in milliseconds.
 const LOOK_MILLIS: u64 = 50;
@@ -70,54 +71,6 @@ impl ScrapeState {
     /// A scraper is served no more.
     fn leave(&self) {
         self.served.fetch_sub(1, Ordering::SeqCst);
-    }
-}
-
-/// A connection that is read and written until a moment, and not after it.
-struct UntilThen<'a, R: Clock> {
-    rt: &'a R,
-    stream: &'a TcpStream,
-    until: Instant,
-}
-
-impl<'a, R: Clock> Drop for UntilThen<'a, R> {
-    fn drop(self) {
-        let Self {
-            rt: _,
-            stream: _,
-            until: _,
-        } = self;
-    }
-}
-
-impl<'a, R: Clock> UntilThen<'a, R> {
-    /// How long there is still.
-    fn left(&self) -> io::Result<Duration> {
-        let left = self.until.saturating_duration_since(Instant::now(self.rt)?);
-        if left < Duration::from_millis(1) {
-            return Err(io::Error::from(io::ErrorKind::TimedOut));
-        }
-        Ok(left)
-    }
-}
-
-impl<'a, R: Clock> Read for UntilThen<'a, R> {
-    fn read(&mut self, buf: &mut [u8]) -> io::Result<usize> {
-        self.stream.set_read_timeout(Some(self.left()?))?;
-        let mut stream = self.stream;
-        stream.read(buf)
-    }
-}
-
-impl<'a, R: Clock> Write for UntilThen<'a, R> {
-    fn write(&mut self, buf: &[u8]) -> io::Result<usize> {
-        self.stream.set_write_timeout(Some(self.left()?))?;
-        let mut stream = self.stream;
-        stream.write(buf)
-    }
-
-    fn flush(&mut self) -> io::Result<()> {
-        Ok(())
     }
 }
 

@@ -17,9 +17,11 @@ use Rattle.mr_tool.specs.declared.ended.Ended.TheVariants.{Done, NotAccepted, Fa
 use Rattle.mr_tool.specs.declared.fault.Fault.{Fault}
 use Rattle.mr_tool.specs.declared.fault.Fault.TheVariants.{Memory, Input, Output, File, Net, Plan, Node, Text}
 use Rattle.mr_tool.specs.Services.{NodeGives, ProxyGives}
+use Rattle.mr_tool.specs.WatchCommand.{WatchGives}
 use Rattle.mr_sockets.specs.Servers.{ServersView}
 use Rattle.mr_words.specs.declared.service_words.NodeValues.{NodeValues}
 use Rattle.mr_words.specs.declared.service_words.ProxyValues.{ProxyValues}
+use Rattle.mr_words.specs.declared.watch_words.WatchValues.{WatchValues}
 use Rattle.mr_words.specs.declared.words.PlanValues.{PlanValues}
 use Rattle.mr_words.specs.declared.words.TimelineValues.{TimelineValues}
 use Rattle.mr_words.specs.declared.words.Wanted.{Wanted}
@@ -135,6 +137,20 @@ proxy_reads values before after idle busy (Err (Net line)) h = unread _ _ _ h.ha
 proxy_reads values before after idle busy (Err (Node refusal)) h = unread _ _ _ h.has.unread
 proxy_reads values before after idle busy (Err (Text refusal)) h = unread _ _ _ h.has.unread
 
+watch_reads : (values : WatchValues) (before after : Devices) (result : Result Ended Fault) → WatchGives values before after result
+    → after.input.reads ≤ before.input.reads + 0
+watch_reads values before after (Ok ended) h = unread _ _ _ h.unread
+watch_reads values before after (Err Output) h = unread _ _ _ h.unread
+watch_reads values before after (Err (File line)) h = unread _ _ _ h.unread
+watch_reads values before after (Err (Plan refusal)) h = unread _ _ _ h.unread
+watch_reads values before after (Err Memory) (inl h) = unread _ _ _ h.unread
+watch_reads values before after (Err Memory) (inr (inl h)) = unread _ _ _ h.unread
+watch_reads values before after (Err Memory) (inr (inr h)) = unread _ _ _ h.unread
+watch_reads values before after (Err Input) h = absurd h
+watch_reads values before after (Err (Net line)) h = absurd h
+watch_reads values before after (Err (Node refusal)) h = absurd h
+watch_reads values before after (Err (Text refusal)) h = absurd h
+
 command_reads : (command : Wanted) (before after : Devices) (idle busy : ServersView) (result : Result Ended Fault) → Gives command before after idle busy result
     → after.input.reads ≤ before.input.reads + most_reads_of command
 command_reads (wanted.Plan values) before after idle busy result h = plan_reads values before after result h.0
@@ -144,6 +160,7 @@ command_reads (wanted.Check file) before after idle busy result h = text_reads _
 command_reads (wanted.Upgrade file) before after idle busy result h = text_reads _ _ (path_in file) before after result h.0
 command_reads (wanted.Node values) before after idle busy result h = node_reads values before after idle busy result h
 command_reads (wanted.Proxy values) before after idle busy result h = proxy_reads values before after idle busy result h
+command_reads (wanted.Watch values) before after idle busy result h = watch_reads values before after result h.0
 command_reads (wanted.Explain explanation) before after idle busy result h = explain_reads (told_by explanation) before after result h.0
 
 -- the same command has the same bound
@@ -155,6 +172,7 @@ agreed_reads (wanted.Check file) (wanted.Check read) same = ap reads_without sam
 agreed_reads (wanted.Upgrade file) (wanted.Upgrade read) same = ap reads_without same
 agreed_reads (wanted.Node values) (wanted.Node read) same = refl
 agreed_reads (wanted.Proxy values) (wanted.Proxy read) same = refl
+agreed_reads (wanted.Watch values) (wanted.Watch read) same = refl
 agreed_reads (wanted.Explain explanation) (wanted.Explain read) same = refl
 agreed_reads (wanted.Plan values) (wanted.Timeline read) same = absurd same
 agreed_reads (wanted.Plan values) (wanted.Run read) same = absurd same
@@ -212,6 +230,22 @@ agreed_reads (wanted.Explain explanation) (wanted.Check read) same = absurd same
 agreed_reads (wanted.Explain explanation) (wanted.Upgrade read) same = absurd same
 agreed_reads (wanted.Explain explanation) (wanted.Node read) same = absurd same
 agreed_reads (wanted.Explain explanation) (wanted.Proxy read) same = absurd same
+agreed_reads (wanted.Plan values) (wanted.Watch read) same = absurd same
+agreed_reads (wanted.Timeline values) (wanted.Watch read) same = absurd same
+agreed_reads (wanted.Run file) (wanted.Watch read) same = absurd same
+agreed_reads (wanted.Check file) (wanted.Watch read) same = absurd same
+agreed_reads (wanted.Upgrade file) (wanted.Watch read) same = absurd same
+agreed_reads (wanted.Node values) (wanted.Watch read) same = absurd same
+agreed_reads (wanted.Proxy values) (wanted.Watch read) same = absurd same
+agreed_reads (wanted.Explain explanation) (wanted.Watch read) same = absurd same
+agreed_reads (wanted.Watch values) (wanted.Plan read) same = absurd same
+agreed_reads (wanted.Watch values) (wanted.Timeline read) same = absurd same
+agreed_reads (wanted.Watch values) (wanted.Run read) same = absurd same
+agreed_reads (wanted.Watch values) (wanted.Check read) same = absurd same
+agreed_reads (wanted.Watch values) (wanted.Upgrade read) same = absurd same
+agreed_reads (wanted.Watch values) (wanted.Node read) same = absurd same
+agreed_reads (wanted.Watch values) (wanted.Proxy read) same = absurd same
+agreed_reads (wanted.Watch values) (wanted.Explain read) same = absurd same
 
 -- what is told at the end reads nothing
 ends_unread : (result : Result Ended Fault) (status : ℕ) (between after : Devices) → EndsWith result status between after → after.input ≡ between.input

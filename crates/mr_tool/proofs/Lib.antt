@@ -5,4 +5,5 @@ pub mod InputLemmas
 pub mod RequestLemmas
 pub mod RunLemmas
 pub mod TextLemmas
+pub mod WatchLemmas
 pub mod WholeRun

@@ -12,6 +12,7 @@ use Rattle.mr_tool.specs.Input.{IsGiven, LoadsConfig}
 use Rattle.mr_tool.specs.GivenText.{Makes, WritesText}
 use Rattle.mr_words.specs.declared.service_words.NodeValues.{NodeValues}
 use Rattle.mr_words.specs.declared.service_words.ProxyValues.{ProxyValues}
+use Rattle.mr_words.specs.declared.watch_words.WatchValues.{WatchValues}
 use Rattle.mr_words.specs.declared.words.PlanValues.{PlanValues}
 use Rattle.mr_words.specs.declared.words.TimelineValues.{TimelineValues}
 use Rattle.mr_words.specs.declared.words.Wanted.{Wanted}
@@ -28,6 +29,7 @@ use Rattle.mr_sockets.specs.declared.fault.OpenFault.{OpenFault}
 use Rattle.mr_tool.specs.Fault.{fault_line, readings_line}
 use Rattle.mr_tool.specs.Sources.{SourcesView}
 use Rattle.mr_tool.specs.VersionCommand.{VersionGives}
+use Rattle.mr_tool.specs.WatchCommand.{Watches}
 use Rattle.mr_words.specs.Words.{Say, SayBadReadings, SayNothing, SayVersion, path_in}
 
 -- a command that did what was wanted met no failure
@@ -120,6 +122,15 @@ proxy_steady values ended before between idle busy h silent =
       steady.0,
     )
 
+watch_steady : (values : WatchValues) (ended : Ended) (before between : Devices) → Watches values before between (Ok ended) → between.faults ≡ before.faults
+    → NoneFailed before between
+watch_steady values ended before between h silent = record {
+  sources = config_steady values.config.now before.sources between.sources h.config h.loaded;
+  input = ap (λ (s : SourceView). s.failures) h.unread;
+  output = h.watches.writes.steady;
+  faults = ap (λ (s : SinkView). s.failures) silent;
+}
+
 command_steady : (wanted : Wanted) (ended : Ended) (before between : Devices) (idle busy : ServersView) → Gives wanted before between idle busy (Ok ended)
     → between.faults ≡ before.faults → AllSteady before between idle busy
 command_steady (wanted.Plan values) Done before between idle busy h silent = idle_steady _ _ _ _ (plan_steady values before between h.0 silent) h.1
@@ -136,6 +147,7 @@ command_steady (wanted.Upgrade file) ended before between idle busy h silent =
     idle_steady _ _ _ _ (text_steady _ (path_in file) ended before between h.0 silent) h.1
 command_steady (wanted.Node values) ended before between idle busy h silent = node_steady values ended before between idle busy h silent
 command_steady (wanted.Proxy values) ended before between idle busy h silent = proxy_steady values ended before between idle busy h silent
+command_steady (wanted.Watch values) ended before between idle busy h silent = idle_steady _ _ _ _ (watch_steady values ended before between h.0 silent) h.1
 command_steady (wanted.Explain explanation) Done before between idle busy h silent =
     idle_steady _ _ _ _ (explanation_steady (told_by explanation) before between h.0 silent) h.1
 command_steady (wanted.Explain explanation) NotAccepted before between idle busy h silent = absurd h.0

@@ -19,3 +19,5 @@ pub mod TimelineCommand
 pub mod TimelineText
 pub mod UpgradeCommand
 pub mod VersionCommand
+pub mod WatchCommand
+pub mod WatchText

@@ -12,6 +12,7 @@ use Rattle.mr_tool.specs.Services.{NodeGives, ProxyGives}
 use Rattle.mr_tool.specs.TimelineCommand.{TimelineGives}
 use Rattle.mr_tool.specs.UpgradeCommand.{UpgradeGives}
 use Rattle.mr_tool.specs.VersionCommand.{VersionGives}
+use Rattle.mr_tool.specs.WatchCommand.{WatchGives}
 use Rattle.mr_words.specs.Words.{Say, SayBadReadings, SayNothing, SayVersion, path_in}
 use Rattle.mr_tool.specs.declared.ended.Ended.{Ended}
 use Rattle.mr_tool.specs.declared.ended.Ended.TheVariants.{Done, NotAccepted, Faulted}
@@ -19,7 +20,7 @@ use Rattle.mr_tool.specs.declared.fault.Fault.{Fault}
 use Rattle.mr_tool.specs.declared.fault.Fault.TheVariants.{Memory}
 use Rattle.mr_sockets.specs.Servers.{ServersView}
 use Rattle.mr_words.specs.declared.words.Wanted.{Wanted}
-use Rattle.mr_words.specs.declared.words.Wanted.TheVariants.{Plan, Timeline, Run, Check, Upgrade, Node, Proxy, Explain}
+use Rattle.mr_words.specs.declared.words.Wanted.TheVariants.{Plan, Timeline, Run, Check, Upgrade, Node, Proxy, Watch, Explain}
 
 -- the status of a run that did what was wanted
 abbrev pub DONE : ℕ
@@ -52,6 +53,7 @@ Gives (Check file) before after idle busy result = CheckGives (path_in file) bef
 Gives (Upgrade file) before after idle busy result = UpgradeGives (path_in file) before after result × (busy ≡ idle)
 Gives (Node values) before after idle busy result = NodeGives values before after idle busy result
 Gives (Proxy values) before after idle busy result = ProxyGives values before after idle busy result
+Gives (Watch values) before after idle busy result = WatchGives values before after result × (busy ≡ idle)
 Gives (Explain explanation) before after idle busy result = ExplainGives (told_by explanation) before after result × (busy ≡ idle)
 
 -- how a run ends once its command did: the line of a fault is told, and nothing is done after
@@ -116,6 +118,7 @@ most_reads_of (Check file) = reads_without (path_in file)
 most_reads_of (Upgrade file) = reads_without (path_in file)
 most_reads_of (Node values) = 0
 most_reads_of (Proxy values) = 0
+most_reads_of (Watch values) = 0
 most_reads_of (Explain explanation) = 0
 
 -- the input is read no oftener than the command may that the words say

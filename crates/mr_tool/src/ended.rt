@@ -7,6 +7,7 @@ pub enum Ended {
     Done,
     /// A transcript was checked, and it isn't accepted.
     NotAccepted,
-    /// A service came to its end, and not every client ended without a fault.
+    /// A service came to its end, and not every client ended without a fault; or a watch did, and a premise was seen broken or a
+    /// service was never reached.
     Faulted,
 }

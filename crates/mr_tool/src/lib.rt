@@ -11,20 +11,26 @@ mod ended;
 mod explain;
 mod fault;
 mod input;
+mod last_lines;
 mod line;
+mod looking;
+mod manner;
 mod plan;
+mod posts;
 mod printing;
 mod run;
 mod script_text;
 mod services;
 mod sources;
 mod timeline;
+mod watch;
 
 pub use arguments::run_arguments;
 pub use input::MOST_CONFIG_BYTES;
 pub use mr_sockets::{SocketCarrier, serve_node, serve_proxy};
 pub use mr_words::{
-    NodeValues, PlanValues, ProxyValues, TimelineValues, Wanted, WordsFault, read_words,
+    NodeValues, PlanValues, ProxyValues, TimelineValues, Wanted, WatchValues, WordsFault,
+    read_words,
 };
 pub use plan::write_plan;
 pub use printing::PrintFault;

@@ -14,6 +14,7 @@ use crate::ended::Ended;
 use crate::fault::Fault;
 use crate::services::{run_node, run_proxy};
 use crate::sources::Sources;
+use crate::watch::run_watch;
 use mr_sockets::HostServers;
 use mr_text::{Sink, Source};
 use mr_words::{Wanted, WordsFault, read_words};
@@ -129,6 +130,9 @@ fn run_wanted<
         Ok(Wanted::Proxy(values)) => {
             finish(run_proxy(alloc, &values, servers, sources, output), faults)
         }
+        Ok(Wanted::Watch(values)) => {
+            finish(run_watch(alloc, &values, servers, sources, output), faults)
+        }
         Ok(Wanted::Explain(explanation)) => {
             finish(run_explain(alloc, &explanation, output), faults)
         }
@@ -143,8 +147,8 @@ fn run_wanted<
 /// is served by `servers`. Files come from `sources`; what the command is to print goes to `output`, and a fault to `faults`.
 /// Faults are looked for in this order: the words; then for a plan the file, the configuration, the request; for a timeline
 /// the file, the configuration; for a run, a check or an upgrade the file, or the input where none is named, and then the script
-/// or the transcript; for a node its capacity, the seed and the socket; for a proxy the file, the configuration, the socket; last the
-/// output.
+/// or the transcript; for a node its capacity, the seed and the socket; for a proxy the file, the configuration, the socket; for a
+/// watch the file, the configuration; last the output.
 pub fn run_words<
     R: Net<Listener = TcpListener, Stream = TcpStream>
         + Threads

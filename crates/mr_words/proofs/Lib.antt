@@ -8,5 +8,6 @@ pub mod PlainFile
 pub mod PlainNode
 pub mod PlainProxy
 pub mod PlainExplain
+pub mod PlainWatch
 pub mod ReadLemmas
 pub mod WordLemmas

@@ -14,12 +14,13 @@ use Rattle.mr_words.proofs.PlainNode.{node_said}
 use Rattle.mr_words.proofs.PlainPlan.{plan_said}
 use Rattle.mr_words.proofs.PlainProxy.{proxy_said}
 use Rattle.mr_words.proofs.PlainTimeline.{timeline_said}
+use Rattle.mr_words.proofs.PlainWatch.{watch_said}
 use Rattle.mr_words.proofs.WordLemmas.{no_version_said, one_said, said_not_bad}
 use Rattle.mr_words.specs.Command.{program_app}
 use Rattle.mr_words.specs.Words.{FindsBadReadings, FindsCommand, Found, ReadsAs, ReadsWords, Say, SayNothing, SayVersionAlone, SaysPlainly, SaysVersion, SayWhat, TellsVersion}
 use Rattle.mr_words.specs.WordSteps.{GivesCommand, IsFaultOf}
 use Rattle.mr_words.specs.declared.words.Wanted.{Wanted}
-use Rattle.mr_words.specs.declared.words.Wanted.TheVariants.{Plan, Timeline, Run, Check, Upgrade, Node, Proxy, Explain}
+use Rattle.mr_words.specs.declared.words.Wanted.TheVariants.{Plan, Timeline, Run, Check, Upgrade, Node, Proxy, Watch, Explain}
 use Rattle.mr_words.specs.declared.words.WordsFault.{WordsFault}
 use Rattle.mr_words.specs.declared.words.WordsFault.TheVariants.{Wrong, Version, Readings, Memory}
 
@@ -103,6 +104,7 @@ plainly_said words (Check file) says = check_said words file says
 plainly_said words (Upgrade file) says = upgrade_said words file says
 plainly_said words (Node values) says = node_said words values says
 plainly_said words (Proxy values) says = proxy_said words values says
+plainly_said words (Watch values) says = watch_said words values says
 plainly_said words (Explain explanation) says = explanation_said words explanation says
 
 -- what is read of words that plainly say a command

@@ -16,13 +16,14 @@ use Rattle.clap.specs.declared.parser.matches.SubCommand.{SubCommand}
 use Rattle.mr_words.proofs.TableLemmas.{table_complete}
 use Rattle.mr_words.specs.Explain.{Told, explanation_of, told_by}
 use Rattle.mr_words.specs.declared.explain.Explanation.{Explanation}
-use Rattle.mr_words.specs.Words.{AgreesWith, AreNumberWords, AreReadings, FindsBadReadings, FindsCommand, Found, HasBadReadings, HasExplanation, HasNodeValues, HasPlan, HasProxyValues, HasTimeline, IsBoundOr, IsNumberList, IsNumberOr, IsNumberWord, Say, SayBadReadings, SayVersion, readings_in, without_end}
+use Rattle.mr_words.specs.Words.{AgreesWith, AreNumberWords, AreReadings, FindsBadReadings, FindsCommand, Found, HasBadReadings, HasExplanation, HasNodeValues, HasPlan, HasProxyValues, HasTimeline, HasWatchValues, IsBoundOr, IsNumberList, IsNumberOr, IsNumberWord, Say, SayBadReadings, SayVersion, readings_in, without_end}
 use Rattle.mr_words.specs.declared.service_words.NodeValues.{NodeValues}
 use Rattle.mr_words.specs.declared.service_words.ProxyValues.{ProxyValues}
+use Rattle.mr_words.specs.declared.watch_words.WatchValues.{WatchValues}
 use Rattle.mr_words.specs.declared.words.PlanValues.{PlanValues}
 use Rattle.mr_words.specs.declared.words.TimelineValues.{TimelineValues}
 use Rattle.mr_words.specs.declared.words.Wanted.{Wanted}
-use Rattle.mr_words.specs.declared.words.Wanted.TheVariants.{Plan, Timeline, Run, Check, Upgrade, Node, Proxy, Explain}
+use Rattle.mr_words.specs.declared.words.Wanted.TheVariants.{Plan, Timeline, Run, Check, Upgrade, Node, Proxy, Watch, Explain}
 
 row_of_subcommand : {Z : Type 0} (o : Option (Box SubCommand Z)) (name : List ℕ) (rows : List Row)
     → option_map (λ (b : Box SubCommand Z). (out-SubCommand (box_value b)).name.now) o ≡ Some name
@@ -47,6 +48,10 @@ number_read (Some t) number none value =
 -- a text that isn't there has no value
 pub text_missing : (text : Option (List ℕ)) (word : List ℕ) → None ≡ text → text ≡ Some word → ⊥
 text_missing text word none some = cc
+
+-- values that aren't there are no values
+pub no_addresses : (texts : Option (List Text)) (some : List Text) → None ≡ texts → texts ≡ Some some → ⊥
+no_addresses texts some none is = cc
 
 -- a text of which no number is read is no number
 pub number_missing : (text : Option (List ℕ))
@@ -165,6 +170,7 @@ name_of (Check file) = codes "check"
 name_of (Upgrade file) = codes "upgrade"
 name_of (Node values) = codes "node"
 name_of (Proxy values) = codes "proxy"
+name_of (Watch values) = codes "watch"
 name_of (Explain explanation) = codes "explain"
 
 -- what was found of a command begins with its name
@@ -176,6 +182,7 @@ found_named found (Check file) h = (h.0, h.1)
 found_named found (Upgrade file) h = (h.0, h.1)
 found_named found (Node values) h = (h.0, h.1)
 found_named found (Proxy values) h = (h.0, h.1)
+found_named found (Watch values) h = (h.0, h.1)
 found_named found (Explain explanation) h = (h.0, h.1)
 
 one_name : (found : Found) (wanted : Wanted) (name : Text) (rows : List Row) → FindsCommand found wanted → found ≡ Some (name, rows) → name_of wanted ≡ name
@@ -226,6 +233,13 @@ one_found found (Proxy read) (Proxy values) r p =
       same_number_or _ _ _ _ r.2.leg_is also.leg_is,
       same_number_or _ _ _ _ r.2.idle_is also.idle_is,
       sym r.2.metrics_is ∙ also.metrics_is,
+    )
+one_found found (Watch read) (Watch values) r p =
+    let also : HasWatchValues r.0 values = subst (λ (rows : List Row). HasWatchValues rows values) (same_rows found _ p.0 r.0 p.1 r.1) p.2 in (
+      same_inside _ _ _ r.2.config_is also.config_is,
+      r.2.once_is ∙ sym also.once_is,
+      r.2.json_is ∙ sym also.json_is,
+      same_inside _ _ _ r.2.addresses_are also.addresses_are,
     )
 one_found found (Explain read) (Explain explanation) r p =
     let also : HasExplanation r.0 (told_by explanation) =
@@ -293,6 +307,9 @@ node_is_no_timeline e = cc
 proxy_is_no_timeline : ¬ (codes "proxy" ≡ codes "timeline")
 proxy_is_no_timeline e = cc
 
+watch_is_no_timeline : ¬ (codes "watch" ≡ codes "timeline")
+watch_is_no_timeline e = cc
+
 explain_is_no_timeline : ¬ (codes "explain" ≡ codes "timeline")
 explain_is_no_timeline e = cc
 
@@ -332,6 +349,21 @@ pub proxy_not_found : (m : ArgMatches) (rows : List Row) → subcommand_rows_of 
 proxy_not_found m rows is none = record {
   no_command = proxy_not_said (subcommand_rows_of m) rows is none;
   no_readings = no_readings_of (subcommand_rows_of m) (codes "proxy") rows is proxy_is_no_timeline;
+}
+
+watch_not_said : (found : Found) (rows : List Row) → found ≡ Some (codes "watch", rows) → ((values : WatchValues) → ¬ HasWatchValues rows values)
+    → (wanted : Wanted) → ¬ FindsCommand found wanted
+watch_not_said found rows is none (Watch values) finds =
+    none values (subst (λ (r : List Row). HasWatchValues r values) (same_rows found _ finds.0 rows finds.1 is) finds.2)
+watch_not_said found rows is none wanted finds =
+    texts_differ (name_of wanted) (codes "watch") refl refl (one_name found wanted (codes "watch") rows finds is)
+
+-- a watch without its values
+pub watch_not_found : (m : ArgMatches) (rows : List Row) → subcommand_rows_of m ≡ Some (codes "watch", rows) → ((values : WatchValues) → ¬ HasWatchValues rows values)
+    → FindsNothing (subcommand_rows_of m)
+watch_not_found m rows is none = record {
+  no_command = watch_not_said (subcommand_rows_of m) rows is none;
+  no_readings = no_readings_of (subcommand_rows_of m) (codes "watch") rows is watch_is_no_timeline;
 }
 
 explanation_not_said : (found : Found) (rows : List Row) → found ≡ Some (codes "explain", rows)

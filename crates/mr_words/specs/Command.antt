@@ -1,7 +1,8 @@
 -- The command line of the program, as `clap` reads it.
 use Rattle.std.specs.Prelude.{ℕ, List, Option, Some, None, Bool, true, false, codes}
 use Rattle.clap.specs.Words.{App, Rule, new_app, new_rule, with_rule, with_subcommand}
-use Rattle.clap.specs.declared.builder.ArgAction.TheVariants.{Set, SetTrue}
+use Rattle.clap.specs.Lexer.{usize_max}
+use Rattle.clap.specs.declared.builder.ArgAction.TheVariants.{Append, Set, SetTrue}
 use Rattle.clap.specs.declared.builder.value_parser.ValueParser.{ValueParser}
 use Rattle.clap.specs.declared.builder.value_parser.ValueParser.TheVariants as parser
 
@@ -94,6 +95,27 @@ proxy_app =
     let with_metrics = with_rule with_idle metrics_rule in
     with_rule with_metrics forever_rule
 
+-- a flag of this name
+abbrev pub flag_rule : List ℕ → Rule
+flag_rule name = record (new_rule name) { long = Some name; action = Some SetTrue }
+
+-- where services tell their metrics, of which there is one at least; help gives it one name
+abbrev pub address_rule : Rule
+address_rule = record (new_rule (codes "address")) {
+  range = Some (record { start_inclusive = 1; end_inclusive = usize_max });
+  value_names = 1;
+  action = Some Append;
+  required = true;
+}
+
+-- the command `watch`
+abbrev pub watch_app : App
+watch_app =
+    let with_config = with_rule (new_app (codes "watch")) config_rule in
+    let with_once = with_rule with_config (flag_rule (codes "once")) in
+    let with_json = with_rule with_once (flag_rule (codes "json")) in
+    with_rule with_json address_rule
+
 -- a word of its own, by its name, which has to be there
 abbrev pub word_rule : List ℕ → Option ValueParser → Rule
 word_rule name read_by = record (new_rule name) { action = Some Set; parser = read_by; required = true }
@@ -112,5 +134,6 @@ program_app =
     let with_upgrade = with_subcommand with_check upgrade_app.top in
     let with_node = with_subcommand with_upgrade node_app.top in
     let with_proxy = with_subcommand with_node proxy_app.top in
-    let whole = with_subcommand with_proxy explain_app.top in
+    let with_watch = with_subcommand with_proxy watch_app.top in
+    let whole = with_subcommand with_watch explain_app.top in
     record whole { top = record whole.top { has_version = true; no_binary_name = true; subcommand_required = true; arg_required_else_help = true } }

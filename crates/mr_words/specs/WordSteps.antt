@@ -4,7 +4,8 @@ use Rattle.clap.specs.Values.{kind_of}
 use Rattle.clap.specs.Words.{Row, first_of}
 use Rattle.clap.specs.declared.error.Error.{Error}
 use Rattle.clap.specs.declared.error.kind.ErrorKind.TheVariants.{OutOfMemory, DisplayVersion}
-use Rattle.mr_words.specs.Words.{AreReadings, HasTimeline, HasBadReadings, Found, FindsCommand, FindsBadReadings}
+use Rattle.mr_words.specs.Words.{AreReadings, HasTimeline, HasBadReadings, HasWatchValues, Found, FindsCommand, FindsBadReadings}
+use Rattle.mr_words.specs.declared.watch_words.WatchValues.{WatchValues}
 use Rattle.mr_words.specs.declared.words.TimelineValues.{TimelineValues}
 use Rattle.mr_words.specs.declared.words.Wanted.{Wanted}
 use Rattle.mr_words.specs.declared.words.WordsFault.{WordsFault}
@@ -26,6 +27,11 @@ GivesTimeline rows (Err Readings) = HasBadReadings rows
 GivesTimeline rows (Err Memory) = ⊤
 GivesTimeline rows (Err Version) = ⊥
 GivesTimeline rows (Err (Wrong error)) = ⊥
+
+-- the values of a watch in rows, or that they hold none
+abbrev pub GivesWatch : List Row → Option WatchValues → Type 0
+GivesWatch rows (Some values) = HasWatchValues rows values
+GivesWatch rows None = (values : WatchValues) → ¬ HasWatchValues rows values
 
 -- the command of what was found, or why that is none
 abbrev pub GivesCommand : Found → Result (Option Wanted) WordsFault → Type 0

@@ -1,20 +1,21 @@
 -- What the words of the command line say.
-use Rattle.std.specs.Prelude.{◌≡◌, ◌≢◌, ℕ, ◌<◌, ◌^◌, ◌==◌, ◌⊎◌, ⊤, Bool, true, false, List, [], ◌∷◌, Option, Some, None, option_map, Result, Ok, Err, codes}
+use Rattle.std.specs.Prelude.{◌≡◌, ◌≢◌, ℕ, ◌<◌, ◌^◌, ◌==◌, ◌⊎◌, ⊤, Bool, true, false, List, [], ◌∷◌, map, Option, Some, None, option_map, Result, Ok, Err, codes}
 use Rattle.std.specs.Borrow.{Bor}
 use Rattle.std.specs.List.{slice_split}
 use Rattle.std.specs.Option.{option_map_or}
 use Rattle.std.specs.Str.{bytes_eq}
 use Rattle.std.specs.Str.Parse.{IsNumeral, digits_value, without_leading_plus}
-use Rattle.clap.specs.Words.{IsAmong, Row, Text, fault_of, first_of, one_of, subcommand_of}
+use Rattle.clap.specs.Words.{IsAmong, Row, Text, all_of, fault_of, first_of, one_of, subcommand_of}
 use Rattle.clap.specs.declared.error.kind.ErrorKind.TheVariants.{DisplayVersion}
 use Rattle.mr_words.specs.Command.{program_app}
 use Rattle.mr_words.specs.Explain.{Told, told_by, explanation_of}
 use Rattle.mr_words.specs.declared.service_words.NodeValues.{NodeValues}
 use Rattle.mr_words.specs.declared.service_words.ProxyValues.{ProxyValues}
+use Rattle.mr_words.specs.declared.watch_words.WatchValues.{WatchValues}
 use Rattle.mr_words.specs.declared.words.PlanValues.{PlanValues}
 use Rattle.mr_words.specs.declared.words.TimelineValues.{TimelineValues}
 use Rattle.mr_words.specs.declared.words.Wanted.{Wanted}
-use Rattle.mr_words.specs.declared.words.Wanted.TheVariants.{Plan, Timeline, Run, Check, Upgrade, Node, Proxy, Explain}
+use Rattle.mr_words.specs.declared.words.Wanted.TheVariants.{Plan, Timeline, Run, Check, Upgrade, Node, Proxy, Watch, Explain}
 use Rattle.mr_words.specs.declared.words.WordsFault.{WordsFault}
 use Rattle.mr_words.specs.declared.words.WordsFault.TheVariants.{Wrong, Version, Readings, Memory}
 
@@ -138,6 +139,21 @@ pub record HasProxyValues (rows : List Row) (values : ProxyValues) : Type 0 wher
   pub idle_is : IsNumberOr usual_idle_timeout (one_of (codes "idle-timeout") rows) values.idle_timeout
   pub metrics_is : first_of (codes "metrics") rows ≡ path_in values.metrics
 
+-- the flag of this name was given
+abbrev pub has_flag : Text → List Row → Bool
+has_flag id rows = option_map_or (λ word. bytes_eq word (codes "true")) (first_of id rows) false
+
+-- where services tell their metrics, among the values of a watch
+abbrev pub addresses_in : WatchValues → List Text
+addresses_in values = map (λ address. address.now) values.addresses.items
+
+-- the rows that a parse found hold the values of a watch
+pub record HasWatchValues (rows : List Row) (values : WatchValues) : Type 0 where
+  pub config_is : first_of (codes "config") rows ≡ Some values.config.now
+  pub once_is : values.once ≡ has_flag (codes "once") rows
+  pub json_is : values.json ≡ has_flag (codes "json") rows
+  pub addresses_are : all_of (codes "address") rows ≡ Some (addresses_in values)
+
 -- the rows that a parse found name a refusal that is told of
 pub record HasExplanation (rows : List Row) (told : Told) : Type 0 where
   pub number : List ℕ
@@ -163,6 +179,7 @@ FindsCommand found (Check file) = FindsRows (codes "check") (λ rows. HasFile ro
 FindsCommand found (Upgrade file) = FindsRows (codes "upgrade") (λ rows. HasFile rows (path_in file)) found
 FindsCommand found (Node values) = FindsRows (codes "node") (λ rows. HasNodeValues rows values) found
 FindsCommand found (Proxy values) = FindsRows (codes "proxy") (λ rows. HasProxyValues rows values) found
+FindsCommand found (Watch values) = FindsRows (codes "watch") (λ rows. HasWatchValues rows values) found
 FindsCommand found (Explain explanation) = FindsRows (codes "explain") (λ rows. HasExplanation rows (told_by explanation)) found
 
 -- a timeline was found whose readings are no list of numbers
@@ -308,6 +325,16 @@ pub record SaysProxyForever (words : List Text) (values : ProxyValues) : Type 0 
   pub idle_is : values.idle_timeout ≡ usual_idle_timeout
   pub metrics_is : values.metrics ≡ None
 
+-- the words are `watch`, the file's name and one address, neither of which looks like an option, and looks go on, as text
+pub record SaysWatch (words : List Text) (values : WatchValues) : Type 0 where
+  pub address : Text
+  pub words_are : words ≡ codes "watch" ∷ codes "--config" ∷ values.config.now ∷ address ∷ []
+  pub config_is_none : IsNoOption values.config.now
+  pub address_is_none : IsNoOption address
+  pub once_is : values.once ≡ false
+  pub json_is : values.json ≡ false
+  pub addresses_are : addresses_in values ≡ address ∷ []
+
 -- the words are `explain`, and the layer and the number of a refusal that is told of
 pub record SaysExplain (words : List Text) (told : Told) : Type 0 where
   pub number : Text
@@ -325,6 +352,7 @@ SaysPlainly words (Check file) = SaysFile (codes "check") words (path_in file)
 SaysPlainly words (Upgrade file) = SaysFile (codes "upgrade") words (path_in file)
 SaysPlainly words (Node values) = SaysNodeAlone words values ⊎ SaysNode words values ⊎ SaysNodeForever words values
 SaysPlainly words (Proxy values) = SaysProxyAlone words values ⊎ SaysProxy words values ⊎ SaysProxyForever words values
+SaysPlainly words (Watch values) = SaysWatch words values
 SaysPlainly words (Explain explanation) = SaysExplain words (told_by explanation)
 
 -- both are the same command with the same values
@@ -341,6 +369,8 @@ AgreesWith (Proxy values) (Proxy read) = (read.config.now ≡ values.config.now)
     × (read.room ≡ values.room) × (read.clients ≡ values.clients) × (read.turns ≡ values.turns)
     × (read.leg_timeout ≡ values.leg_timeout) × (read.idle_timeout ≡ values.idle_timeout)
     × (path_in read.metrics ≡ path_in values.metrics)
+AgreesWith (Watch values) (Watch read) = (read.config.now ≡ values.config.now) × (read.once ≡ values.once) × (read.json ≡ values.json)
+    × (addresses_in read ≡ addresses_in values)
 AgreesWith (Explain explanation) (Explain read) = told_by read ≡ told_by explanation
 AgreesWith _ _ = ⊥
 

@@ -107,3 +107,18 @@ pub const PROXY_NOTES: &str = notes!(
     ended without a fault. Where that isn't all of them, the status is 1. With --forever it serves until a signal ends it.",
     "migctl proxy --config fleet.json --listen 127.0.0.1:11210 --room 256 --forever"
 );
+
+/// The notes of `watch`.
+pub const WATCH_NOTES: &str = notes!(
+    "An address is where a proxy or a node of migctl tells its metrics (--metrics), as 127.0.0.1:9001. Nodes of the\n\
+    configuration that none of them tells of are asked for their 'stats', as memcacheds. Nothing but that is asked.\n\
+    A look begins each second, and has at most a second for each service. It shows each proxy (its phase, by how many\n\
+    seconds its clock is ahead of this machine's, requests a second, hits, lost legs, busy), each node (items, hits),\n\
+    a bar to the next phase, and the premises: same configuration, new pool empty, clocks near, no clock went back.\n\
+    On a terminal a look is drawn in place, in colours unless NO_COLOR is set; elsewhere a line is written for each\n\
+    change. With --once there is one look; with --json each is one object, in a line of its own.\n\
+    It ends once every proxy is in the last phase. What was seen broken, and who was never reached, is said again then,\n\
+    and the status is 1. Proxies that aren't listed, and what happens between two looks, it can't see.\n\
+    The standard input isn't read.",
+    "migctl watch --config fleet.json 127.0.0.1:9001 127.0.0.1:9002"
+);

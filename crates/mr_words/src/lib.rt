@@ -10,10 +10,12 @@ mod options;
 mod readings;
 mod service_words;
 mod version;
+mod watch_words;
 mod words;
 
 pub use explain::{Explanation, find_explanation};
 pub use lines::{node_line, plan_line, text_line};
 pub use service_words::{NodeValues, ProxyValues};
 pub use version::{version_line, version_number};
+pub use watch_words::WatchValues;
 pub use words::{PlanValues, TimelineValues, Wanted, WordsFault, read_words};

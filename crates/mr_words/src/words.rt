@@ -16,6 +16,7 @@ use crate::service_words::{
     NodeValues, ProxyValues, node_command, node_values, proxy_command, proxy_values,
 };
 use crate::version::VERSION;
+use crate::watch_words::{WatchValues, watch_command, watch_values};
 use clap::error::ErrorKind;
 use clap::{Arg, ArgAction, ArgMatches, Command, Error, value_parser};
 use std::alloc::{AllocError, Global};
@@ -69,6 +70,8 @@ pub enum Wanted<'a> {
     Node(NodeValues<'a>),
     /// The service of a proxy.
     Proxy(ProxyValues<'a>),
+    /// What is seen of a migration while it runs.
+    Watch(WatchValues<'a>),
     /// What a fault means.
     Explain(Explanation<'static>),
 }
@@ -249,6 +252,7 @@ fn program<'a>(alloc: Global) -> Result<Command<'a>, AllocError>
     let program = with_command(program, upgrade_command(alloc));
     let program = with_command(program, node_command(alloc));
     let program = with_command(program, proxy_command(alloc));
+    let program = with_command(program, watch_command(alloc));
     let program = with_command(program, explain_command(alloc))?;
     Ok(
         program
@@ -341,6 +345,12 @@ fn wanted_of<'a>(alloc: Global, matches: &ArgMatches<'a>) -> Result<Option<Wante
     if let Some(found) = matches.subcommand_matches("proxy") {
         return match proxy_values(found) {
             Some(values) => Ok(Some(Wanted::Proxy(values))),
+            None => Ok(None),
+        };
+    }
+    if let Some(found) = matches.subcommand_matches("watch") {
+        return match watch_values(alloc, found)? {
+            Some(values) => Ok(Some(Wanted::Watch(values))),
             None => Ok(None),
         };
     }

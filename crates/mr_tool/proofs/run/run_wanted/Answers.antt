@@ -1,6 +1,6 @@
 use Rattle.std.proofs.Common.{inl, refl}
 use Rattle.mr_tool.proofs.RunLemmas.{command_run, memory_run, refused_readings_run, refused_words_run, version_run}
-use Rattle.mr_words.specs.declared.words.Wanted.TheVariants.{Plan, Timeline, Run, Check, Upgrade, Node, Proxy, Explain}
+use Rattle.mr_words.specs.declared.words.Wanted.TheVariants.{Plan, Timeline, Run, Check, Upgrade, Node, Proxy, Watch, Explain}
 use Rattle.mr_tool.proofs.run.run_wanted.Goals as goal
 
 pub returns-in-Ok-Plan : goal.returns-in-Ok-Plan
@@ -14,6 +14,12 @@ returns-in-Ok-Timeline g c =
     inl (command_run _ c.in-Ok-Timeline.field-0 (Timeline c.in-Ok-Timeline.values) _ _ _ _ _ _ _ c.in-Ok-Timeline.ensures.exactly c.in-Ok-Timeline.field-0-is
     (c.run_timeline.ensures (g.I.Source.told c.args.input.now) (g.F.Sink.told c.args.faults.now), refl) refl
     (c.finish-in-Ok-Timeline.ensures (g.S.Sources.told c.run_timeline.new.sources) (g.I.Source.told c.args.input.now) (g.O.Sink.told c.run_timeline.new.output)))
+
+pub returns-in-Ok-Watch : goal.returns-in-Ok-Watch
+returns-in-Ok-Watch g c =
+    inl (command_run _ c.in-Ok-Watch.field-0 (Watch c.in-Ok-Watch.values) _ _ _ _ _ _ _ c.in-Ok-Watch.ensures.exactly c.in-Ok-Watch.field-0-is
+    (c.run_watch.ensures (g.I.Source.told c.args.input.now) (g.F.Sink.told c.args.faults.now), refl) refl
+    (c.finish-in-Ok-Watch.ensures (g.S.Sources.told c.run_watch.new.sources) (g.I.Source.told c.args.input.now) (g.O.Sink.told c.run_watch.new.output)))
 
 pub returns-in-Ok-Explain : goal.returns-in-Ok-Explain
 returns-in-Ok-Explain g c =

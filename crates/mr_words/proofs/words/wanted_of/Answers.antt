@@ -1,7 +1,7 @@
 use Rattle.std.proofs.Common.{◌∙◌, codes, refl, sym}
 use Rattle.clap.proofs.WalkLemmas.{first_value-rows}
 use Rattle.clap.specs.Words.{found_of}
-use Rattle.mr_words.proofs.WordLemmas.{explanation_not_found, node_not_found, plan_not_found, proxy_not_found, sub_row}
+use Rattle.mr_words.proofs.WordLemmas.{explanation_not_found, node_not_found, plan_not_found, proxy_not_found, sub_row, watch_not_found}
 use Rattle.mr_words.proofs.words.wanted_of.Goals as goal
 
 pub returns-in-None : goal.returns-in-None
@@ -48,9 +48,16 @@ returns-in-None-proxy_values c =
     let nothing = proxy_not_found c.args.matches.now _ found c.in-None-proxy_values.ensures.missing in
     (nothing.no_command, nothing.no_readings)
 
+pub returns-in-None-3 : goal.returns-in-None-3
+returns-in-None-3 c =
+    let found =
+    sub_row c.args.matches.now _ _ (c.in-Some-subcommand_matches-7.ensures.found.0 refl) c.in-Some-subcommand_matches-7.ensures.rows in
+    let nothing = watch_not_found c.args.matches.now _ found (rw c.in-None-3.is at c.in_ok-values-2.ensures) in
+    (nothing.no_command, nothing.no_readings)
+
 pub returns-in-None-explanation_in : goal.returns-in-None-explanation_in
 returns-in-None-explanation_in c =
     let found =
-    sub_row c.args.matches.now _ _ (c.in-Some-subcommand_matches-7.ensures.found.0 refl) c.in-Some-subcommand_matches-7.ensures.rows in
+    sub_row c.args.matches.now _ _ (c.in-Some-subcommand_matches-8.ensures.found.0 refl) c.in-Some-subcommand_matches-8.ensures.rows in
     let nothing = explanation_not_found c.args.matches.now _ found c.in-None-explanation_in.ensures.missing in
     (nothing.no_command, nothing.no_readings)

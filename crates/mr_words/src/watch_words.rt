@@ -1,0 +1,118 @@
+//! The words of the command that watches a migration.
+ghost use Rattle.std.specs.Prelude.{◌≡◌, ◌++◌, false, map, IfOk, codes};
+ghost use Rattle.clap.specs.Words.{app_of, found_of, rows_of, rule_of};
+ghost use Rattle.mr_words.specs.Command.{address_rule, flag_rule, watch_app};
+ghost use Rattle.mr_words.specs.Words.{has_flag};
+ghost use Rattle.mr_words.specs.WordSteps.{GivesWatch};
+
+use crate::help::WATCH_NOTES;
+use crate::options::{config_option, with_option};
+use clap::{Arg, ArgAction, ArgMatches, Command};
+use std::alloc::{AllocError, Global};
+
+/// The values of the command `watch`.
+#[derive(Debug, Drop)]
+pub struct WatchValues<'a> {
+    /// The path of the configuration's file.
+    pub config: &'a str,
+    /// Whether there is one look alone.
+    pub once: bool,
+    /// Whether looks are written as JSON.
+    pub json: bool,
+    /// Where services tell their metrics: of each a host and a port, with a colon between them.
+    pub addresses: Vec<&'a str>,
+}
+
+impl<'a> WatchValues<'a> {
+    ghost use Rattle.mr_words.specs.Words.{addresses_in};
+
+    /// Where services tell their metrics.
+    pub fn addresses(&self) -> &[&'a str]
+        ensures { map (λ address. address.now) result.now ≡ addresses_in self.now }
+    {
+        self.addresses.as_slice()
+    }
+}
+
+/// A flag, by its name.
+fn flag<'a>(alloc: Global, name: &'a str, help: &'a str) -> Arg<'a>
+    ensures rule { rule_of result ≡ flag_rule name.entry.now }
+    ensures local { result.global ≡ false }
+{
+    Arg::new(alloc, name)
+        .long(name)
+        .action(ArgAction::SetTrue)
+        .help(help)
+}
+
+/// The words that name where services tell their metrics, of which there is one at least.
+fn addresses<'a>(alloc: Global) -> Arg<'a>
+    ensures rule { rule_of result ≡ address_rule }
+    ensures local { result.global ≡ false }
+{
+    Arg::new(alloc, "address")
+        .value_name("metrics address")
+        .num_args(1..)
+        .required(true)
+        .action(ArgAction::Append)
+        .help("Where a proxy or a node tells its metrics, as 127.0.0.1:9001")
+}
+
+/// The command `watch`.
+pub fn watch_command<'a>(alloc: Global) -> Result<Command<'a>, AllocError>
+    ensures { IfOk result (λ command. app_of command ≡ watch_app) }
+{
+    let once = flag(alloc, "once", "Look once, and end");
+    let json = flag(
+        alloc,
+        "json",
+        "Write each look as one object of JSON, in a line",
+    );
+    let watch = Command::new(alloc, "watch")
+        .about("Watches a migration, and whether its premises hold")
+        .after_help(WATCH_NOTES);
+    let watch = with_option(Ok(watch), config_option(alloc));
+    let watch = with_option(watch, once);
+    let watch = with_option(watch, json);
+    with_option(watch, addresses(alloc))
+}
+
+/// Whether a flag was given.
+fn is_given(matches: &ArgMatches, name: &str) -> bool
+    ensures { result ≡ has_flag name.now (rows_of (found_of matches.now)) }
+{
+    match matches.get_str(name) {
+        Some(word) => word == "true",
+        None => false,
+    }
+}
+
+/// These texts, in a list of their own.
+fn listed<'a>(alloc: Global, texts: &[&'a str]) -> Result<Vec<&'a str>, AllocError>
+    ensures { IfOk result (λ list. list.items ≡ texts.now) }
+{
+    let mut list = Vec::new(alloc);
+    list.extend_from_slice(texts)?;
+    Ok(list)
+}
+
+/// The values of the command `watch`, where each of them was found.
+pub fn watch_values<'a>(
+    alloc: Global,
+    matches: &ArgMatches<'a>,
+) -> Result<Option<WatchValues<'a>>, AllocError>
+    ensures { IfOk result (GivesWatch (rows_of (found_of matches.now))) }
+{
+    let Some(config) = matches.get_str("config") else {
+        return Ok(None);
+    };
+    let Some(texts) = matches.get_strs("address") else {
+        return Ok(None);
+    };
+    Ok(Some(WatchValues {
+        config,
+        once: is_given(matches, "once"),
+        json: is_given(matches, "json"),
+        addresses: listed(alloc, texts)?,
+    }))
+}
