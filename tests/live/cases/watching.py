@@ -96,7 +96,8 @@ def each_look_is_an_object():
         status, lines, faults = watch(fleet, watched.config, "--json", *watched.addresses())
         check("its status", (0, b""), (status, faults))
         looks = [json.loads(line) for line in lines]
-        check_true("a look each second", 0 <= looks[-1]["at"] - looks[0]["at"] - (len(looks) - 1) <= 2)
+        more = looks[-1]["at"] - looks[0]["at"] - (len(looks) - 1)  # a look's second is read while it lasts
+        check_true("a look each second", -1 <= more <= 2)
         check("the last phases", ["new-only"] * 2, [proxy["phase"] for proxy in looks[-1]["proxies"]])
         check("the findings", {"empty": "holds", "forward": "holds", "near": "holds", "same": "holds"}, looks[-1]["premises"])
         nodes = [(it["pool"], it["name"], it["items"]) for it in looks[-1]["nodes"]]
