@@ -14,6 +14,7 @@ REFUSED = b"CLIENT_ERROR data too long\r\n"
 BYTES = random.Random(1).randbytes(LARGEST + 4096)
 LITTLE = 32_000_000  # half a megabyte for each of the clients
 CLIENTS = 64
+FEW = 10_000  # more than a line: up to so much room is given back whatever was made
 KEPT = 10  # blocks, at a node of little room
 
 UNPROVED = "MIGCTL_UNPROVED" in os.environ
@@ -148,13 +149,14 @@ def a_block_that_is_only_said_takes_no_memory():
             clients = service.clients(CLIENTS)
             for client in clients:
                 client.ask(get_of("k"), MISS)
+            held_anyway([service], clients)
             before = {name: service.memory(name) for name in ("VmRSS", "VmData")}
-            for text in (b"set k 0 0 %d\r\n" % LARGEST, BYTES[:5000]):
+            for text in (b"set k 0 0 %d\r\n" % LARGEST, BYTES[:FEW]):
                 for client in clients:
                     client.send(text)
                     wait_until_read(client.socket)
                 for name, bytes_before in before.items():
                     wait_for_less(f"{name} of {service.name()}", lambda: service.memory(name), bytes_before + LITTLE)
-            clients[0].ask(BYTES[5000:LARGEST] + b"\r\n", STORED)
+            clients[0].ask(BYTES[FEW:LARGEST] + b"\r\n", STORED)
             for client in clients[1:]:
                 client.close()

@@ -259,8 +259,10 @@ def a_post_with_a_body_is_answered():
     with Fleet() as fleet:
         told = told_node(fleet)
         for _ in range(20):
-            request = b"POST /metrics HTTP/1.1\r\nContent-Length: 20000\r\n\r\n" + b"x" * 20000
-            check("the answer to a POST", 405, status_of(told.address, request))
+            with Client(told.address) as client:
+                client.send(b"POST /metrics HTTP/1.1\r\nContent-Length: 20000\r\n\r\n" + b"x" * 20000)
+                answer, end = client.all_that_comes()
+            check("the answer to a POST, and its end", (b"HTTP/1.1 405", b"<end>"), (answer[:12], end))
 
 
 @case(waits=True)
