@@ -14,7 +14,7 @@ from placing import key_at
 from ports import place_at
 from running import case
 from scraping import asked, scraped, wait_for
-from wanted import check, check_true
+from wanted import Wrong, check, check_true
 
 ANSWERS = ("hit", "miss", "stored", "deleted", "not found", "leg lost", "busy", "out of memory", "clock fault", "other fault")
 
@@ -253,6 +253,16 @@ def status_of(address, request):
         return int(client.line().split()[1])
 
 
+def expect_taken(client, piece):
+    """The other side still takes ten such pieces: it doesn't reset the connection."""
+    for _ in range(10):
+        try:
+            client.send(piece)
+        except OSError as fault:
+            raise Wrong("what is sent behind the answer", "it is taken", fault) from fault
+        time.sleep(0.01)
+
+
 @case
 def a_post_with_a_body_is_answered():
     """What stands behind the head is read, so that no reset takes the answer along."""
@@ -260,9 +270,10 @@ def a_post_with_a_body_is_answered():
         told = told_node(fleet)
         for _ in range(20):
             with Client(told.address) as client:
-                client.send(b"POST /metrics HTTP/1.1\r\nContent-Length: 20000\r\n\r\n" + b"x" * 20000)
+                client.send(b"POST /metrics HTTP/1.1\r\nContent-Length: 21000\r\n\r\n" + b"x" * 20000)
                 answer, end = client.all_that_comes()
-            check("the answer to a POST, and its end", (b"HTTP/1.1 405", b"<end>"), (answer[:12], end))
+                check("the answer to a POST, and its end", (b"HTTP/1.1 405", b"<end>"), (answer[:12], end))
+                expect_taken(client, b"x" * 100)
 
 
 @case(waits=True)
