@@ -1,4 +1,4 @@
-"""Nodes that answer as a case wants: late, in pieces, wrongly, or not at all."""
+"""Nodes, and services that tell metrics, that answer as a case wants: late, in pieces, wrongly, or not at all."""
 import socket
 import threading
 import time
@@ -96,6 +96,53 @@ def answering(answers):
         link.request()
 
     return talk
+
+
+class FullQueue:
+    """An address whose queue of connections is full, so that connecting to it takes until the system gives up."""
+
+    def __init__(self):
+        self.sockets = [socket.create_server(("127.0.0.1", 0), backlog=0)]
+        name = self.sockets[0].getsockname()
+        self.address = "127.0.0.1:%d" % name[1]
+        for _ in range(4):
+            waiting = socket.socket()
+            self.sockets.append(waiting)
+            waiting.setblocking(False)
+            waiting.connect_ex(name)
+
+    def close(self):
+        """Keeps the address no longer."""
+        for it in self.sockets:
+            it.close()
+
+
+class Teller(FakeNode):
+    """A service that answers each request by a text, after so many seconds: both are functions of the request's number, from 0.
+    A request for metrics is one of HTTP, and so is its answer. In a journal it notes its name and the time of each request."""
+
+    def __init__(self, text_of, delay_of=lambda number: 0, name="", journal=None):
+        self.text_of = text_of
+        self.delay_of = delay_of
+        self.name = name
+        self.journal = [] if journal is None else journal
+        self.asked = 0
+        super().__init__(self.answer)
+
+    def answer(self, link):
+        """Answers one request, and ends the connection."""
+        line = link.request()
+        if not line:
+            return
+        number, self.asked = self.asked, self.asked + 1
+        self.journal.append((self.name, time.monotonic()))
+        text = self.text_of(number)
+        if line.startswith(b"GET "):
+            while link.request().strip():
+                pass
+            text = b"HTTP/1.1 200 OK\r\nContent-Length: %d\r\n\r\n" % len(text) + text
+        time.sleep(self.delay_of(number))
+        link.send(text)
 
 
 class SlowNode(FakeNode):

@@ -24,6 +24,12 @@ TRIES = 5  # ports that are tried for a service before it is given up
 HOME = tempfile.mkdtemp(prefix="migctl-live-")  # of the files of all cases, until the run ends
 
 
+class Telling:
+    """Whether each service of the run tells its metrics, those too whose case doesn't ask for it."""
+
+    always = False
+
+
 @functools.lru_cache(maxsize=None)
 def program():
     """The program, which is looked for once."""
@@ -47,6 +53,7 @@ class Service:
         self.words = words
         self.place = place
         self.address = place.address(host)
+        self.metrics = words[words.index("--metrics") + 1] if "--metrics" in words else None
         self.ended_by_case = False
         self.begin()
 
@@ -61,12 +68,19 @@ class Service:
         """Waits until it listens. Whether it does: else it has ended."""
         until = time.monotonic() + PATIENCE
         while self.child.poll() is None:
-            if is_listened_at(self.address):
+            if self.has_begun():
                 return True
             if time.monotonic() > until:
                 raise Wrong(f"the start of {self.name()}", "something that listens", "nothing")
             time.sleep(0.005)
         return False
+
+    def has_begun(self):
+        """Whether it listens and, where it tells its metrics, has the socket and the thread for that, so that who counts its open
+        files or its threads counts these too."""
+        if not is_listened_at(self.address):
+            return False
+        return self.metrics is None or (is_listened_at(self.metrics) and self.thread_count() > 1)
 
     def client(self, little_room=False):
         """A connection to it, which may have room for some 70,000 bytes alone that aren't read yet."""
@@ -208,7 +222,7 @@ class Fleet:
         by another clock. Where another program took the port meanwhile, it is started at another one."""
         before = clock.words() if clock else []
         for _ in range(TRIES):
-            service = Service(self, [*before, program(), *words], self.keep(place_at(*hosts)), host)
+            service = Service(self, [*before, program(), *words, *self.telling(words)], self.keep(place_at(*hosts)), host)
             self.services.append(service)
             if service.listens():
                 return service
@@ -216,13 +230,19 @@ class Fleet:
             check(f"why {service.name()} ended", (1, b"", taken), (service.wait(), *service.printed()))
         raise Wrong(f"{words}", f"a free port among {TRIES}", "none")
 
+    def telling(self, words):
+        """The words by which a service tells its metrics where all do, unless these say it already."""
+        if not Telling.always or "--metrics" in words:
+            return []
+        return ["--metrics", self.keep(place_at("127.0.0.1")).address()]
+
     def node(self, *words, clients=FOREVER, **where):
         """A node, which serves clients until the case ends unless a number of them is said."""
         return self.serve("node", "--clients", str(clients), *words, **where)
 
     def second_node(self, first, host):
         """A node at the port of another one, which is kept at this host too."""
-        service = Service(self, [program(), "node", "--clients", FOREVER], first.place, host)
+        service = Service(self, [program(), "node", "--clients", FOREVER, *self.telling([])], first.place, host)
         self.services.append(service)
         if not service.listens():
             raise Wrong(f"the start of {service.name()}", "something that listens", service.printed())
@@ -278,7 +298,8 @@ class Fleet:
 
     def start_command(self, *words, stdin=subprocess.PIPE, stdout=subprocess.PIPE, memory=None):
         """Starts a command, which is ended with the case at the latest."""
-        words = [program(), *(os.fspath(word) for word in words)]
+        telling = self.telling(words) if words[:1] in (("node",), ("proxy",)) else []
+        words = [program(), *(os.fspath(word) for word in words), *telling]
         if memory is not None:
             words = ["sh", "-c", f'ulimit -v {memory // 1024}; exec "$@"', "sh", *words]
         child = CHILDREN.start(words, stdin=stdin, stdout=stdout, stderr=subprocess.PIPE)

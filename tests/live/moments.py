@@ -36,3 +36,14 @@ def moment(second):
 def now():
     """What is done here has to be over soon, like what is done at any other moment."""
     return moment(time.time())
+
+
+@contextlib.contextmanager
+def within(seconds):
+    """Notes whether what is done here was over within so many seconds."""
+    begun = time.monotonic()
+    try:
+        yield
+    finally:
+        if time.monotonic() > begun + seconds:
+            this_thread.late = True

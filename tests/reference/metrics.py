@@ -55,7 +55,7 @@ def of_service(known):
         + one("migctl_clock_seconds", "What the clock of the service says, in seconds since the epoch.", "gauge", known["clock"])
         + one(
             "migctl_clock_steps_back_total",
-            "How often the clock gave a reading before one that it had given.",
+            "How often the clock gave a reading before the one that it gave last.",
             "counter",
             known["steps_back"],
         )

@@ -165,9 +165,11 @@ def found(look):
 
 
 def is_last(look):
-    last = len(look["schedule"]) - 1
-    proxies = look["proxies"]
-    return bool(proxies) and all(proxy["told"] and (proxy["told"]["phase"], proxy["told"]["hop"]) == (3, last) for proxy in proxies)
+    """Whether a proxy answered, and each one that ever did says that it is in the last phase of the last hop."""
+    last = (3, len(look["schedule"]) - 1)
+    missed = [proxy for proxy in look["proxies"] if proxy["known"] and not proxy["told"]]
+    places = [(proxy["told"]["phase"], proxy["told"]["hop"]) for proxy in reached(look["proxies"])]
+    return bool(places) and not missed and set(places) == {last}
 
 
 def place(schedule, at):
@@ -227,7 +229,8 @@ def proxy_line(look, proxy):
     phase = PHASES[known["phase"]]
     clock = cell(None)
     if known["clock"] is not None:
-        ahead = known["clock"] - look["at"]
+        passed = max(proxy["answered"] - look["moment"], 0) // 1000
+        ahead = known["clock"] - min(look["at"] + passed, MOST)
         clock = (("-" if ahead < 0 else "+") + short(abs(ahead))).rjust(8)
     cells = [rate(look, proxy), known["hits"], known["lost"], known["busy"]]
     shown = coloured(look, CYAN, phase) + " " * (13 - len(phase))

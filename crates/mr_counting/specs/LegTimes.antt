@@ -1,5 +1,5 @@
 -- How legs are counted by how long they took.
-use Rattle.std.specs.Prelude.{ℕ, ◌+◌, List, [], ◌∷◌, nat_le, if◌then◌else◌}
+use Rattle.std.specs.Prelude.{◌≡◌, ℕ, ◌+◌, ◌-◌, ◌*◌, ◌/◌, List, [], ◌∷◌, codes, map, take, nat_eq, nat_le, refl, if◌then◌else◌}
 
 -- the longest times that are told apart, in microseconds, rising
 abbrev pub bounds : List ℕ
@@ -10,3 +10,39 @@ bounds =
 abbrev pub place_in : List ℕ → ℕ → ℕ
 place_in [] micros = 0
 place_in (bound ∷ longer) micros = if nat_le micros bound then 0 else place_in longer micros + 1
+
+-- the same bounds as they are told, in seconds, and behind them the bound of what took longer than all
+abbrev pub bound_texts : List (List ℕ)
+bound_texts =
+    codes "0.0001"
+    ∷ codes "0.00025"
+    ∷ codes "0.0005"
+    ∷ codes "0.001"
+    ∷ codes "0.0025"
+    ∷ codes "0.005"
+    ∷ codes "0.01"
+    ∷ codes "0.025"
+    ∷ codes "0.05"
+    ∷ codes "0.1"
+    ∷ codes "0.25"
+    ∷ codes "0.5"
+    ∷ codes "1"
+    ∷ codes "2.5"
+    ∷ codes "5"
+    ∷ codes "+Inf"
+    ∷ []
+
+-- the microseconds that the digits behind a point say, of which the first counts so many
+abbrev pub micros_behind : ℕ → List ℕ → ℕ
+micros_behind unit [] = 0
+micros_behind unit (digit ∷ digits) = (digit - 48) * unit + micros_behind (unit / 10) digits
+
+-- the microseconds that a decimal number of seconds says, behind these whole seconds
+abbrev pub micros_said : ℕ → List ℕ → ℕ
+micros_said seconds [] = seconds * 1000000
+micros_said seconds (c ∷ rest) =
+    if nat_eq c 46 then seconds * 1000000 + micros_behind 100000 rest else micros_said (seconds * 10 + (c - 48)) rest
+
+-- what is told are these bounds
+pub told-bounds : map (micros_said 0) (take 15 bound_texts) ≡ bounds
+told-bounds = refl

@@ -37,6 +37,7 @@ pub struct AnswerCounts {
 }
 
 /// Why the first of these legs that failed did; a leg without a reply was lost.
+#[inline(always)]
 fn first_cause<'a>(slots: &'a [Slot], lost: &'a Cause) -> Option<&'a Cause>
     requires { lost.now ≡ Cause.LegLost }
     ensures { option_map (λ cause. cause.now) result ≡ first_cause (map reply_of_slot slots.now) }
@@ -96,6 +97,7 @@ impl AnswerCounts {
     }
 
     /// Counts a key of a get.
+    #[inline(always)]
     fn add_key(&mut self, slot: &Slot)
         ensures { self.new ≡ key_counted self.old (reply_of_slot slot.now) }
     {
@@ -107,6 +109,7 @@ impl AnswerCounts {
     }
 
     /// Counts the keys of a get.
+    #[inline(always)]
     fn add_keys(&mut self, slots: &[Slot])
         ensures { self.new ≡ fold key_counted self.old (map reply_of_slot slots.now) }
     {
@@ -127,6 +130,7 @@ impl AnswerCounts {
     }
 
     /// Counts what a request was answered whose legs didn't fail.
+    #[inline(always)]
     fn add_success(&mut self, request: &Request, slots: &[Slot])
         ensures { self.new ≡ success_counted request.now (map reply_of_slot slots.now) self.old }
     {
@@ -139,6 +143,7 @@ impl AnswerCounts {
     }
 
     /// Counts what a request was answered.
+    #[inline(always)]
     pub(crate) fn add_answer(&mut self, answer: &Answer)
         ensures { self.new ≡ answer_counted answer.now self.old }
     {

@@ -1,14 +1,13 @@
-//! Carriers of a connection that count what becomes of their legs, and how long they take.
+//! Carriers of a connection that count how long their legs take, and which ones couldn't be sent.
 use crate::legs::LegTotals;
 use mr_desks::{Carried, Carrier, Carriers};
-use mr_join::LegReply;
-use mr_proxy::{Leg, LegBack};
-use mr_text::Cause;
+use mr_proxy::Leg;
 use std::marker::Model;
-use std::time;
 use std::time::Duration;
+use std::{io, time};
 
-/// Carriers that count what becomes of their legs, and how long they take. They send and receive as those within do.
+/// Carriers that count how long their legs take, and which ones couldn't be sent. They send and receive as those within do; what
+/// became of a leg that came back is counted by the proxy that takes it.
 pub struct CountedCarriers<'a, L, R: time::Clock> {
     carriers: L,
     rt: &'a R,
@@ -32,11 +31,6 @@ impl<'a, L, R: time::Clock> Model for CountedCarriers<'a, L, R> {
     ghost view = { λ c. c.carriers };
 }
 
-/// Whether a leg was carried: it came back, and not as a lost one.
-fn was_carried(back: &LegBack) -> bool {
-    !matches!(back.reply, LegReply::Failed(Cause::LegLost))
-}
-
 impl<'a, L, R: time::Clock> CountedCarriers<'a, L, R> {
     ghost use Rattle.std.specs.Prelude.{◌≡◌};
 
@@ -51,23 +45,18 @@ impl<'a, L, R: time::Clock> CountedCarriers<'a, L, R> {
         }
     }
 
-    /// The microseconds of a clock that never goes back, where the machine gives them.
-    fn micros(&self) -> Option<u64> {
-        match self.rt.monotonic() {
-            Ok(moment) => Some(micros_of(moment)),
-            Err(_) => None,
-        }
-    }
-
-    /// Counts how long a leg took that was begun then.
-    fn add_time(&self, began: Option<u64>) {
-        if let (Some(began), Some(ended)) = (began, self.micros()) {
-            self.totals.times().add(ended.saturating_sub(began));
+    /// Counts how long a leg took that was begun then, by a clock that never goes back, where the machine has one.
+    #[inline(always)]
+    fn add_time(&self, began: io::Result<Duration>) {
+        if let (Ok(began), Ok(ended)) = (began, self.rt.monotonic()) {
+            let passed = ended.saturating_sub(began);
+            self.totals.times().add(micros_of(passed));
         }
     }
 }
 
 /// So many whole microseconds, as far as 64 bits count.
+#[inline(always)]
 fn micros_of(duration: Duration) -> u64 {
     let seconds = duration.as_secs().saturating_mul(1_000_000);
     seconds.saturating_add(u64::from(duration.subsec_micros()))
@@ -76,22 +65,19 @@ fn micros_of(duration: Duration) -> u64 {
 impl<'a, C: Carrier, L: Carriers<C>, R: time::Clock> Carriers<C> for CountedCarriers<'a, L, R> {
     ghost told = { L.told };
 
+    #[inline(always)]
     fn send(&mut self, leg: Leg) -> Option<Leg> {
-        let began = self.micros();
+        let began = self.rt.monotonic();
         let back = self.carriers.send(leg);
         match &back {
-            Some(leg) => self.totals.add(leg.sheet(), false),
+            Some(leg) => self.totals.add_unsent(leg.sheet()),
             None => self.add_time(began),
         }
         back
     }
 
+    #[inline(always)]
     fn receive(&mut self) -> Option<Carried<C>> {
-        let came = self.carriers.receive();
-        if let Some(carried) = &came {
-            let back = carried.back();
-            self.totals.add(&back.sheet, was_carried(back));
-        }
-        came
+        self.carriers.receive()
     }
 }

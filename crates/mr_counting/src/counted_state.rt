@@ -1,5 +1,5 @@
 //! A proxy that counts what it is asked and what it answers.
-ghost use Rattle.std.specs.Prelude.{◌≡◌, ◌≢◌, ◌≤◌, length, Some, None, OnErr, IfOk, IfErr, MatchResult};
+ghost use Rattle.std.specs.Prelude.{◌≡◌, ◌≢◌, ◌≤◌, length, Some, None, OnErr, IfOk, IfErr, IsOk, MatchResult};
 ghost use Rattle.mr_text.specs.declared.request.Request.{Request};
 ghost use Rattle.mr_proxy.specs.Transitions.{given_up_of};
 ghost use Rattle.mr_desks.specs.Desk.{IsUnderLock};
@@ -75,6 +75,7 @@ impl<C: Carrier> CountedState<C> {
     }
 
     /// The phase of a reading.
+    #[inline(always)]
     fn phase_at(&mut self, reading: u64) -> PhaseName
         ensures phase { result ≡ phase_of self.old.schedule reading }
         ensures same { self.new ≡ self.old }
@@ -88,6 +89,7 @@ impl<C: Carrier> CountedState<C> {
     }
 
     /// Counts an answer.
+    #[inline(always)]
     fn add_answer(&mut self, answer: &Answer)
         ensures { self.new ≡ record self.old { counts = after_answered self.old.schedule answer.now self.old.counts } }
     {
@@ -103,6 +105,7 @@ impl<C: Carrier> CountedState<C> {
     }
 
     /// Issues a request as `SharedState` does, and counts that, or why it was refused.
+    #[inline(always)]
     pub fn issue<K: Clock>(
         &mut self,
         share: &mut Share,
@@ -122,35 +125,35 @@ impl<C: Carrier> CountedState<C> {
         ensures schedule { self.new.schedule ≡ self.old.schedule }
         ensures locked { IsUnderLock C.gave self.old.proxy }
     {
-        match self.state.issue(share, clock, request) {
-            Ok(issued) => {
-                self.counts.add_issue();
-                Ok(issued)
-            }
-            Err(refusal) => {
-                self.counts.add_refusal(refusal);
-                Err(refusal)
-            }
+        let issued = self.state.issue(share, clock, request);
+        match &issued {
+            Ok(_) => self.counts.add_issue(),
+            Err(refusal) => self.counts.add_refusal(*refusal),
         }
+        issued
     }
 
-    /// Takes a leg that came back as `SharedState` does, and counts the answer that it makes whole.
-    pub fn take(&mut self, carried: &mut Carried<C>) -> Taken
-        ensures became { BecomesOf self.old.proxy carried.old.back result }
-        ensures counted { self.new.counts ≡ after_taken self.old.schedule result self.old.counts }
+    /// Takes a leg that came back as `SharedState` does, and counts the answer that it makes whole. It never fails; what comes of
+    /// it is a `Result` as a desk's is, so that an answer is moved no more than needed.
+    #[inline(always)]
+    pub fn take(&mut self, carried: &mut Carried<C>) -> Result<Taken, DeskError>
+        ensures became { IfOk result (BecomesOf self.old.proxy carried.old.back) }
+        ensures counted { IfOk result (λ taken. self.new.counts ≡ after_taken self.old.schedule taken self.old.counts) }
         ensures schedule { self.new.schedule ≡ self.old.schedule }
-        ensures stands { TakenStands C.gave result }
-        ensures in_time { TakenInTime result }
+        ensures stands { IfOk result (TakenStands C.gave) }
+        ensures in_time { IfOk result TakenInTime }
+        ensures never_fails { IsOk result }
         ensures locked { IsUnderLock C.gave self.old.proxy }
     {
-        let taken = self.state.take(carried);
-        if let Taken::Answered(answer) = &taken {
+        let taken = Ok(self.state.take(carried));
+        if let Ok(Taken::Answered(answer)) = &taken {
             self.add_answer(answer);
         }
         taken
     }
 
     /// Gives a request up as `SharedState` does, and counts its answer.
+    #[inline(always)]
     pub fn give_up(&mut self, op: OpId) -> Result<Answer, DeskError>
         ensures answer { IfOk result (λ answer. given_up_of self.old.proxy op ≡ Some answer) }
         ensures stands { IfOk result (AnswerStands C.gave) }
@@ -161,12 +164,10 @@ impl<C: Carrier> CountedState<C> {
         ensures schedule { self.new.schedule ≡ self.old.schedule }
         ensures locked { IsUnderLock C.gave self.old.proxy }
     {
-        match self.state.give_up(op) {
-            Ok(answer) => {
-                self.add_answer(&answer);
-                Ok(answer)
-            }
-            Err(refusal) => Err(refusal),
+        let given_up = self.state.give_up(op);
+        if let Ok(answer) = &given_up {
+            self.add_answer(answer);
         }
+        given_up
     }
 }

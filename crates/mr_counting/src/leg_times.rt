@@ -1,6 +1,6 @@
 //! How long legs took, carried and lost ones, counted by all connections.
-ghost use Rattle.std.specs.Prelude.{◌≡◌, ◌<◌, ◌≤◌, length};
-ghost use Rattle.mr_counting.specs.LegTimes.{bounds, place_in};
+ghost use Rattle.std.specs.Prelude.{◌≡◌, ◌<◌, ◌≤◌, length, map};
+ghost use Rattle.mr_counting.specs.LegTimes.{bounds, bound_texts, place_in};
 
 use mr_metrics::Bucket;
 use std::sync::atomic::{AtomicU64, Ordering};
@@ -14,13 +14,8 @@ const BOUNDS: [u64; 15] = [
 /// How many counts there are: one for each bound, and one for what took longer.
 pub const BUCKETS: usize = 16;
 
-/// The same bounds in seconds, as they are told.
-const BOUND_TEXTS: [&str; BUCKETS] = [
-    "0.0001", "0.00025", "0.0005", "0.001", "0.0025", "0.005", "0.01", "0.025", "0.05", "0.1",
-    "0.25", "0.5", "1", "2.5", "5", "+Inf",
-];
-
 /// The place of the first of these bounds that a time isn't longer than; behind the last where it is longer than all.
+#[inline(always)]
 fn place_among(bounds: &[u64], micros: u64) -> usize
     ensures place { result ≡ place_in bounds.now micros }
     ensures within { result ≤ length bounds.now }
@@ -36,6 +31,7 @@ fn place_among(bounds: &[u64], micros: u64) -> usize
 }
 
 /// The place of the first bound that a time isn't longer than.
+#[inline(always)]
 fn place_of(micros: u64) -> usize
     ensures place { result ≡ place_in bounds micros }
     ensures within { result < 16 }
@@ -90,6 +86,7 @@ impl LegTimes {
     }
 
     /// Counts a leg that took so many microseconds.
+    #[inline(always)]
     pub(crate) fn add(&self, micros: u64) {
         self.counts[place_of(micros)].fetch_add(1, Ordering::SeqCst);
         self.micros.fetch_add(micros, Ordering::SeqCst);
@@ -100,18 +97,38 @@ impl LegTimes {
         self.micros.load(Ordering::SeqCst)
     }
 
-    /// How often they took how long, by rising bounds.
-    pub fn buckets(&self) -> [Bucket<'static>; BUCKETS] {
-        let mut buckets = [Bucket {
-            bound: "+Inf",
-            count: 0,
-        }; BUCKETS];
-        for place in 0..BUCKETS {
-            buckets[place] = Bucket {
-                bound: BOUND_TEXTS[place],
-                count: self.counts[place].load(Ordering::SeqCst),
-            };
+    /// How often they took how long, by a bound in seconds and its place.
+    fn bucket(&self, bound: &'static str, place: usize) -> Bucket<'static>
+        requires { place < 16 }
+        ensures { result.bound.now ≡ bound.entry.now }
+    {
+        Bucket {
+            bound,
+            count: self.counts[place].load(Ordering::SeqCst),
         }
-        buckets
+    }
+
+    /// How often they took how long, by rising bounds in seconds.
+    pub fn buckets(&self) -> [Bucket<'static>; BUCKETS]
+        ensures { map (λ bucket. bucket.bound.now) result ≡ bound_texts }
+    {
+        [
+            self.bucket("0.0001", 0),
+            self.bucket("0.00025", 1),
+            self.bucket("0.0005", 2),
+            self.bucket("0.001", 3),
+            self.bucket("0.0025", 4),
+            self.bucket("0.005", 5),
+            self.bucket("0.01", 6),
+            self.bucket("0.025", 7),
+            self.bucket("0.05", 8),
+            self.bucket("0.1", 9),
+            self.bucket("0.25", 10),
+            self.bucket("0.5", 11),
+            self.bucket("1", 12),
+            self.bucket("2.5", 13),
+            self.bucket("5", 14),
+            self.bucket("+Inf", 15),
+        ]
     }
 }

@@ -2,8 +2,10 @@
 ghost use Rattle.std.specs.Prelude.{◌≡◌, IfOk, length, map, vec_len};
 
 use crate::leg_times::LegTimes;
+use mr_join::LegReply;
 use mr_pools::{Pool, Routing};
-use mr_proxy::LegSheet;
+use mr_proxy::{LegBack, LegSheet};
+use mr_text::Cause;
 use std::alloc::{AllocError, Global};
 use std::sync::atomic::{AtomicU64, Ordering};
 
@@ -32,6 +34,7 @@ impl LegCounts {
     }
 
     /// Counts a leg that was carried, or lost.
+    #[inline(always)]
     pub(crate) fn add(&self, carried: bool) {
         if carried {
             self.carried.fetch_add(1, Ordering::SeqCst);
@@ -102,6 +105,7 @@ impl LegTotals {
     }
 
     /// The counts of a node of a pool.
+    #[inline(always)]
     fn at(&self, pool: usize, node: usize) -> &LegCounts {
         match self.pools.get(pool) {
             Some(nodes) => nodes.get(node).unwrap_or(&self.others),
@@ -110,9 +114,22 @@ impl LegTotals {
     }
 
     /// Counts a leg that was carried, or lost.
-    pub(crate) fn add(&self, sheet: &LegSheet, carried: bool) {
+    #[inline(always)]
+    fn add(&self, sheet: &LegSheet, carried: bool) {
         self.at(sheet.pool_number(), sheet.node as usize)
             .add(carried);
+    }
+
+    /// Counts a leg that came back: it was carried, unless it came as a lost one.
+    #[inline(always)]
+    pub(crate) fn add_back(&self, back: &LegBack) {
+        let lost = matches!(back.reply, LegReply::Failed(Cause::LegLost));
+        self.add(&back.sheet, !lost);
+    }
+
+    /// Counts a leg that couldn't be sent, which is lost.
+    pub(crate) fn add_unsent(&self, sheet: &LegSheet) {
+        self.add(sheet, false);
     }
 
     /// How long legs took.

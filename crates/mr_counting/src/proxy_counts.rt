@@ -24,6 +24,7 @@ pub struct ProxyCounts {
 }
 
 /// The later of the readings so far and this one.
+#[inline(always)]
 fn later_of(last: Option<u64>, reading: u64) -> Option<u64>
     ensures { result ≡ later_of last reading }
 {
@@ -43,6 +44,7 @@ impl ProxyCounts {
     };
 
     /// Counts a request that was issued.
+    #[inline(always)]
     pub(crate) fn add_issue(&mut self)
         ensures { self.new ≡ after_issued self.old }
     {
@@ -50,6 +52,7 @@ impl ProxyCounts {
     }
 
     /// Counts an answer, and its request in this phase, which is that of its own reading.
+    #[inline(always)]
     pub(crate) fn add_answer(&mut self, phase: PhaseName, answer: &Answer)
         ensures { (hops : List Hop) → phase ≡ phase_of hops answer.now.reading
             → self.new ≡ after_answered hops answer.now self.old }

@@ -29,6 +29,7 @@ impl PhaseCounts {
     };
 
     /// Counts one more in a phase.
+    #[inline(always)]
     fn add(&mut self, phase: PhaseName)
         ensures { self.new ≡ phase_counted phase self.old }
     {
@@ -61,6 +62,7 @@ impl RequestCounts {
     };
 
     /// Counts a request in the phase that was in force.
+    #[inline(always)]
     pub(crate) fn add(&mut self, request: &Request, phase: PhaseName)
         ensures { self.new ≡ request_counted request.now phase self.old }
     {

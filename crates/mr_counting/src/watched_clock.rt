@@ -27,17 +27,19 @@ impl ClockWatch {
         }
     }
 
-    /// How often a reading came that was before one that had come.
+    /// How often a reading came that was before the one that had come last.
     pub fn steps_back(&self) -> u64 {
         self.steps_back.load(Ordering::SeqCst)
     }
 
     /// The reading that was seen last, before another one is taken.
+    #[inline(always)]
     fn latest(&self) -> u64 {
         self.latest.load(Ordering::SeqCst)
     }
 
     /// Sees a reading that was taken after this one was seen. Of several who see the same step back one counts it.
+    #[inline(always)]
     fn see(&self, before: u64, reading: u64) {
         if reading == before {
             return;
@@ -87,6 +89,7 @@ impl<'a, K: Clock + Clone> Clock for WatchedClock<'a, K> {
 
     ghost reads = { K.reads };
 
+    #[inline(always)]
     fn now(&mut self) -> Result<u64, ClockFault> {
         let before = self.watch.latest();
         let reading = self.clock.now()?;

@@ -26,7 +26,7 @@ clock_family clock = perhaps_number (codes "migctl_clock_seconds") (codes "What 
 
 -- how often its clock went back
 abbrev pub steps_back_family : ℕ → List ℕ
-steps_back_family steps_back = one_number (codes "migctl_clock_steps_back_total") (codes "How often the clock gave a reading before one that it had given.") Counter steps_back
+steps_back_family steps_back = one_number (codes "migctl_clock_steps_back_total") (codes "How often the clock gave a reading before the one that it gave last.") Counter steps_back
 
 -- a service
 abbrev pub service_text : ServiceSnapshot → List ℕ

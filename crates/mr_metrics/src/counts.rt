@@ -81,7 +81,7 @@ impl AnswerKind {
     }
 }
 
-/// How many requests of a command were issued in a phase.
+/// How many requests of a command came to an answer, of those judged in a phase.
 #[derive(Clone, Copy, Debug)]
 pub struct RequestCount {
     /// The command.
@@ -114,7 +114,7 @@ pub struct LegCount<'a> {
     pub lost: u64,
 }
 
-/// Adds how many requests of a command were issued in a phase.
+/// Adds how many requests of a command came to an answer, of those judged in a phase.
 fn push_request(text: &mut Vec<u8>, name: &str, row: &RequestCount) -> Result<(), AllocError>
     ensures { OnOk result (text.new.items ≡ text.old.items ++ request_sample name.now row.now) }
 {
@@ -157,7 +157,7 @@ fn push_family_of_requests(
     Ok(())
 }
 
-/// Adds how many requests were issued, by command and phase.
+/// Adds how many requests came to an answer, by command and phase.
 pub(crate) fn push_requests(text: &mut Vec<u8>, rows: &[RequestCount]) -> Result<(), AllocError>
     ensures { OnOk result (text.new.items ≡ text.old.items ++ requests_family rows.now) }
 {

@@ -19,13 +19,13 @@ pub struct ProxySnapshot<'a> {
     pub service: ServiceSnapshot<'a>,
     /// The SHA-256 of its configuration as transcripts write it, in hexadecimal digits.
     pub config: &'a str,
-    /// How many requests were issued, by command and phase.
+    /// How many requests came to an answer, by command and phase.
     pub requests: &'a [RequestCount],
     /// What clients were answered, by kind.
     pub answers: &'a [AnswerCount],
     /// What became of legs, by node.
     pub legs: &'a [LegCount<'a>],
-    /// How long legs took that came back.
+    /// How long legs took that were sent, lost ones among them.
     pub leg_times: Times<'a>,
     /// How many requests are under way.
     pub under_way: u64,
@@ -33,9 +33,9 @@ pub struct ProxySnapshot<'a> {
     pub room: u64,
     /// The latest reading by which an answered request was judged, in seconds since the epoch.
     pub last_issue: Option<u64>,
-    /// The migration in force by its clock, counted from 0.
+    /// The migration in force at the larger of its clock and its last issue, counted from 0.
     pub hop: u64,
-    /// The phase in force by its clock.
+    /// The phase in force at the same reading.
     pub phase: PhaseName,
     /// When the next phase begins, in seconds since the epoch.
     pub next_phase: Option<u64>,

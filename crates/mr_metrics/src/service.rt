@@ -19,7 +19,7 @@ pub struct ServiceSnapshot<'a> {
     pub accepted: u64,
     /// What its clock says now, in seconds since the epoch.
     pub clock: Option<u64>,
-    /// How often its clock gave a reading before one that it had given.
+    /// How often its clock gave a reading before the one that it gave last.
     pub steps_back: u64,
 }
 
@@ -93,7 +93,7 @@ fn push_steps_back(text: &mut Vec<u8>, steps_back: u64) -> Result<(), AllocError
     push_one(
         text,
         "migctl_clock_steps_back_total",
-        "How often the clock gave a reading before one that it had given.",
+        "How often the clock gave a reading before the one that it gave last.",
         Kind::Counter,
         steps_back,
     )

@@ -292,7 +292,7 @@ impl<
 
     /// Serves a proxy as `serve_proxy` does, and tells its metrics to those that scrape them, with the digest of its
     /// configuration. Metrics where their address is none or no socket listens there. What becomes of its
-    /// legs is counted in the totals that are lent.
+    /// legs is counted in these totals.
     pub fn tell_proxy(
         &mut self,
         alloc: Global,
@@ -301,7 +301,7 @@ impl<
         config: &str,
         core: ProxyCore,
         routing: &Routing,
-        totals: &LegTotals,
+        legs: LegTotals,
         bounds: ServiceBounds,
     ) -> Result<u64, OpenFault>
         requires { IsFresh core }
@@ -325,7 +325,7 @@ impl<
             config,
             core,
             routing,
-            totals,
+            legs,
             bounds,
             &mut self.runs,
         );

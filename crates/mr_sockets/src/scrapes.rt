@@ -13,7 +13,7 @@ use std::thread::{Scope, Threads};
 use std::time::{Clock, Duration, Instant};
 
 /// How often it is looked whether a scraper came, and whether the service has ended, in milliseconds.
-const LOOK_MILLIS: u64 = 50;
+const LOOK_MILLIS: u64 = 5;
 
 /// How long a scraper is served at most, in milliseconds, however slowly it asks or reads.
 const SCRAPE_MILLIS: u64 = 5_000;

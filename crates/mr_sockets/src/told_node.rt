@@ -1,5 +1,5 @@
 //! The service of a node that tells its metrics.
-ghost use Rattle.std.specs.Prelude.{◌≡◌, ◌+◌, ◌≤◌, Some, [], ◌∷◌, ◌++◌, option_map};
+ghost use Rattle.std.specs.Prelude.{◌≡◌, ◌+◌, ◌≤◌, Some, Err, [], ◌∷◌, ◌++◌, option_map};
 ghost use Rattle.mr_sockets.specs.Servers.{NodeServing, run};
 
 use crate::bounds::ServiceBounds;
@@ -10,8 +10,8 @@ use crate::seeded_node::SeededNode;
 use crate::telling::{CountedService, serve_and_tell};
 use mr_clock::{Clock, SystemClock};
 use mr_counting::{ClockWatch, CountedNode, NodeIdentity, NodeTeller, ServiceCounts, WatchedClock};
-use mr_node::serve;
-use mr_text::{OverReader, OverWriter};
+use mr_node::{Ended, NodeError, serve};
+use mr_text::{OverReader, OverWriter, Sink, Source};
 use std::alloc::Global;
 use std::net::TcpStream;
 use std::snapshot::Snapshot;
@@ -44,6 +44,22 @@ impl<'a, K: Clock + Clone, R: Wait> Drop for ToldNodeService<'a, K, R> {
     }
 }
 
+impl<'a, K: Clock + Clone, R: Wait> ToldNodeService<'a, K, R> {
+    /// Serves what a reader gives, in at most `turns` reads.
+    fn serve_stream<C: Clock, S: Source, W: Sink>(
+        &self,
+        clock: &mut C,
+        reader: &mut S,
+        writer: &mut W,
+    ) -> Result<Ended, NodeError>
+        ensures reads { (S.told reader.new).reads ≤ (S.told reader.old).reads + self.now.turns }
+        ensures spent { result ≡ Err NodeError.TurnsSpent → (S.told reader.new).reads ≡ (S.told reader.old).reads + self.now.turns }
+    {
+        let mut node = self.node.desk(self.rt);
+        serve(self.alloc, &mut node, reader, writer, clock, self.turns)
+    }
+}
+
 impl<'a, K: Clock + Clone, R: Wait> Service for ToldNodeService<'a, K, R> {
     ghost serves = { λ s. NodeServing (option_map (λ b. b.value) s.began.now) s.turns };
 
@@ -58,16 +74,8 @@ impl<'a, K: Clock + Clone, R: Wait> Service for ToldNodeService<'a, K, R> {
         let mut clock = WatchedClock::new(clock, self.watch);
         let mut reader = OverReader::new(stream);
         let mut writer = OverWriter::new(stream);
-        let mut node = self.node.desk(self.rt);
-        serve(
-            self.alloc,
-            &mut node,
-            &mut reader,
-            &mut writer,
-            &mut clock,
-            self.turns,
-        )
-        .is_ok()
+        self.serve_stream(&mut clock, &mut reader, &mut writer)
+            .is_ok()
     }
 }
 

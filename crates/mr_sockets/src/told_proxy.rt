@@ -1,6 +1,7 @@
 //! The service of a proxy that tells its metrics.
-ghost use Rattle.std.specs.Prelude.{◌≡◌, ◌+◌, ◌≤◌, Some, [], ◌∷◌, ◌++◌, option_map};
+ghost use Rattle.std.specs.Prelude.{◌≡◌, ◌+◌, ◌≤◌, Some, Err, [], ◌∷◌, ◌++◌, option_map};
 ghost use Rattle.mr_proxy.specs.ProxyView.{IsFresh};
+ghost use Rattle.mr_desks.specs.declared.error.WorkerError.TheVariants.{TurnsSpent};
 ghost use Rattle.mr_sockets.specs.Listener.{AreAccepted};
 ghost use Rattle.mr_sockets.specs.Servers.{ProxyServing, run};
 
@@ -17,11 +18,11 @@ use mr_counting::{
     ClockWatch, CountedCarriers, CountedProxy, Counts, LegTotals, ProxyIdentity, ProxyTeller,
     ServiceCounts, WatchedClock,
 };
-use mr_desks::{Carrier, Desk, DirectCarriers};
+use mr_desks::{Carrier, Carriers, Desk, DirectCarriers};
 use mr_pools::Routing;
 use mr_proxy::ProxyCore;
-use mr_sessions::serve_client;
-use mr_text::{OverReader, OverWriter};
+use mr_sessions::{Served, serve_client};
+use mr_text::{OverReader, OverWriter, Sink, Source};
 use std::alloc::Global;
 use std::net::{Net, TcpListener, TcpStream};
 use std::snapshot::Snapshot;
@@ -41,7 +42,6 @@ struct ToldProxyService<
     net: N,
     alloc: Global,
     desk: &'a D,
-    totals: &'a LegTotals,
     began: &'a Option<Snapshot<ProxyCore>>,
     routing: &'a Routing,
     turns: u64,
@@ -58,7 +58,6 @@ impl<'a, N: Net + Copy, D: Desk<SocketCarrier<N>>, K: Clock + Clone, R: Wait + t
             net: _,
             alloc: _,
             desk: _,
-            totals: _,
             began: _,
             routing: _,
             turns: _,
@@ -69,8 +68,37 @@ impl<'a, N: Net + Copy, D: Desk<SocketCarrier<N>>, K: Clock + Clone, R: Wait + t
     }
 }
 
-impl<'a, N: Net + Copy, D: Desk<SocketCarrier<N>>, K: Clock + Clone, R: Wait + time::Clock> Service
-    for ToldProxyService<'a, N, D, K, R> {
+impl<
+    'a,
+    N: Net + Copy,
+    D: Desk<SocketCarrier<N>>,
+    K: Clock + Clone,
+    R: Wait + time::Clock,
+> ToldProxyService<'a, N, D, K, R> {
+    /// Serves what a reader gives, in at most `turns` reads.
+    fn serve_stream<C: Clock, S: Source, W: Sink, L: Carriers<SocketCarrier<N>>>(
+        &self,
+        clock: &mut C,
+        reader: &mut S,
+        writer: &mut W,
+        carriers: &mut L,
+    ) -> Served
+        ensures reads { (S.told reader.new).reads ≤ (S.told reader.old).reads + self.now.turns }
+        ensures spent { result.ended ≡ Err TurnsSpent → (S.told reader.new).reads ≡ (S.told reader.old).reads + self.now.turns }
+    {
+        serve_client(
+            self.rt, self.alloc, self.desk, clock, reader, writer, carriers, self.turns,
+        )
+    }
+}
+
+impl<
+    'a,
+    N: Net + Copy,
+    D: Desk<SocketCarrier<N>> + Counts,
+    K: Clock + Clone,
+    R: Wait + time::Clock,
+> Service for ToldProxyService<'a, N, D, K, R> {
     ghost serves = { λ s. ProxyServing (option_map (λ b. b.value) s.began.now) s.routing.now s.turns };
 
     fn note(&self, clients: u64, runs: &mut GhostRuns) {
@@ -87,21 +115,12 @@ impl<'a, N: Net + Copy, D: Desk<SocketCarrier<N>>, K: Clock + Clone, R: Wait + t
             return false;
         };
         let carriers = DirectCarriers::new(self.alloc, pools);
-        let mut carriers = CountedCarriers::new(carriers, self.rt, self.totals);
+        let mut carriers = CountedCarriers::new(carriers, self.rt, self.desk.legs());
         let mut reader = OverReader::new(stream);
         let mut writer = OverWriter::new(stream);
-        serve_client(
-            self.rt,
-            self.alloc,
-            self.desk,
-            &mut clock,
-            &mut reader,
-            &mut writer,
-            &mut carriers,
-            self.turns,
-        )
-        .ended
-        .is_ok()
+        self.serve_stream(&mut clock, &mut reader, &mut writer, &mut carriers)
+            .ended
+            .is_ok()
     }
 }
 
@@ -121,7 +140,6 @@ fn serve_told_desk<
     scrapers: OverListener,
     identity: &'a ProxyIdentity<'a>,
     desk: &'a D,
-    totals: &'a LegTotals,
     began: &'a Option<Snapshot<ProxyCore>>,
     routing: &'a Routing,
     bounds: ServiceBounds,
@@ -138,7 +156,6 @@ fn serve_told_desk<
         net,
         alloc,
         desk,
-        totals,
         began,
         routing,
         turns: bounds.turns,
@@ -152,7 +169,7 @@ fn serve_told_desk<
         identity,
         proxy: desk,
         routing,
-        legs: totals,
+        legs: desk.legs(),
         service: counts,
         clock,
     };
@@ -168,18 +185,17 @@ fn serve_told_desk<
     )
 }
 
-/// A fresh proxy that counts, shared, with what it was at first.
-fn share<C: Carrier>(core: ProxyCore) -> (CountedProxy<C>, Snapshot<ProxyCore>)
+/// A fresh proxy that counts, its legs there, shared, with what it was at first.
+fn share<C: Carrier>(core: ProxyCore, legs: LegTotals) -> (CountedProxy<C>, Snapshot<ProxyCore>)
     requires { IsFresh core }
     ensures { result.1.value ≡ core }
 {
     let began = Snapshot::of(&core);
-    (CountedProxy::new(core), began)
+    (CountedProxy::new(core, legs), began)
 }
 
 /// Serves a fresh proxy at a socket of its own and tells its metrics at another, by the machine's time and by carriers to the nodes
-/// of a routing, and gives how many of its clients ended without a fault. What becomes of legs is counted in the totals that are
-/// lent.
+/// of a routing, and gives how many of its clients ended without a fault. What becomes of legs is counted in these totals.
 pub(crate) fn run_told_proxy<
     R: Net<Listener = TcpListener, Stream = TcpStream> + Threads + Wait + time::Clock + Sync,
 >(
@@ -191,7 +207,7 @@ pub(crate) fn run_told_proxy<
     config: &str,
     core: ProxyCore,
     routing: &Routing,
-    totals: &LegTotals,
+    legs: LegTotals,
     bounds: ServiceBounds,
     runs: &mut GhostRuns,
 ) -> u64
@@ -205,13 +221,13 @@ pub(crate) fn run_told_proxy<
         schedule: core.schedule(),
         room: core.room(),
     };
-    let (proxy, began) = share::<SocketCarrier<&R>>(core);
+    let (proxy, began) = share::<SocketCarrier<&R>>(core, legs);
     let began = Some(began);
     let clock = SystemClock::new(rt);
     let counts = ServiceCounts::new(&clock);
     let (_, served) = serve_told_desk(
-        rt, alloc, rt, listener, scrapers, &identity, &proxy, totals, &began, routing, bounds,
-        &clock, &counts, runs,
+        rt, alloc, rt, listener, scrapers, &identity, &proxy, &began, routing, bounds, &clock,
+        &counts, runs,
     );
     served
 }

@@ -24,6 +24,7 @@ struct ProxyRow {
     address: String,
     asked: u64,
     answered: u64,
+    known: bool,
     digest: Vec<u8>,
     numbers: Option<Numbers>,
 }
@@ -63,6 +64,7 @@ fn proxy_of(alloc: Global, part: &str) -> Result<ProxyRow, Fail> {
     let address = words.text(alloc)?;
     let asked = words.number()?;
     let answered = words.number()?;
+    let known = words.number()? == 1;
     let reached = words.number()?;
     let digest = words.bytes(alloc)?;
     let numbers = if reached == 1 {
@@ -74,6 +76,7 @@ fn proxy_of(alloc: Global, part: &str) -> Result<ProxyRow, Fail> {
         address,
         asked,
         answered,
+        known,
         digest,
         numbers,
     })
@@ -109,6 +112,7 @@ fn proxies_seen<'a>(alloc: Global, rows: &'a [ProxyRow]) -> Result<Vec<ProxySeen
         seen.push(ProxySeen {
             address: row.address.as_str(),
             told: told_by(row),
+            known: row.known,
             asked: row.asked,
             answered: row.answered,
         })?;
@@ -228,6 +232,7 @@ fn shown_of(
 /// What a look of a row comes to: its text, the lines of changes, its JSON, and whether it is the last.
 pub fn told_of_look(alloc: Global, words: &mut Words<'_>) -> Result<Vec<u8>, Fail> {
     let at = words.number()?;
+    let moment = words.number()?;
     let colours = words.number()? == 1;
     let expected = words.bytes(alloc)?;
     let schedule = schedule_of(alloc, words.word()?)?;
@@ -253,6 +258,7 @@ pub fn told_of_look(alloc: Global, words: &mut Words<'_>) -> Result<Vec<u8>, Fai
     );
     let view = View {
         at,
+        moment,
         look,
         earlier: earlier.as_slice(),
         findings,

@@ -125,7 +125,7 @@ proxy_steady values ended before between idle busy h silent =
 watch_steady : (values : WatchValues) (ended : Ended) (before between : Devices) → Watches values before between (Ok ended) → between.faults ≡ before.faults
     → NoneFailed before between
 watch_steady values ended before between h silent = record {
-  sources = config_steady values.config.now before.sources between.sources h.config h.loaded;
+  sources = h.loads.0.gives.3;
   input = ap (λ (s : SourceView). s.failures) h.unread;
   output = h.watches.writes.steady;
   faults = ap (λ (s : SinkView). s.failures) silent;

@@ -12,6 +12,7 @@ use Rattle.mr_text.specs.declared.request.Request.{Request}
 use Rattle.mr_text.specs.declared.error.TextError.TheVariants.{Truncated, OutOfMemory}
 use Rattle.mr_tool.specs.Devices.{Devices}
 use Rattle.mr_tool.specs.Fault.{file_line}
+use Rattle.mr_tool.specs.Loaded.{Loaded}
 use Rattle.mr_tool.specs.Sources.{SourcesView, IsOneLoad, most_loaded}
 use Rattle.mr_tool.specs.declared.fault.Fault.{Fault}
 use Rattle.mr_tool.specs.declared.fault.Fault.TheVariants.{Memory, Input, File, Plan, Text}
@@ -95,6 +96,15 @@ LoadsConfig path before (Err (File line)) after = IsOneLoad path before (Err Unr
 LoadsConfig path before (Err (Plan refusal)) after = (bytes : List ℕ) × IsOneLoad path before (Ok bytes) after × RefusesBytes bytes refusal
 LoadsConfig path before (Err Memory) after = (fault : LoadFault) × IsOneLoad path before (Err fault) after
 LoadsConfig path before (Err fault) after = ⊥
+
+-- the configuration alone, where there is one
+abbrev pub config_of : Result Loaded Fault → Result ConfigView Fault
+config_of (Ok loaded) = Ok loaded.config
+config_of (Err fault) = Err fault
+
+-- one load of the file at a path gave these bytes, and they are the configuration
+abbrev pub LoadsWhole : List ℕ → SourcesView → Loaded → SourcesView → Type 0
+LoadsWhole path before loaded after = IsOneLoad path before (Ok loaded.bytes) after × HoldConfig loaded.bytes loaded.config
 
 -- no request is whole, and nothing is refused
 abbrev pub HoldsNoRequest : List ℕ → Type 0

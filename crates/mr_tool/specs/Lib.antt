@@ -7,8 +7,11 @@ pub mod GivenText
 pub mod HopText
 pub mod Input
 pub mod InputSteps
+pub mod Loaded
+pub mod Looking
 pub mod PlanCommand
 pub mod PlanText
+pub mod Posts
 pub mod Printing
 pub mod Program
 pub mod Run

@@ -1,23 +1,30 @@
 -- What the command `watch` does.
-use Rattle.std.specs.Prelude.{◌≡◌, ◌≤◌, ⊤, ℕ, ◌⊎◌, Bool, true, false, List, [], ◌∷◌, ◌++◌, length, Result, Ok, Err}
+use Rattle.std.specs.Prelude.{◌≡◌, ◌≤◌, ◌-◌, ◌^◌, ⊤, ℕ, ◌⊎◌, Bool, true, false, List, [], ◌∷◌, ◌++◌, length, Result, Ok, Err}
 use Rattle.mr_configs.specs.Config.{ConfigView}
+use Rattle.mr_digest.specs.Digest.{IsDigest}
 use Rattle.mr_phases.specs.Schedule.{Hop}
 use Rattle.mr_text.specs.Sink.{SinkView, HasWritten, IsOneWrite}
 use Rattle.mr_text.specs.declared.error.WriteFault.{WriteFault}
 use Rattle.mr_watch.specs.Findings.{all_unseen}
 use Rattle.mr_watch.specs.Judging.{are_last, findings_after}
 use Rattle.mr_watch.specs.declared.finding.Findings.{Findings}
+use Rattle.mr_watch.specs.declared.look.NodeSeen.{NodeSeen}
 use Rattle.mr_watch.specs.declared.view.View.{View}
+use Rattle.mr_words.specs.Words.{addresses_in}
 use Rattle.mr_words.specs.declared.watch_words.WatchValues.{WatchValues}
 use Rattle.mr_tool.specs.Devices.{Devices}
-use Rattle.mr_tool.specs.Input.{LoadsConfig}
+use Rattle.mr_tool.specs.Input.{LoadsConfig, LoadsWhole}
+use Rattle.mr_tool.specs.Loaded.{Loaded}
+use Rattle.mr_tool.specs.Looking.{NodeNamed, all_named, nodes_of_pools}
 use Rattle.mr_tool.specs.PlanCommand.{LacksConfig}
+use Rattle.mr_tool.specs.Posts.{addresses_of, addresses_of_unreached, all_shown, earlier_proxies, proxies_now, unreached_addresses}
 use Rattle.mr_tool.specs.WatchText.{MayShow, shown, last_lines, end_of_watch}
 use Rattle.mr_tool.specs.declared.ended.Ended.{Ended}
 use Rattle.mr_tool.specs.declared.fault.Fault.{Fault}
 use Rattle.mr_tool.specs.declared.fault.Fault.TheVariants.{Memory, Output, File, Plan}
 use Rattle.mr_tool.specs.declared.last_lines.Unreached.{Unreached}
 use Rattle.mr_tool.specs.declared.manner.Manner.{Manner}
+use Rattle.mr_tool.specs.declared.posts.Post.{Post}
 use Rattle.mr_tool.specs.declared.printing.PrintFault.{PrintFault}
 use Rattle.mr_tool.specs.declared.printing.PrintFault.TheVariants as print
 use Rattle.mr_tool.specs.declared.watch.Found.{Found}
@@ -45,118 +52,179 @@ abbrev pub is_first : Looks → Bool
 is_first [] = true
 is_first (view ∷ earlier) = false
 
--- A look shows the schedule of the configuration, and finds of the premises what it says of them: after what was found before,
--- and beside the proxies of the look before.
-pub record IsLook (hops : List Hop) (before : Findings) (view : View) : Type 0 where
-  pub schedule : view.schedule ≡ hops
-  pub findings : view.findings ≡ findings_after before view.earlier.now view.look view.expected.now hops
+-- The fleet that is watched: the schedule and the nodes of its configuration, the digest of that, and where services are to tell
+-- their metrics.
+pub record Fleet : Type 0 where
+  pub hops : List Hop
+  pub nodes : List NodeNamed
+  pub digest : List ℕ
+  pub addresses : List (List ℕ)
 
-abbrev pub AreLooks : List Hop → Looks → Type 0
-AreLooks hops [] = ⊤
-AreLooks hops (view ∷ earlier) = IsLook hops (found_by earlier) view × AreLooks hops earlier
+abbrev pub fleet_of : ConfigView → List ℕ → List (List ℕ) → Fleet
+fleet_of config digest addresses =
+    record { hops = config.schedule; nodes = nodes_of_pools config.routing.pools; digest = digest; addresses = addresses }
+
+-- the fleet of a look that saw these nodes
+abbrev pub fleet_seen : List Hop → List NodeSeen → List ℕ → List Post → Fleet
+fleet_seen hops nodes digest posts = record { hops = hops; nodes = all_named nodes; digest = digest; addresses = addresses_of posts }
+
+-- A look, the first one or not. It shows the schedule of the configuration and all of its nodes, and as proxies all services but
+-- those that told last that they are nodes, at the first look beside none of a look before. It finds of the premises what it says of
+-- them: after what was found before, beside those of the look before, and by the digest of the configuration.
+pub record IsLook (fleet : Fleet) (first : Bool) (before : Findings) (view : View) : Type 0 where
+  pub schedule : view.schedule ≡ fleet.hops
+  pub expected : view.expected.now ≡ fleet.digest
+  pub nodes : all_named view.look.nodes.now ≡ fleet.nodes
+  pub posts : List Post
+  pub asked : addresses_of posts ≡ fleet.addresses
+  pub proxies : all_shown view.look.proxies.now ≡ proxies_now posts
+  pub earlier : all_shown view.earlier.now ≡ earlier_proxies first posts
+  pub findings : view.findings ≡ findings_after before view.earlier.now view.look fleet.digest fleet.hops
+
+abbrev pub AreLooks : Fleet → Looks → Type 0
+AreLooks fleet [] = ⊤
+AreLooks fleet (view ∷ earlier) = IsLook fleet (is_first earlier) (found_by earlier) view × AreLooks fleet earlier
+
+-- the last one found that all proxies are in the last phase
+abbrev pub has_migrated : List Hop → Looks → Bool
+has_migrated hops [] = false
+has_migrated hops (view ∷ earlier) = are_last hops view.look.proxies.now
+
+-- none of them found that
+abbrev pub NeverMigrated : List Hop → Looks → Type 0
+NeverMigrated hops [] = ⊤
+NeverMigrated hops (view ∷ earlier) = (are_last hops view.look.proxies.now ≡ false) × NeverMigrated hops earlier
+
+-- all but the last one
+abbrev pub before_last : Looks → Looks
+before_last [] = []
+before_last (view ∷ earlier) = earlier
+
+-- the most looks of a watch
+abbrev pub most_looks : ℕ
+most_looks = 2 ^ 64 - 1
 
 -- what is shown of them, one behind the other
-abbrev pub all_shown : Manner → Looks → List ℕ
-all_shown manner [] = []
-all_shown manner (view ∷ earlier) = all_shown manner earlier ++ shown manner (is_first earlier) (found_by earlier) view
+abbrev pub all_texts : Manner → Looks → List ℕ
+all_texts manner [] = []
+all_texts manner (view ∷ earlier) = all_texts manner earlier ++ shown manner (is_first earlier) (found_by earlier) view
 
 -- what one more look writes, after these findings
-pub record WritesView (manner : Manner) (first : Bool) (before : Findings) (hops : List Hop) (old : SinkView) (found : Found) (new : SinkView) : Type 0 where
+pub record WritesView (manner : Manner) (fleet : Fleet) (first : Bool) (before : Findings) (old : SinkView) (found : Found) (new : SinkView) : Type 0 where
   pub view : View
-  pub is_look : IsLook hops before view
+  pub is_look : IsLook fleet first before view
   pub findings : found.findings ≡ view.findings
-  pub migrated : found.migrated ≡ are_last hops view.look.proxies.now
+  pub migrated : found.migrated ≡ are_last fleet.hops view.look.proxies.now
   pub writes : HasWritten (shown manner first before view) old new
 
 -- what comes of one more look: it is written, or memory was refused before, or its one write failed
-abbrev pub WritesLook : Manner → Bool → Findings → List Hop → SinkView → Result Found Fault → SinkView → Type 0
-WritesLook manner first before hops old (Ok found) new = WritesView manner first before hops old found new
-WritesLook manner first before hops old (Err Output) new = (text : List ℕ) × FailsToWrite text old new
-WritesLook manner first before hops old (Err Memory) new = new ≡ old
-WritesLook manner first before hops old (Err fault) new = ⊥
+abbrev pub WritesLook : Manner → Fleet → Bool → Findings → SinkView → Result Found Fault → SinkView → Type 0
+WritesLook manner fleet first before old (Ok found) new = WritesView manner fleet first before old found new
+WritesLook manner fleet first before old (Err Output) new = (text : List ℕ) × FailsToWrite text old new
+WritesLook manner fleet first before old (Err Memory) new = new ≡ old
+WritesLook manner fleet first before old (Err fault) new = ⊥
 
--- Looks were written, in this manner. There is no second one where there is to be one alone.
-pub record HasShown (manner : Manner) (once : Bool) (hops : List Hop) (looks : Looks) (old new : SinkView) : Type 0 where
-  pub are_looks : AreLooks hops looks
+-- Looks were written, in this manner. There is no second one where there is to be one alone, and none behind one that found all
+-- proxies in the last phase.
+pub record HasShown (manner : Manner) (once : Bool) (fleet : Fleet) (looks : Looks) (old new : SinkView) : Type 0 where
+  pub are_looks : AreLooks fleet looks
   pub alone : once ≡ true → length looks ≤ 1
-  pub writes : HasWritten (all_shown manner looks) old new
+  pub waits : NeverMigrated fleet.hops (before_last looks)
+  pub writes : HasWritten (all_texts manner looks) old new
 
--- looks were written, and these are the findings
-pub record HasLooked (manner : Manner) (once : Bool) (hops : List Hop) (old : SinkView) (findings : Findings) (new : SinkView) : Type 0 where
+-- No more looks follow: there was one, and either there was to be one alone, or the last one found all proxies in the last phase, or
+-- there were as many as there may be.
+pub record AreOver (once : Bool) (fleet : Fleet) (looks : Looks) : Type 0 where
+  pub looked : 1 ≤ length looks
+  pub over : once ≡ false → (has_migrated fleet.hops looks ≡ true) ⊎ (length looks ≡ most_looks)
+
+-- all looks were written, and these are the findings
+pub record HasLooked (manner : Manner) (once : Bool) (fleet : Fleet) (old : SinkView) (findings : Findings) (new : SinkView) : Type 0 where
   pub looks : Looks
-  pub shown : HasShown manner once hops looks old new
+  pub shown : HasShown manner once fleet looks old new
+  pub over : AreOver once fleet looks
   pub are_found : findings ≡ found_by looks
 
 -- looks were written, and stay, and then one call that was to write a text failed
-pub record StopsBehind (manner : Manner) (once : Bool) (hops : List Hop) (old new : SinkView) : Type 0 where
+pub record StopsBehind (manner : Manner) (once : Bool) (fleet : Fleet) (old new : SinkView) : Type 0 where
   pub looks : Looks
   pub between : SinkView
-  pub shown : HasShown manner once hops looks old between
+  pub shown : HasShown manner once fleet looks old between
   pub text : List ℕ
   pub fails : FailsToWrite text between new
 
 -- looks were written, and then memory was refused
-pub record LacksMemoryBehind (manner : Manner) (once : Bool) (hops : List Hop) (old new : SinkView) : Type 0 where
+pub record LacksMemoryBehind (manner : Manner) (once : Bool) (fleet : Fleet) (old new : SinkView) : Type 0 where
   pub looks : Looks
-  pub shown : HasShown manner once hops looks old new
+  pub shown : HasShown manner once fleet looks old new
 
 -- what comes of all looks
-abbrev pub WritesLooks : Manner → Bool → List Hop → SinkView → Result Findings Fault → SinkView → Type 0
-WritesLooks manner once hops old (Ok findings) new = HasLooked manner once hops old findings new
-WritesLooks manner once hops old (Err Output) new = StopsBehind manner once hops old new
-WritesLooks manner once hops old (Err Memory) new = LacksMemoryBehind manner once hops old new
-WritesLooks manner once hops old (Err fault) new = ⊥
+abbrev pub WritesLooks : Manner → Bool → Fleet → SinkView → Result Findings Fault → SinkView → Type 0
+WritesLooks manner once fleet old (Ok findings) new = HasLooked manner once fleet old findings new
+WritesLooks manner once fleet old (Err Output) new = StopsBehind manner once fleet old new
+WritesLooks manner once fleet old (Err Memory) new = LacksMemoryBehind manner once fleet old new
+WritesLooks manner once fleet old (Err fault) new = ⊥
 
--- the last lines went out, of these findings and of these services that were never reached
-pub record HasEnded (manner : Manner) (findings : Findings) (old : SinkView) (ended : Ended) (new : SinkView) : Type 0 where
+-- the last lines went out, of these findings and of those services that were never reached
+pub record HasEnded (manner : Manner) (posts : List Post) (findings : Findings) (old : SinkView) (ended : Ended) (new : SinkView) : Type 0 where
   pub unreached : List Unreached
+  pub are_unreached : addresses_of_unreached unreached ≡ unreached_addresses posts
   pub writes : HasWritten (last_lines manner findings unreached) old new
   pub ends : ended ≡ end_of_watch findings unreached
 
 -- what comes of the last lines
-abbrev pub EndsWatch : Manner → Findings → SinkView → Result Ended Fault → SinkView → Type 0
-EndsWatch manner findings old (Ok ended) new = HasEnded manner findings old ended new
-EndsWatch manner findings old (Err Output) new = (text : List ℕ) × FailsToWrite text old new
-EndsWatch manner findings old (Err Memory) new = new ≡ old
-EndsWatch manner findings old (Err fault) new = ⊥
+abbrev pub EndsWatch : Manner → List Post → Findings → SinkView → Result Ended Fault → SinkView → Type 0
+EndsWatch manner posts findings old (Ok ended) new = HasEnded manner posts findings old ended new
+EndsWatch manner posts findings old (Err Output) new = (text : List ℕ) × FailsToWrite text old new
+EndsWatch manner posts findings old (Err Memory) new = new ≡ old
+EndsWatch manner posts findings old (Err fault) new = ⊥
 
--- Looks were written and then the last lines, in a manner that this watch may have, and they say how it ends: a premise was seen
--- broken, or a service was never reached, or neither.
-pub record HasWatched (json once : Bool) (hops : List Hop) (old : SinkView) (ended : Ended) (new : SinkView) : Type 0 where
+-- Looks were written until no more follow, and then the last lines, in a manner that this watch may have, and they say how it ends:
+-- a premise was seen broken, or a service was never reached, or neither. The services are those that were named, each with what it
+-- is by what it told last.
+pub record HasWatched (json once : Bool) (fleet : Fleet) (old : SinkView) (ended : Ended) (new : SinkView) : Type 0 where
   pub manner : Manner
   pub may_show : MayShow json once manner
   pub looks : Looks
-  pub are_looks : AreLooks hops looks
+  pub are_looks : AreLooks fleet looks
   pub alone : once ≡ true → length looks ≤ 1
+  pub waits : NeverMigrated fleet.hops (before_last looks)
+  pub over : AreOver once fleet looks
+  pub posts : List Post
+  pub asked : addresses_of posts ≡ fleet.addresses
   pub unreached : List Unreached
-  pub writes : HasWritten (all_shown manner looks ++ last_lines manner (found_by looks) unreached) old new
+  pub are_unreached : addresses_of_unreached unreached ≡ unreached_addresses posts
+  pub writes : HasWritten (all_texts manner looks ++ last_lines manner (found_by looks) unreached) old new
   pub ends : ended ≡ end_of_watch (found_by looks) unreached
 
 -- looks were written, and stay, and then a write failed
-pub record WatchStops (json once : Bool) (hops : List Hop) (old new : SinkView) : Type 0 where
+pub record WatchStops (json once : Bool) (fleet : Fleet) (old new : SinkView) : Type 0 where
   pub manner : Manner
   pub may_show : MayShow json once manner
-  pub stops : StopsBehind manner once hops old new
+  pub stops : StopsBehind manner once fleet old new
 
 -- looks were written, and stay, and then memory was refused
-pub record WatchLacksMemory (json once : Bool) (hops : List Hop) (old new : SinkView) : Type 0 where
+pub record WatchLacksMemory (json once : Bool) (fleet : Fleet) (old new : SinkView) : Type 0 where
   pub manner : Manner
   pub may_show : MayShow json once manner
-  pub lacks : LacksMemoryBehind manner once hops old new
+  pub lacks : LacksMemoryBehind manner once fleet old new
 
--- what comes of a watch of this schedule
-abbrev pub WatchesConfig : Bool → Bool → List Hop → SinkView → Result Ended Fault → SinkView → Type 0
-WatchesConfig json once hops old (Ok ended) new = HasWatched json once hops old ended new
-WatchesConfig json once hops old (Err Output) new = WatchStops json once hops old new
-WatchesConfig json once hops old (Err Memory) new = WatchLacksMemory json once hops old new
-WatchesConfig json once hops old (Err fault) new = ⊥
+-- what comes of a watch of this fleet
+abbrev pub WatchesConfig : Bool → Bool → Fleet → SinkView → Result Ended Fault → SinkView → Type 0
+WatchesConfig json once fleet old (Ok ended) new = HasWatched json once fleet old ended new
+WatchesConfig json once fleet old (Err Output) new = WatchStops json once fleet old new
+WatchesConfig json once fleet old (Err Memory) new = WatchLacksMemory json once fleet old new
+WatchesConfig json once fleet old (Err fault) new = ⊥
 
--- the configuration was had, by one load, nothing is read, and this came of its watch
+-- The configuration was had, by one load, nothing is read, and this came of its watch. What proxies tell is held against the digest
+-- of the bytes of the file.
 pub record Watches (values : WatchValues) (before after : Devices) (result : Result Ended Fault) : Type 0 where
-  pub config : ConfigView
-  pub loaded : LoadsConfig values.config.now before.sources (Ok config) after.sources
+  pub loaded : Loaded
+  pub loads : LoadsWhole values.config.now before.sources loaded after.sources
   pub unread : after.input ≡ before.input
-  pub watches : WatchesConfig values.json values.once config.schedule before.output result after.output
+  pub digest : List ℕ
+  pub is_digest : IsDigest loaded.bytes digest
+  pub watches : WatchesConfig values.json values.once (fleet_of loaded.config digest (addresses_in values)) before.output result after.output
 
 -- memory was refused once the configuration was had, and nothing is written
 pub record LacksWatch (values : WatchValues) (before after : Devices) : Type 0 where

@@ -1,5 +1,5 @@
 -- What is shown of looks, and of what came of them.
-use Rattle.std.specs.Prelude.{◌≡◌, ⊤, ℕ, ◌==◌, ◌||◌, Bool, true, false, List, [], ◌∷◌, ◌++◌, if◌then◌else◌, codes}
+use Rattle.std.specs.Prelude.{⊤, ℕ, ◌==◌, ◌||◌, Bool, true, false, List, [], ◌∷◌, ◌++◌, if◌then◌else◌, codes}
 use Rattle.serde_json.specs.Written.{compact_text}
 use Rattle.mr_watch.specs.Changes.{change_text}
 use Rattle.mr_watch.specs.Json.{look_json}

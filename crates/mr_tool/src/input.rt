@@ -1,9 +1,11 @@
 //! What a command reads before it does anything: the bytes that it is given, its configuration, its request.
 ghost use Rattle.std.specs.Prelude.{◌≡◌, ◌+◌, ◌<◌, ◌≤◌, ℕ, false, List, ◌++◌, IfOk, IfErr, vec_len};
+ghost use Rattle.std.specs.String.{string_bytes};
+ghost use Rattle.mr_digest.specs.Digest.{IsDigest};
 ghost use Rattle.mr_text.specs.Sink.{SinkView};
 ghost use Rattle.mr_text.specs.Stream.{Becomes};
 ghost use Rattle.mr_tool.specs.Devices.{devices};
-ghost use Rattle.mr_tool.specs.Input.{IsGiven, IsNotGiven, IsNextOf, LoadsConfig, ReadsRequest, TakesWhole, FailsWhole, most_reads, most_taken};
+ghost use Rattle.mr_tool.specs.Input.{IsGiven, IsNotGiven, IsNextOf, LoadsConfig, LoadsWhole, ReadsRequest, TakesWhole, FailsWhole, config_of, most_reads, most_taken};
 ghost use Rattle.mr_tool.specs.InputSteps.{AddsPiece};
 ghost use Rattle.mr_words.specs.Words.{path_in};
 
@@ -80,7 +82,7 @@ pub fn given_bytes<S: Sources, I: Source>(
     }
 }
 
-/// A configuration with the bytes that it was read of. To contracts it is the configuration.
+/// A configuration with the bytes that it was read of.
 #[derive(Drop)]
 pub struct LoadedConfig {
     config: Config,
@@ -88,24 +90,24 @@ pub struct LoadedConfig {
 }
 
 impl Model for LoadedConfig {
-    ghost use Rattle.mr_configs.specs.Config.{ConfigView};
+    ghost use Rattle.mr_tool.specs.Loaded.{Loaded};
 
-    ghost Value = { ConfigView };
+    ghost Value = { Loaded };
 
-    ghost view = { λ l. l.config };
+    ghost view = { λ l. record { bytes = l.bytes.items; config = l.config } };
 }
 
 impl LoadedConfig {
     /// The configuration.
     pub fn config(&self) -> &Config
-        ensures { result.now ≡ self.now }
+        ensures { result.now ≡ self.now.config }
     {
         &self.config
     }
 
     /// The configuration, without its bytes.
     pub fn into_config(self) -> Config
-        ensures { result ≡ self }
+        ensures { result ≡ self.config }
     {
         self.config
     }
@@ -113,7 +115,8 @@ impl LoadedConfig {
     /// The digest of the bytes' value, by which services tell which configuration they have. Only memory may be refused: bytes that
     /// are a configuration are JSON.
     pub fn digest(&self, alloc: Global) -> Result<String, Fault>
-        ensures { IfErr result (λ fault. fault ≡ Fault.Memory) }
+        ensures digest { IfOk result (λ digest. IsDigest self.now.bytes (string_bytes digest)) }
+        ensures refused { IfErr result (λ fault. fault ≡ Fault.Memory) }
     {
         match config_digest(alloc, self.bytes.as_slice()) {
             Ok(digest) => Ok(digest),
@@ -128,7 +131,8 @@ pub fn load_whole_config<S: Sources>(
     path: &str,
     sources: &mut S,
 ) -> Result<LoadedConfig, Fault>
-    ensures { LoadsConfig path.now (S.told sources.old) result (S.told sources.new) }
+    ensures config { LoadsConfig path.now (S.told sources.old) (config_of result) (S.told sources.new) }
+    ensures bytes { IfOk result (λ loaded. LoadsWhole path.now (S.told sources.old) loaded (S.told sources.new)) }
 {
     let bytes = load_bytes(alloc, path, sources)?;
     if bytes.len() > MOST_CONFIG_BYTES {

@@ -1,7 +1,11 @@
 //! A look at a fleet: which services are asked, and in which order.
+ghost use Rattle.std.specs.Prelude.{◌≡◌, ◌++◌, IfOk, OnOk, Some};
+ghost use Rattle.mr_watch.specs.Told.{NodeSaid};
+ghost use Rattle.mr_tool.specs.Looking.{HasCounts, all_named, named, node_named, nodes_of_pool, nodes_of_pools};
+ghost use Rattle.mr_tool.specs.Posts.{addresses_of, node_among};
 
 use crate::posts::{Post, ask_others, ask_proxies, begin_look, node_in};
-use mr_pools::Routing;
+use mr_pools::{Pool, Routing};
 use mr_sockets::HostServers;
 use mr_watch::{NodeSeen, StatsTold, read_stats};
 use std::alloc::{AllocError, Global};
@@ -20,6 +24,8 @@ pub struct Seen<'c> {
     pub ended: u64,
     /// What the machine's clock said, in seconds since the epoch.
     pub second: u64,
+    /// When it said that, in milliseconds.
+    pub moment: u64,
     /// The nodes of all pools.
     pub nodes: Vec<NodeSeen<'c>>,
 }
@@ -58,7 +64,11 @@ fn node_seen<
     posts: &[Post<'_>],
     pool: u32,
     name: &'c str,
-) -> Result<NodeSeen<'c>, AllocError> {
+) -> Result<NodeSeen<'c>, AllocError>
+    ensures named { IfOk result (λ node. named node ≡ node_named pool name.now) }
+    ensures told { (told : NodeSaid) → node_among name.now posts.now ≡ Some told
+        → IfOk result (λ node. HasCounts told node) }
+{
     if let Some(told) = node_in(posts, name) {
         return Ok(NodeSeen {
             pool,
@@ -83,6 +93,31 @@ fn node_seen<
     }
 }
 
+/// What this look sees of the nodes of a pool, beside those before it.
+fn push_pool<
+    'c,
+    R: Net<Listener = TcpListener, Stream = TcpStream>
+        + Threads
+        + Wait
+        + time::Clock
+        + RandomSource
+        + Sync,
+>(
+    alloc: Global,
+    servers: &HostServers<'_, R>,
+    posts: &[Post<'_>],
+    number: u32,
+    pool: &'c Pool,
+    nodes: &mut Vec<NodeSeen<'c>>,
+) -> Result<(), AllocError>
+    ensures { OnOk result (all_named nodes.new.items ≡ all_named nodes.old.items ++ nodes_of_pool number pool.now) }
+{
+    for name in pool.names() {
+        nodes.push(node_seen(alloc, servers, posts, number, name.as_str())?)?;
+    }
+    Ok(())
+}
+
 /// What this look sees of the nodes of all pools, in the order of the configuration.
 fn nodes_seen<
     'c,
@@ -97,13 +132,12 @@ fn nodes_seen<
     servers: &HostServers<'_, R>,
     posts: &[Post<'_>],
     routing: &'c Routing,
-) -> Result<Vec<NodeSeen<'c>>, AllocError> {
+) -> Result<Vec<NodeSeen<'c>>, AllocError>
+    ensures { IfOk result (λ nodes. all_named nodes.items ≡ nodes_of_pools routing.now.pools) }
+{
     let mut nodes = Vec::new(alloc);
     for (number, pool) in routing.pools().iter().enumerate() {
-        let number = u32::try_from(number).unwrap_or(u32::MAX);
-        for name in pool.names() {
-            nodes.push(node_seen(alloc, servers, posts, number, name.as_str())?)?;
-        }
+        push_pool(alloc, servers, posts, number as u32, pool, &mut nodes)?;
     }
     Ok(nodes)
 }
@@ -123,17 +157,22 @@ pub fn look<
     servers: &HostServers<'_, R>,
     routing: &'c Routing,
     posts: &mut [Post<'_>],
-) -> Result<Seen<'c>, AllocError> {
+) -> Result<Seen<'c>, AllocError>
+    ensures nodes { IfOk result (λ seen. all_named seen.nodes.items ≡ nodes_of_pools routing.now.pools) }
+    ensures posts { addresses_of posts.new ≡ addresses_of posts.old }
+{
     let began = servers.milliseconds();
     begin_look(posts);
     ask_others(alloc, servers, posts)?;
     let nodes = nodes_seen(alloc, servers, posts, routing)?;
     let second = servers.second();
+    let moment = servers.milliseconds();
     ask_proxies(alloc, servers, posts)?;
     Ok(Seen {
         began,
         ended: servers.milliseconds(),
         second,
+        moment,
         nodes,
     })
 }

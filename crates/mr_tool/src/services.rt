@@ -8,6 +8,7 @@ ghost use Rattle.mr_tool.specs.Devices.{devices};
 ghost use Rattle.mr_tool.specs.Fault.{IsNetFault};
 ghost use Rattle.mr_tool.specs.Services.{served_line, EndsService, MakesNode, NodeGives, ProxyGives, places_of_proxy};
 ghost use Rattle.mr_tool.specs.Sources.{SourcesView};
+ghost use Rattle.mr_words.specs.Version.{told_number};
 ghost use Rattle.mr_words.specs.Words.{path_in};
 
 use crate::ended::Ended;
@@ -98,7 +99,8 @@ fn make_node<
 
 /// Metrics that are told there, by this version of the program.
 fn scraped_at<'a>(address: &'a str) -> Scraped<'a>
-    ensures { result.address.now ≡ address.entry.now }
+    ensures address { result.address.now ≡ address.entry.now }
+    ensures version { result.version.now ≡ told_number }
 {
     Scraped {
         address,
@@ -169,7 +171,8 @@ fn serve_loaded<
 ) -> Result<Result<u64, OpenFault>, Fault>
     requires { IsFresh core }
     ensures { MatchResult result
-        (λ served. IsOneService (ProxyAt (places_of_proxy values.now) core loaded.now.routing bounds) servers.old served servers.new)
+        (λ served. IsOneService (ProxyAt (places_of_proxy values.now) core loaded.now.config.routing bounds)
+        servers.old served servers.new)
         (λ fault. (fault ≡ Fault.Memory) × (servers.new ≡ servers.old)) }
 {
     let routing = loaded.config().routing();
@@ -177,7 +180,7 @@ fn serve_loaded<
         return Ok(servers.serve_proxy(alloc, values.listen, core, routing, bounds));
     };
     let digest = loaded.digest(alloc)?;
-    let totals = LegTotals::new(alloc, routing)?;
+    let legs = LegTotals::new(alloc, routing)?;
     Ok(servers.tell_proxy(
         alloc,
         values.listen,
@@ -185,7 +188,7 @@ fn serve_loaded<
         digest.as_str(),
         core,
         routing,
-        &totals,
+        legs,
         bounds,
     ))
 }

@@ -1,9 +1,11 @@
 //! The command that watches a migration: it looks each second, and writes what it sees, until every proxy is in the last phase.
-ghost use Rattle.std.specs.Prelude.{◌≡◌, length};
+ghost use Rattle.std.specs.Prelude.{◌≡◌};
 ghost use Rattle.mr_text.specs.Sink.{SinkView};
 ghost use Rattle.mr_text.specs.Source.{SourceView};
 ghost use Rattle.mr_tool.specs.Devices.{devices};
-ghost use Rattle.mr_tool.specs.WatchCommand.{EndsWatch, WatchesConfig, WatchGives, WritesAll, WritesLook, WritesLooks};
+ghost use Rattle.mr_tool.specs.Posts.{addresses_of};
+ghost use Rattle.mr_tool.specs.WatchCommand.{EndsWatch, WatchesConfig, WatchGives, WritesAll, WritesLook, WritesLooks, fleet_of, fleet_seen};
+ghost use Rattle.mr_words.specs.Words.{addresses_in};
 
 use crate::ended::Ended;
 use crate::fault::Fault;
@@ -61,7 +63,8 @@ fn write_look<O: Sink>(
     schedule: Schedule,
     output: &mut O,
 ) -> Result<Found, Fault>
-    ensures { WritesLook manner first before schedule (O.told output.old) result (O.told output.new) }
+    ensures { WritesLook manner (fleet_seen schedule seen.now.nodes.items expected.now posts.now) first before
+        (O.told output.old) result (O.told output.new) }
 {
     let earlier = earlier_in(alloc, first, posts)?;
     let proxies = proxies_in(alloc, posts)?;
@@ -75,6 +78,7 @@ fn write_look<O: Sink>(
     let findings = findings_after(before, earlier.as_slice(), &look, expected, &schedule);
     let view = View {
         at: seen.second,
+        moment: seen.moment,
         look,
         earlier: earlier.as_slice(),
         findings,
@@ -124,12 +128,14 @@ fn write_looks<
     posts: &mut [Post<'_>],
     output: &mut O,
 ) -> Result<Findings, Fault>
-    ensures { WritesLooks manner once config.now.schedule (O.told output.old) result (O.told output.new) }
+    ensures looks { WritesLooks manner once (fleet_of config.now expected.now (addresses_of posts.old))
+        (O.told output.old) result (O.told output.new) }
+    ensures posts { addresses_of posts.new ≡ addresses_of posts.old }
 {
     let schedule = config.schedule();
     let mut findings = Findings::unseen();
     let mut first = true;
-    for _ in 0..u64::MAX {
+    for number in 0..u64::MAX {
         let seen = look(alloc, servers, config.routing(), posts)?;
         let found = write_look(
             alloc, manner, first, findings, &seen, posts, expected, schedule, output,
@@ -152,7 +158,7 @@ fn end_watch<O: Sink>(
     posts: &[Post<'_>],
     output: &mut O,
 ) -> Result<Ended, Fault>
-    ensures { EndsWatch manner findings (O.told output.old) result (O.told output.new) }
+    ensures { EndsWatch manner posts.now findings (O.told output.old) result (O.told output.new) }
 {
     let unreached = unreached_in(alloc, posts)?;
     let text = last_lines(alloc, manner, &findings, unreached.as_slice())?;
@@ -177,7 +183,8 @@ fn watch_config<
     expected: &str,
     output: &mut O,
 ) -> Result<Ended, Fault>
-    ensures { WatchesConfig values.now.json values.now.once config.now.schedule (O.told output.old) result (O.told output.new) }
+    ensures { WatchesConfig values.now.json values.now.once (fleet_of config.now expected.now (addresses_in values.now))
+        (O.told output.old) result (O.told output.new) }
 {
     let manner = manner_of(values, servers.screen());
     let mut posts = posts_at(alloc, values.addresses())?;

@@ -1,5 +1,5 @@
 -- What is found of the premises after a look, and when a fleet has migrated.
-use Rattle.std.specs.Prelude.{ℕ, ◌-◌, ◌==◌, ◌&&◌, not, Bool, true, false, List, length, Option, Some, None}
+use Rattle.std.specs.Prelude.{ℕ, ◌-◌, ◌==◌, ◌&&◌, ◌||◌, not, Bool, true, false, List, length, Option, Some, None}
 use Rattle.std.specs.List.{list_any}
 use Rattle.mr_phases.specs.Schedule.{Hop, least_interval}
 use Rattle.mr_phases.specs.declared.phase_name.PhaseName.{PhaseName}
@@ -31,10 +31,15 @@ abbrev pub tells_last : List Hop → Option ProxyTold → Bool
 tells_last hops None = false
 tells_last hops (Some told) = is_new_only told.place.phase && (told.place.hop == length hops - 1)
 
--- it didn't tell so
-abbrev pub is_not_last : List Hop → ProxySeen → Bool
-is_not_last hops proxy = not (tells_last hops proxy.told)
+-- it told what a proxy tells, at this look or at an earlier one
+abbrev pub has_ever_told : ProxySeen → Bool
+has_ever_told proxy = proxy.known || has_told proxy
 
--- there is a proxy, and each answered and is in the last phase of the last hop
+-- it told once, and doesn't tell now that it is in the last phase of the last hop
+abbrev pub is_not_last : List Hop → ProxySeen → Bool
+is_not_last hops proxy = has_ever_told proxy && not (tells_last hops proxy.told)
+
+-- A proxy answered, and each that ever did tells now that it is in the last phase of the last hop. An address that never told what a
+-- proxy tells is passed over.
 abbrev pub are_last : List Hop → List ProxySeen → Bool
 are_last hops proxies = list_any has_told proxies && not (list_any (is_not_last hops) proxies)

@@ -9,7 +9,7 @@ use Rattle.mr_watch.specs.declared.view.View.{View}
 -- the proxies, and the nodes of so many pools
 unfoldable pub seen_text : Bool → View → ℕ → List ℕ
 seen_text colours view pools =
-    proxies_text colours view.at view.earlier.now view.look.proxies.now
+    proxies_text colours view.at view.moment view.earlier.now view.look.proxies.now
     ++ (codes "\n" ++ nodes_text view.look.nodes.now pools)
 
 -- what the schedule says, what was seen, and the premises, with empty lines between

@@ -1,7 +1,7 @@
 //! What is found of the premises after a look, and when a fleet has migrated.
 ghost use Rattle.std.specs.Prelude.{◌≡◌};
 ghost use Rattle.std.specs.List.{list_any};
-ghost use Rattle.mr_watch.specs.Judging.{findings_after, tells_last, is_not_last, are_last};
+ghost use Rattle.mr_watch.specs.Judging.{findings_after, tells_last, has_ever_told, is_not_last, are_last};
 
 use crate::finding::Findings;
 use crate::look::{Look, ProxySeen};
@@ -42,14 +42,29 @@ fn is_last(proxy: &ProxySeen<'_>, schedule: &Schedule) -> bool
     }
 }
 
-/// Whether one isn't in the last phase of the last hop, by what it told.
+/// Whether it answered, at this look or at an earlier one.
+fn has_ever_told(proxy: &ProxySeen<'_>) -> bool
+    ensures { result ≡ has_ever_told proxy.now }
+{
+    proxy.known || proxy.told.is_some()
+}
+
+/// Whether it answered once, and doesn't tell now that it is in the last phase of the last hop.
+fn is_not_last(proxy: &ProxySeen<'_>, schedule: &Schedule) -> bool
+    ensures { result ≡ is_not_last schedule.now proxy.now }
+{
+    has_ever_told(proxy) && !is_last(proxy, schedule)
+}
+
+/// Whether there is one that answered once, and doesn't tell now that it is in the last phase of the last hop.
 fn any_not_last(proxies: &[ProxySeen<'_>], schedule: &Schedule) -> bool
     ensures { result ≡ list_any (is_not_last schedule.now) proxies.now }
 {
-    proxies.iter().any(|proxy| !is_last(proxy, schedule))
+    proxies.iter().any(|proxy| is_not_last(proxy, schedule))
 }
 
-/// Whether there is a proxy, and each answered and is in the last phase of the last hop.
+/// Whether a proxy answered, and each that ever did is in the last phase of the last hop, by what it tells now. Addresses that never
+/// told what a proxy tells are passed over.
 pub fn all_in_last_phase(look: &Look<'_>, schedule: &Schedule) -> bool
     ensures { result ≡ are_last schedule.now look.now.proxies.now }
 {

@@ -8,6 +8,8 @@ pub struct ProxySeen<'a> {
     pub address: &'a str,
     /// What it told; None where it wasn't reached, or told nothing that a proxy tells.
     pub told: Option<ProxyTold<'a>>,
+    /// Whether it told what a proxy tells at this look or at an earlier one.
+    pub known: bool,
     /// When it was asked, in milliseconds of the watcher's own clock, which never goes back.
     pub asked: u64,
     /// When its answer was there: it read its clock between the two.

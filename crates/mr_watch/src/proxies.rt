@@ -1,6 +1,6 @@
 //! The lines of proxies.
 ghost use Rattle.std.specs.Prelude.{◌≡◌, ◌++◌, None, OnOk};
-ghost use Rattle.mr_watch.specs.Proxies.{proxies_head, phase_cell, clock_cell, traffic_cells, proxy_cells, proxy_line, proxy_lines, proxies_text};
+ghost use Rattle.mr_watch.specs.Proxies.{proxies_head, second_then, phase_cell, clock_cell, traffic_cells, proxy_cells, proxy_line, proxy_lines, proxies_text};
 
 use crate::look::ProxySeen;
 use crate::rate::rate_of;
@@ -19,6 +19,13 @@ fn push_phase(text: &mut Vec<u8>, colours: bool, phase: PhaseName) -> Result<(),
     push_coloured(text, colours, Colour::Cyan, name)?;
     push_padding(text, 13usize.saturating_sub(name.len()))?;
     Ok(())
+}
+
+/// What the watcher's clock says at an answer, if it said `at` at a moment before.
+fn second_then(at: u64, moment: u64, answered: u64) -> u64
+    ensures { result ≡ second_then at moment answered }
+{
+    at.saturating_add(answered.saturating_sub(moment) / 1_000)
 }
 
 /// Adds by how many seconds a clock is ahead of the watcher's, or behind it.
@@ -86,19 +93,21 @@ fn push_cells(
     }
 }
 
-/// Adds the line of a proxy.
+/// Adds the line of a proxy, where the watcher's clock said `at` at a moment.
 fn push_proxy(
     text: &mut Vec<u8>,
     colours: bool,
     at: u64,
+    moment: u64,
     earlier: &[ProxySeen<'_>],
     proxy: &ProxySeen<'_>,
 ) -> Result<(), AllocError>
-    ensures { OnOk result (text.new.items ≡ text.old.items ++ proxy_line colours at earlier.now proxy.now) }
+    ensures { OnOk result (text.new.items ≡ text.old.items ++ proxy_line colours at moment earlier.now proxy.now) }
 {
     push_left(text, 24, proxy.address.as_bytes())?;
     text.extend_from_slice(b" ")?;
-    push_cells(text, colours, at, rate_of(earlier, proxy), &proxy.told)?;
+    let then = second_then(at, moment, proxy.answered);
+    push_cells(text, colours, then, rate_of(earlier, proxy), &proxy.told)?;
     Ok(())
 }
 
@@ -107,13 +116,14 @@ fn push_each_proxy(
     text: &mut Vec<u8>,
     colours: bool,
     at: u64,
+    moment: u64,
     earlier: &[ProxySeen<'_>],
     proxies: &[ProxySeen<'_>],
 ) -> Result<(), AllocError>
-    ensures { OnOk result (text.new.items ≡ text.old.items ++ proxy_lines colours at earlier.now proxies.now) }
+    ensures { OnOk result (text.new.items ≡ text.old.items ++ proxy_lines colours at moment earlier.now proxies.now) }
 {
     for proxy in proxies {
-        push_proxy(text, colours, at, earlier, proxy)?;
+        push_proxy(text, colours, at, moment, earlier, proxy)?;
     }
     Ok(())
 }
@@ -129,17 +139,18 @@ fn push_head(text: &mut Vec<u8>) -> Result<(), AllocError>
     Ok(())
 }
 
-/// Adds the lines of proxies, where the look before saw those, and the watcher's clock says this.
+/// Adds the lines of proxies, where the look before saw those, and the watcher's clock said `at` at a moment.
 pub(crate) fn push_proxies(
     text: &mut Vec<u8>,
     colours: bool,
     at: u64,
+    moment: u64,
     earlier: &[ProxySeen<'_>],
     proxies: &[ProxySeen<'_>],
 ) -> Result<(), AllocError>
-    ensures { OnOk result (text.new.items ≡ text.old.items ++ proxies_text colours at earlier.now proxies.now) }
+    ensures { OnOk result (text.new.items ≡ text.old.items ++ proxies_text colours at moment earlier.now proxies.now) }
 {
     push_head(text)?;
-    push_each_proxy(text, colours, at, earlier, proxies)?;
+    push_each_proxy(text, colours, at, moment, earlier, proxies)?;
     Ok(())
 }

@@ -19,7 +19,14 @@ fn push_seen(
 ) -> Result<(), AllocError>
     ensures { OnOk result (text.new.items ≡ text.old.items ++ seen_text colours view.now pools) }
 {
-    push_proxies(text, colours, view.at, view.earlier, view.look.proxies)?;
+    push_proxies(
+        text,
+        colours,
+        view.at,
+        view.moment,
+        view.earlier,
+        view.look.proxies,
+    )?;
     text.extend_from_slice(b"\n")?;
     push_nodes(text, view.look.nodes, pools)?;
     Ok(())

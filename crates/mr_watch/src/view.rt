@@ -8,6 +8,8 @@ use mr_phases::Schedule;
 pub struct View<'a> {
     /// What the watcher's clock said, in seconds since the epoch.
     pub at: u64,
+    /// When it said that, in milliseconds of the watcher's own clock, which never goes back.
+    pub moment: u64,
     /// What was seen.
     pub look: Look<'a>,
     /// The proxies as the look before saw them; none at the first one.

@@ -1,22 +1,28 @@
 """Metrics: what running nodes and proxies tell those that scrape them, and what these can't hinder."""
 import hashlib
 import json
+import os
 import pathlib
 import random
 import socket
 import threading
 import time
 
+from cases.silence import check_took
 from client import BUSY, DELETED, LOST, MISS, NOT_FOUND, STORED, Client, delete_of, get_of, hits, set_of
+from fake import SlowNode
 from fleet import Fleet
-from moments import moment
+from moments import moment, within
 from placing import key_at
 from ports import place_at
+from reading import wait_until_read
 from running import case
 from scraping import asked, scraped, wait_for
 from wanted import Wrong, check, check_true
 
+UNPROVED = "MIGCTL_UNPROVED" in os.environ
 ANSWERS = ("hit", "miss", "stored", "deleted", "not found", "leg lost", "busy", "out of memory", "clock fault", "other fault")
+BOUNDS = "0.0001 0.00025 0.0005 0.001 0.0025 0.005 0.01 0.025 0.05 0.1 0.25 0.5 1 2.5 5 +Inf".split()  # by docs/METRICS.md
 
 
 class Told:
@@ -37,6 +43,11 @@ def told_node(fleet, *words, **how):
 
 def told_proxy(fleet, config, *words, **how):
     return Told(fleet, lambda *more: fleet.proxy(config, *words, *more, **how))
+
+
+def told_both(fleet, **how):
+    """A node, and a proxy before another node, which tell their metrics."""
+    return told_node(fleet, **how), told_proxy(fleet, fleet.config([fleet.node()]), **how)
 
 
 def counted(samples, name, *labels):
@@ -88,7 +99,7 @@ def a_set_in_a_full_node_evicts_one_item():
 @case
 def connections_are_counted():
     with Fleet() as fleet:
-        for told in (told_node(fleet), told_proxy(fleet, fleet.config([fleet.node()]))):
+        for told in told_both(fleet):
             clients = told.service.clients(3)
             for client in clients:
                 client.ask(get_of("k"), MISS)
@@ -130,6 +141,49 @@ def a_proxy_counts_what_it_answers():
         check("the last bound has all", 12, samples[("migctl_proxy_leg_seconds_bucket", "+Inf")])
 
 
+@case
+def a_request_is_under_way_until_its_leg_is_back_and_timed():
+    """A leg takes as long as its node: each bound below that counts none, each above counts it, and the sum is its time."""
+    with Fleet() as fleet:
+        slow = fleet.keep(SlowNode())
+        told = told_proxy(fleet, fleet.config([slow.address]))
+        client = told.service.client()
+        check("under way", 0, told.samples()[("migctl_proxy_requests_under_way",)])
+        begun = time.monotonic()
+        client.send(get_of("k"))
+        slow.wait_for(1)
+        check("under way", 1, told.samples()[("migctl_proxy_requests_under_way",)])
+        time.sleep(0.3)
+        slow.answer_all({"k": "v"})
+        client.expect(hits(("k", "v")))
+        took = time.monotonic() - begun
+        samples = told.samples()
+        check("under way", 0, samples[("migctl_proxy_requests_under_way",)])
+        check_true("the sum is the time", 0.3 <= samples[("migctl_proxy_leg_seconds_sum",)] <= took)
+        bounds = [name[1] for name in samples if name[0] == "migctl_proxy_leg_seconds_bucket"]
+        check("the bounds", BOUNDS, bounds)
+        for bound in bounds:
+            if not 0.3 <= float(bound) < took:
+                wanted = int(float(bound) >= took)
+                check(f"legs within {bound} s", wanted, samples[("migctl_proxy_leg_seconds_bucket", bound)])
+
+
+@case
+def a_proxy_tells_of_each_node_of_full_pools():
+    """Two pools have the most names that they may have, which an unproved program would read for minutes."""
+    with Fleet() as fleet:
+        pools = [names(pool, 128 if UNPROVED else 1024) for pool in range(2)]
+        told = told_proxy(fleet, fleet.config(*pools))
+        legs = {name[1:]: number for name, number in told.samples().items() if name[0] == "migctl_proxy_legs_total"}
+        wanted = [(f"{pool}", name, it) for pool in range(2) for name in pools[pool] for it in ("carried", "lost")]
+        check("how many legs of each", [dict.fromkeys(wanted, 0)], [legs])
+
+
+def names(pool, count, length=12):
+    """So many names of nodes of so many bytes, which no request goes to."""
+    return [f"{pool}.{number}".ljust(length, "n") for number in range(count)]
+
+
 def requests_of(samples, phase):
     """The requests of each command in a phase."""
     return {command: samples[("migctl_proxy_requests_total", command, phase)] for command in ("get", "set", "delete")}
@@ -137,13 +191,14 @@ def requests_of(samples, phase):
 
 @case
 def a_clock_that_goes_back_is_counted():
-    """Each step once, whoever sees it first: a client's request or a scraper."""
+    """Each step once, whoever sees it first: a client's request or a scraper. It began when it began all the same."""
     with Fleet() as fleet:
-        for make in (lambda *how, **more: told_node(fleet, *how, **more), lambda *how, **more: told_proxy(fleet, fleet.config([fleet.node()]), *how, **more)):
-            clock = fleet.clock(500)
-            told = make(clock=clock)
+        clock = fleet.clock(500)
+        for told in told_both(fleet, clock=clock):
+            clock.move(500)
             client = told.service.client()
             steps = 0
+            began = told.samples()[("migctl_start_time_seconds",)]
             for ahead, back in ((500, 0), (900, 0), (-3600, 1), (-3500, 0), (-3600, 1), (500, 0)):
                 clock.move(ahead)
                 if ahead == -3500:
@@ -154,6 +209,41 @@ def a_clock_that_goes_back_is_counted():
                 samples = told.samples()
                 check(f"steps back at {ahead}", steps, samples[("migctl_clock_steps_back_total",)])
                 check_true("the clock that it tells", abs(samples[("migctl_clock_seconds",)] - time.time() - ahead) <= 2)
+                check("when it began", began, samples[("migctl_start_time_seconds",)])
+
+
+@case
+def a_step_back_that_no_scraper_sees_is_counted():
+    """A client alone sees it: the clock is past its old reading when it is scraped."""
+    with Fleet() as fleet:
+        clock = fleet.clock()
+        for told in told_both(fleet, clock=clock):
+            clock.move(0)
+            client = told.service.client()
+            client.ask(get_of("k"), MISS)
+            for number in range(3):
+                clock.move(1000 * number - 500)
+                client.ask(get_of("k"), MISS)
+                clock.move(1000 * number + 1000)
+                client.ask(get_of("k"), MISS)
+                check("steps back", number + 1, told.samples()[("migctl_clock_steps_back_total",)])
+
+
+@case
+def a_step_back_that_many_see_at_once_is_counted_once():
+    """Eight clients ask at the same time behind each of fifty steps."""
+    with Fleet() as fleet:
+        clock = fleet.clock(3600)
+        told = told_node(fleet, clock=clock)
+        clients = told.service.clients(8)
+        for _ in range(50):
+            for ahead in (3600, 0):
+                clock.move(ahead)
+                for client in clients:
+                    client.send(get_of("k"))
+                for client in clients:
+                    client.expect(MISS)
+        check("steps back", 50, told.samples()[("migctl_clock_steps_back_total",)])
 
 
 @case
@@ -167,6 +257,15 @@ def a_proxy_whose_clock_went_back_keeps_its_phase():
         samples = told.samples()
         check("its phase", 1, samples[("migctl_proxy_phase", "both-read-old")])
         check("the next bound", start - 5 + 1000, samples[("migctl_proxy_next_phase_seconds",)])
+
+
+@case
+def a_service_tells_its_version():
+    """The one that `--version` says."""
+    with Fleet() as fleet:
+        _, output, _ = fleet.run("--version")
+        for told in told_both(fleet):
+            check("its version", 1, told.samples()[("migctl_build_info", output.decode().split()[-1])])
 
 
 @case
@@ -220,6 +319,10 @@ def a_proxy_tells_its_phase_and_counts_by_it():
                 for other, it in enumerate(PHASES):
                     check(f"deletes in {it}", int(other <= number), samples[("migctl_proxy_requests_total", "delete", it)])
                 check("the last issue", start - 2 + number * interval, samples[("migctl_proxy_last_issue_seconds",)])
+                for pool, node, legs in (("0", old, (1, 2, 3, 3)), ("1", new, (0, 1, 2, 3))):
+                    wanted = {"carried": legs[number], "lost": 0}
+                    got = {it: samples[("migctl_proxy_legs_total", pool, node.address, it)] for it in wanted}
+                    check(f"legs of pool {pool}", wanted, got)
 
 
 @case
@@ -278,10 +381,11 @@ def a_post_with_a_body_is_answered():
 
 @case(waits=True)
 def slow_scrapers_hinder_nobody():
-    """A hundred that send a byte now and then are ended, and meanwhile clients are served and, a while later, scrapers too."""
+    """Of 150 that send a byte now and then each is ended or turned away, and meanwhile clients are served and, a while later,
+    scrapers too."""
     with Fleet() as fleet:
-        for told in (told_node(fleet), told_proxy(fleet, fleet.config([fleet.node()]))):
-            slow = [fleet.keep(Client(told.address)) for _ in range(100)]
+        for told in told_both(fleet):
+            slow = [fleet.keep(Client(told.address)) for _ in range(150)]
             began = time.monotonic()
             client = told.service.client()
             while time.monotonic() - began < 6.5:
@@ -301,8 +405,117 @@ def slow_scrapers_hinder_nobody():
                     ended += 1
                 except TimeoutError:
                     pass
-            check("slow scrapers that were ended", 100, ended)
+            check("slow scrapers that were ended", 150, ended)
             check_true("scrapers are served", told.samples()[("migctl_connections_total",)] == 1)
+
+
+@case(waits=True)
+def sixty_four_scrapers_are_served_at_once():
+    """Beside 63 whose request isn't whole yet one more is answered. Beside 64 it is turned away, and once they are gone it is
+    answered again."""
+    with Fleet() as fleet:
+        for told in told_both(fleet):
+            with within(4):  # behind which the first of them is ended
+                open_ones = [begun_scrape(fleet, told) for _ in range(63)]
+                for it in open_ones:
+                    wait_until_read(it.socket)
+                told.samples()
+                open_ones.append(begun_scrape(fleet, told))
+                wait_until_read(open_ones[-1].socket)
+                with Client(told.address) as more:
+                    begun = time.monotonic()
+                    more.expect_end("the end of the 65th scraper at once")
+                    check_took("the 65th scraper was turned away", begun, 0, 2)
+            for it in open_ones:
+                it.close()
+            wait_until_answered(told)
+
+
+def begun_scrape(fleet, told):
+    """A scraper that has sent the first half of its request."""
+    client = fleet.keep(Client(told.address))
+    client.send(b"GET /metrics HTTP/1.1\r\n")
+    return client
+
+
+def wait_until_answered(told):
+    """Waits until a scraper is answered, and isn't turned away."""
+    until = time.monotonic() + 3
+    while True:
+        try:
+            return told.samples()
+        except OSError:
+            if time.monotonic() > until:
+                raise
+            time.sleep(0.05)
+
+
+@case(waits=True)
+def a_scraper_may_take_three_seconds():
+    """It has five for all."""
+    with Fleet() as fleet:
+        told = told_node(fleet)
+        with within(4.5):
+            client = begun_scrape(fleet, told)
+            time.sleep(3)
+            client.send(b"\r\n")
+            check("the status of the answer", b"HTTP/1.1 200 OK\r\n", client.line())
+
+
+@case(waits=True)
+def a_scraper_that_reads_nothing_is_ended():
+    """It asks for more than its connection has room for. After its five seconds the service ends, whose client is gone."""
+    with Fleet() as fleet:
+        told = told_proxy(fleet, fleet.config(*(names(pool, 128, 255) for pool in range(2))), clients=1)  # some 150,000 bytes
+        scraper = fleet.keep(Client(told.address, little_room=True))
+        begun = time.monotonic()
+        scraper.send(b"GET /metrics HTTP/1.1\r\n\r\n")
+        scraper.socket.recv(1, socket.MSG_PEEK)  # once the answer has begun
+        told.service.client().quit()
+        told.service.expect_served(1)
+        check_took("the service ended", begun, 4.5, 15)
+
+
+@case(waits=True)
+def scrapers_are_answered_behind_a_want_of_open_files():
+    """Who can't be accepted waits, and is answered once a file is free, as is who comes then. Clients are served throughout."""
+    with Fleet() as fleet:
+        for told in told_both(fleet):
+            clients = told.service.clients(4)
+            for client in clients:
+                client.ask(set_of("k", "v"), STORED)
+            told.service.limit_files(told.service.open_files())
+            with Client(told.address) as scraper:
+                scraper.send(b"GET /metrics HTTP/1.1\r\n\r\n")
+                check("what comes within a second", (b"", b"<nothing more>"), scraper.piece(1, 1))
+                clients[0].ask(get_of("k"), hits(("k", "v")))
+                for client in clients[2:]:
+                    client.quit()
+                check("the status of the answer", b"HTTP/1.1 200 OK\r\n", scraper.line())
+            clients[1].ask(get_of("k"), hits(("k", "v")))
+            wait_until_answered(told)
+
+
+@case(waits=True)
+def a_service_with_metrics_is_idle_when_nobody_asks():
+    """It takes a tenth of a processor at most to look for scrapers, and doesn't leave them waiting: of ten that come one behind
+    another, all but the first just after it looked, one is answered soon."""
+    with Fleet() as fleet:
+        services = told_both(fleet)
+        begun, before = time.monotonic(), [it.service.processor_seconds() for it in services]
+        time.sleep(3)
+        for told, spent in zip(services, before):
+            spent = told.service.processor_seconds() - spent
+            passed = time.monotonic() - begun
+            check_true(f"that {spent:.2f} s of {passed:.2f} s are a tenth at most", spent <= passed / 10)
+        for told in services:
+            told.samples()
+            waits = []
+            for _ in range(9):
+                begun = time.monotonic()
+                told.samples()
+                waits.append(time.monotonic() - begun)
+            check_true(f"that one of {waits} is short", min(waits) < 0.25)
 
 
 @case
@@ -343,10 +556,10 @@ def nonsense_at_the_metrics_hinders_nobody():
 @case
 def a_service_with_metrics_ends_with_its_clients():
     with Fleet() as fleet:
-        told = Told(fleet, lambda *more: fleet.node(*more, clients=2))
-        for _ in range(2):
-            told.service.ask(get_of("k"), MISS)
-        told.service.expect_served(2)
+        for told in told_both(fleet, clients=2):
+            for _ in range(2):
+                told.service.ask(get_of("k"), MISS)
+            told.service.expect_served(2)
 
 
 @case

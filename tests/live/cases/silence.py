@@ -1,10 +1,9 @@
 """Nodes and clients that are silent: how long a leg waits for its node, and a service for its client."""
-import socket
 import time
 
 from cases.migrations import HOUR, Pools
 from client import LOST, MISS, NOT_FOUND, STORED, delete_of, get_of, hits, set_of
-from fake import SlowNode
+from fake import FullQueue, SlowNode
 from fleet import Fleet
 from placing import key_at
 from running import case
@@ -115,12 +114,8 @@ def a_stopped_node_costs_its_own_keys_alone():
 def a_node_that_accepts_nobody_loses_its_legs():
     """Its queue of connections is full, so that connecting to it takes until the system gives up."""
     with Fleet() as fleet:
-        full = fleet.keep(socket.create_server(("127.0.0.1", 0), backlog=0))
-        for _ in range(4):
-            waiting = fleet.keep(socket.socket())
-            waiting.setblocking(False)
-            waiting.connect_ex(full.getsockname())
-        client = fleet.proxy(fleet.config(["127.0.0.1:%d" % full.getsockname()[1]]), "--leg-timeout", "700").client()
+        full = fleet.keep(FullQueue())
+        client = fleet.proxy(fleet.config([full.address]), "--leg-timeout", "700").client()
         begun = time.monotonic()
         client.ask(get_of("k"), LOST)
         check_took("the leg was lost", begun, 0.65, 5)

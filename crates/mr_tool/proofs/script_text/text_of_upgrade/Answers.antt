@@ -4,7 +4,7 @@ use Rattle.mr_tool.specs.GivenText.{IsTextFault}
 use Rattle.mr_scripts.specs.Upgrade.{RefusesUpgrade}
 use Rattle.mr_tool.specs.UpgradeCommand.{MakesUpgrade}
 use Rattle.mr_tool.specs.declared.ended.Ended.TheVariants.{Done}
-use Rattle.mr_tool.specs.declared.fault.Fault.TheVariants.{Memory, Plan}
+use Rattle.mr_tool.specs.declared.fault.Fault.TheVariants.{Memory}
 use Rattle.mr_tool.proofs.script_text.text_of_upgrade.Goals as goal
 
 pub returns-in_err-extend_from_slice-clause-refused : goal.returns-in_err-extend_from_slice-clause-refused

@@ -1,6 +1,13 @@
+use Rattle.std.proofs.Common.{◌≡◌}
 use Rattle.mr_tool.proofs.WatchLemmas.{IsUnderway}
+use Rattle.mr_tool.specs.Posts.{addresses_of}
+use Rattle.mr_tool.specs.WatchCommand.{fleet_of}
 use Rattle.mr_tool.proofs.watch.write_looks.Given as goal
 
--- the looks so far were written
-abbrev pub invariant-loop : goal.invariant-loop
-invariant-loop g l = IsUnderway l.manner l.once l.schedule (g.O.Sink.told l.fn.output) l.findings l.first (g.O.Sink.told l.output)
+-- the looks so far were written, of the services that were named
+abbrev pub invariant-loop-number : goal.invariant-loop-number
+invariant-loop-number g l = record {
+  underway : IsUnderway l.manner l.once (fleet_of l.config l.expected (addresses_of l.fn.posts)) (g.O.Sink.told l.fn.output) l.findings l.first l.number
+      (g.O.Sink.told l.output);
+  posts : addresses_of l.posts ≡ addresses_of l.fn.posts;
+}
