@@ -201,6 +201,10 @@ def printable(word):
     return "".join(chr(byte) if 32 <= byte <= 126 else "?" for byte in word)
 
 
+def counted(number, word):
+    return f"{short(number)} {word}" + ("" if number == 1 else "s")
+
+
 def cut(name):
     return printable(name.encode()[:24])
 
@@ -243,7 +247,7 @@ def pool_lines(look, pool):
         return "".join(front + cut(node["name"]).ljust(24) + cell(node["items"]) + cell(node["hits"]) + "\n" for node in nodes)
     seen = sum(node["items"] is not None for node in nodes)
     items, hits = (min(sum(node[name] or 0 for node in nodes), MOST) for name in ("items", "hits"))
-    return f"{front}{short(len(nodes))} nodes, {short(seen)} seen, {short(items)} items, {short(hits)} hits\n"
+    return f"{front}{short(len(nodes))} nodes, {short(seen)} seen, {counted(items, 'item')}, {counted(hits, 'hit')}\n"
 
 
 def schedule_lines(look):
@@ -275,8 +279,10 @@ def premise_lines(look, findings):
     hops, apart = not_begun(look), spread(look)
     pool = ""
     if hops:
-        held = min(sum(node["items"] or 0 for node in in_pool(look, hops[0] + 1)), MOST)
-        pool = f", pool {hops[0] + 1} holds {short(held)} items"
+        nodes = in_pool(look, hops[0] + 1)
+        seen = [node["items"] for node in nodes if node["items"] is not None]
+        holds = " holds" if len(seen) == len(nodes) else f": {short(len(seen))} of {counted(len(nodes), 'node')} seen,"
+        pool = f", pool {hops[0] + 1}{holds} {counted(min(sum(seen), MOST), 'item')}"
     near = ""
     if apart:
         least, most = seconds(apart[0]), seconds(apart[1] + 99)

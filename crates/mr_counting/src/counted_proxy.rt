@@ -84,7 +84,10 @@ impl<C: Carrier> Desk<C> for CountedProxy<C> {
     }
 
     /// Takes a leg that came back, and moves its reply; what became of it is counted first. It takes no memory, and never fails.
-    #[inline(always)]
+    ///
+    /// It stays a call, whose result is written once to where its caller wants it. A session into which it were put would take an
+    /// answer apart and move each piece again at each step.
+    #[inline(never)]
     fn take<R: Wait>(&self, rt: &R, carried: &mut Carried<C>) -> Result<Taken, DeskError>
         ensures taken { IfOk result (DeskTakes C.gave carried.old.back) }
         ensures stands { IfOk result (TakenStands C.gave) }

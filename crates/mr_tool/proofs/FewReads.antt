@@ -147,7 +147,7 @@ watch_reads values before after (Err Memory) (inl h) = unread _ _ _ h.unread
 watch_reads values before after (Err Memory) (inr (inl h)) = unread _ _ _ h.unread
 watch_reads values before after (Err Memory) (inr (inr h)) = unread _ _ _ h.unread
 watch_reads values before after (Err Input) h = absurd h
-watch_reads values before after (Err (Net line)) h = absurd h
+watch_reads values before after (Err (Net line)) h = unread _ _ _ h.unread
 watch_reads values before after (Err (Node refusal)) h = absurd h
 watch_reads values before after (Err (Text refusal)) h = absurd h
 

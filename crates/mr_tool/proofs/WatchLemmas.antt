@@ -19,6 +19,7 @@ use Rattle.mr_tool.specs.Looking.{NodeNamed, all_named, nodes_of_pools}
 use Rattle.mr_tool.specs.Posts.{addresses_of}
 use Rattle.mr_tool.specs.declared.ended.Ended.{Ended}
 use Rattle.mr_tool.specs.WatchCommand.{EndsWatch, FailsToWrite, Fleet, HasEnded, HasLooked, HasShown, HasWatched, IsLook, LacksMemoryBehind, Looks, NeverMigrated, StopsBehind, WatchGives, WatchLacksMemory, WatchStops, WatchesConfig, WritesLook, WritesLooks, WritesView, all_texts, fleet_of, fleet_seen, found_by, is_first, most_looks}
+use Rattle.mr_tool.specs.WatchedWords.{AreAddresses, RefusesWord}
 use Rattle.mr_tool.specs.WatchText.{MayShow, end_of_watch, last_lines, shown}
 use Rattle.mr_tool.specs.declared.fault.Fault.{Fault}
 use Rattle.mr_tool.specs.declared.fault.Fault.TheVariants.{Memory, Input, Output, File, Net, Plan, Node, Text}
@@ -231,19 +232,39 @@ module _ (values : WatchValues) (loaded : Loaded) (digest : List ℕ) (before af
   Come result = WatchesConfig values.json values.once (fleet_of loaded.config digest (addresses_in values)) before.output result after.output
 
   pub watch_gave : (result : Result Ended Fault) → LoadsWhole values.config.now before.sources loaded after.sources → after.input ≡ before.input
-      → IsDigest loaded.bytes digest → Come result → WatchGives values before after result
-  watch_gave (Ok ended) loads unread is watches =
-      record { loaded = loaded; loads = loads; unread = unread; digest = digest; is_digest = is; watches = watches }
-  watch_gave (Err Output) loads unread is watches =
-      record { loaded = loaded; loads = loads; unread = unread; digest = digest; is_digest = is; watches = watches }
-  watch_gave (Err Memory) loads unread is watches =
-      inr (inr (record { loaded = loaded; loads = loads; unread = unread; digest = digest; is_digest = is; watches = watches }))
-  watch_gave (Err Input) loads unread is watches = absurd watches
-  watch_gave (Err (File line)) loads unread is watches = absurd watches
-  watch_gave (Err (Net line)) loads unread is watches = absurd watches
-  watch_gave (Err (Plan refusal)) loads unread is watches = absurd watches
-  watch_gave (Err (Node refusal)) loads unread is watches = absurd watches
-  watch_gave (Err (Text refusal)) loads unread is watches = absurd watches
+      → AreAddresses (addresses_in values) → IsDigest loaded.bytes digest → Come result → WatchGives values before after result
+  watch_gave (Ok ended) loads unread are is watches =
+      record { loaded = loaded; loads = loads; unread = unread; are_addresses = are; digest = digest; is_digest = is; watches = watches }
+  watch_gave (Err Output) loads unread are is watches =
+      record { loaded = loaded; loads = loads; unread = unread; are_addresses = are; digest = digest; is_digest = is; watches = watches }
+  watch_gave (Err Memory) loads unread are is watches =
+      inr (inr (record { loaded = loaded; loads = loads; unread = unread; are_addresses = are; digest = digest; is_digest = is; watches = watches }))
+  watch_gave (Err Input) loads unread are is watches = absurd watches
+  watch_gave (Err (File line)) loads unread are is watches = absurd watches
+  watch_gave (Err (Net line)) loads unread are is watches = absurd watches
+  watch_gave (Err (Plan refusal)) loads unread are is watches = absurd watches
+  watch_gave (Err (Node refusal)) loads unread are is watches = absurd watches
+  watch_gave (Err (Text refusal)) loads unread are is watches = absurd watches
+
+-- a word was no address, and the configuration had been had
+pub watch_refused : (values : WatchValues) (loaded : Loaded) (before after : Devices) (fault : Fault) (result : Result Ended Fault)
+    → IsErrAnd result (λ other. other ≡ fault) → LoadsWhole values.config.now before.sources loaded after.sources
+    → after.input ≡ before.input → after.output ≡ before.output → RefusesWord (addresses_in values) fault → WatchGives values before after result
+watch_refused values loaded before after fault result is loads unread unwritten refuses =
+    faulted (WatchGives values before after) result fault is (failed fault refuses)
+  where
+    had : LoadsConfig values.config.now before.sources (Ok loaded.config) after.sources
+    had = (loaded.bytes, loads.0, loads.1)
+
+    failed : (fault : Fault) → RefusesWord (addresses_in values) fault → WatchGives values before after (Err fault)
+    failed (Net line) refuses = record { config = loaded.config; loaded = had; unread = unread; unwritten = unwritten; refuses = refuses }
+    failed Memory refuses = inr (inl (record { config = loaded.config; loaded = had; unread = unread; unwritten = unwritten }))
+    failed (File line) refuses = absurd refuses.is_fault
+    failed (Plan refusal) refuses = absurd refuses.is_fault
+    failed Output refuses = absurd refuses.is_fault
+    failed Input refuses = absurd refuses.is_fault
+    failed (Node refusal) refuses = absurd refuses.is_fault
+    failed (Text refusal) refuses = absurd refuses.is_fault
 
 -- there was no configuration
 pub watch_lacks : (values : WatchValues) (before after : Devices) (fault : Fault) (result : Result Ended Fault) → IsErrAnd result (λ other. other ≡ fault)

@@ -24,3 +24,4 @@ pub mod UpgradeCommand
 pub mod VersionCommand
 pub mod WatchCommand
 pub mod WatchText
+pub mod WatchedWords

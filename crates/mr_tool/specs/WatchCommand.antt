@@ -18,10 +18,11 @@ use Rattle.mr_tool.specs.Loaded.{Loaded}
 use Rattle.mr_tool.specs.Looking.{NodeNamed, all_named, nodes_of_pools}
 use Rattle.mr_tool.specs.PlanCommand.{LacksConfig}
 use Rattle.mr_tool.specs.Posts.{addresses_of, addresses_of_unreached, all_shown, earlier_proxies, proxies_now, unreached_addresses}
+use Rattle.mr_tool.specs.WatchedWords.{AreAddresses, RefusesWord}
 use Rattle.mr_tool.specs.WatchText.{MayShow, shown, last_lines, end_of_watch}
 use Rattle.mr_tool.specs.declared.ended.Ended.{Ended}
 use Rattle.mr_tool.specs.declared.fault.Fault.{Fault}
-use Rattle.mr_tool.specs.declared.fault.Fault.TheVariants.{Memory, Output, File, Plan}
+use Rattle.mr_tool.specs.declared.fault.Fault.TheVariants.{Memory, Output, File, Net, Plan}
 use Rattle.mr_tool.specs.declared.last_lines.Unreached.{Unreached}
 use Rattle.mr_tool.specs.declared.manner.Manner.{Manner}
 use Rattle.mr_tool.specs.declared.posts.Post.{Post}
@@ -222,6 +223,7 @@ pub record Watches (values : WatchValues) (before after : Devices) (result : Res
   pub loaded : Loaded
   pub loads : LoadsWhole values.config.now before.sources loaded after.sources
   pub unread : after.input ≡ before.input
+  pub are_addresses : AreAddresses (addresses_in values)
   pub digest : List ℕ
   pub is_digest : IsDigest loaded.bytes digest
   pub watches : WatchesConfig values.json values.once (fleet_of loaded.config digest (addresses_in values)) before.output result after.output
@@ -233,13 +235,22 @@ pub record LacksWatch (values : WatchValues) (before after : Devices) : Type 0 w
   pub unread : after.input ≡ before.input
   pub unwritten : after.output ≡ before.output
 
+-- the configuration was had, and the fault names the first word that is no address; nothing is written
+pub record RefusesAddress (values : WatchValues) (fault : Fault) (before after : Devices) : Type 0 where
+  pub config : ConfigView
+  pub loaded : LoadsConfig values.config.now before.sources (Ok config) after.sources
+  pub unread : after.input ≡ before.input
+  pub unwritten : after.output ≡ before.output
+  pub refuses : RefusesWord (addresses_in values) fault
+
 -- What the command does. It writes its looks and its last lines, or finds the first of the faults in this order: the file, the
--- configuration, the output. The file is loaded once, and nothing is read.
+-- configuration, a word that is no address, the output. The file is loaded once, and nothing is read.
 abbrev pub WatchGives : WatchValues → Devices → Devices → Result Ended Fault → Type 0
 WatchGives values before after (Ok ended) = Watches values before after (Ok ended)
 WatchGives values before after (Err Output) = Watches values before after (Err Output)
 WatchGives values before after (Err (File line)) = LacksConfig values.config.now (File line) before after
 WatchGives values before after (Err (Plan refusal)) = LacksConfig values.config.now (Plan refusal) before after
+WatchGives values before after (Err (Net line)) = RefusesAddress values (Net line) before after
 WatchGives values before after (Err Memory) =
     LacksConfig values.config.now Memory before after ⊎ LacksWatch values before after ⊎ Watches values before after (Err Memory)
 WatchGives values before after (Err fault) = ⊥

@@ -24,6 +24,7 @@ mod services;
 mod sources;
 mod timeline;
 mod watch;
+mod watched_words;
 
 pub use arguments::run_arguments;
 pub use input::MOST_CONFIG_BYTES;

@@ -31,7 +31,7 @@ use std::thread::Threads;
 use std::time;
 
 /// The fault of an address at which no socket can be opened.
-fn net_fault(alloc: Global, address: &str) -> Fault
+pub(crate) fn net_fault(alloc: Global, address: &str) -> Fault
     ensures { IsNetFault address.now result }
 {
     match format!(in alloc; "migctl: net {address}\n") {

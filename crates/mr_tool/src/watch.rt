@@ -16,6 +16,7 @@ use crate::manner::{Manner, manner_of, text_of};
 use crate::posts::{Post, earlier_in, posts_at, proxies_in, unreached_in};
 use crate::printing::{PrintFault, write_at_once};
 use crate::sources::Sources;
+use crate::watched_words::check_words;
 use mr_configs::Config;
 use mr_phases::Schedule;
 use mr_sockets::HostServers;
@@ -201,7 +202,8 @@ fn watch_config<
     end_watch(alloc, manner, findings, posts.as_slice(), output)
 }
 
-/// Watches a migration by the configuration in a file.
+/// Watches a migration by the configuration in a file. A word that is no address at which a service may listen is refused before any
+/// service is asked.
 pub fn run_watch<
     R: Net<Listener = TcpListener, Stream = TcpStream>
         + Threads
@@ -223,6 +225,7 @@ pub fn run_watch<
         (devices (S.told sources.new) input (O.told output.new) faults) result }
 {
     let loaded = load_whole_config(alloc, values.config, sources)?;
+    check_words(alloc, values.addresses())?;
     let expected = loaded.digest(alloc)?;
     watch_config(
         alloc,

@@ -1,5 +1,5 @@
 -- The lines of nodes.
-use Rattle.std.specs.Prelude.{ℕ, zero, suc, ◌+◌, ◌-◌, ◌^◌, min, nat_le, is_some, unwrap_or, List, [], ◌∷◌, ◌++◌, length, if◌then◌else◌, codes, decimal}
+use Rattle.std.specs.Prelude.{ℕ, zero, suc, ◌+◌, ◌-◌, ◌^◌, ◌==◌, min, nat_le, is_some, unwrap_or, List, [], ◌∷◌, ◌++◌, length, if◌then◌else◌, codes, decimal}
 use Rattle.mr_watch.specs.Premises.{is_in}
 use Rattle.mr_watch.specs.Shown.{left, padding, short, perhaps_cell}
 use Rattle.mr_watch.specs.declared.look.NodeSeen.{NodeSeen}
@@ -56,11 +56,15 @@ pool_from pool before (node ∷ nodes) = pool_from pool (pool_with pool before n
 abbrev pub pool_of : ℕ → List NodeSeen → PoolSeen
 pool_of pool nodes = pool_from pool no_nodes nodes
 
+-- how many there are of what a word names, which ends in an s unless there is one
+abbrev pub counted : ℕ → List ℕ → List ℕ
+counted count word = short count ++ (word ++ (if count == 1 then [] else codes "s"))
+
 abbrev pub reached_text : PoolSeen → List ℕ
 reached_text sums = short sums.nodes ++ (codes " nodes, " ++ (short sums.seen ++ codes " seen, "))
 
 abbrev pub held_text : PoolSeen → List ℕ
-held_text sums = short sums.items ++ (codes " items, " ++ (short sums.hits ++ codes " hits\n"))
+held_text sums = counted sums.items (codes " item") ++ (codes ", " ++ (counted sums.hits (codes " hit") ++ codes "\n"))
 
 -- a pool in one line
 abbrev pub sums_line : ℕ → PoolSeen → List ℕ

@@ -1,7 +1,7 @@
 -- The lines of premises.
-use Rattle.std.specs.Prelude.{ℕ, zero, suc, ◌+◌, ◌-◌, ◌/◌, ◌%◌, ◌^◌, min, nat_lt, Bool, List, [], ◌∷◌, ◌++◌, length, filter, Option, Some, None, if◌then◌else◌, codes, decimal}
+use Rattle.std.specs.Prelude.{ℕ, zero, suc, ◌+◌, ◌-◌, ◌/◌, ◌%◌, ◌^◌, ◌==◌, min, nat_lt, Bool, List, [], ◌∷◌, ◌++◌, length, filter, Option, Some, None, if◌then◌else◌, codes, decimal}
 use Rattle.mr_phases.specs.Schedule.{Hop, least_interval, start_at}
-use Rattle.mr_watch.specs.Nodes.{pool_of}
+use Rattle.mr_watch.specs.Nodes.{counted, pool_of}
 use Rattle.mr_watch.specs.Premises.{are_before, tells_other, went_back}
 use Rattle.mr_watch.specs.Shown.{cut, short, coloured}
 use Rattle.mr_watch.specs.Spread.{all_ahead, spread_in}
@@ -9,6 +9,7 @@ use Rattle.mr_watch.specs.declared.finding.Finding.{Finding}
 use Rattle.mr_watch.specs.declared.finding.Finding.TheVariants.{Unseen, Holds, Broken}
 use Rattle.mr_watch.specs.declared.look.NodeSeen.{NodeSeen}
 use Rattle.mr_watch.specs.declared.look.ProxySeen.{ProxySeen}
+use Rattle.mr_watch.specs.declared.nodes.PoolSeen.{PoolSeen}
 use Rattle.mr_watch.specs.declared.shown.Colour.{Colour}
 use Rattle.mr_watch.specs.declared.shown.Colour.TheVariants.{Green, Red, Yellow}
 use Rattle.mr_watch.specs.declared.spread.Spread.{Spread}
@@ -70,11 +71,18 @@ upcoming hops proxies (suc hop) = or_pool (upcoming hops proxies hop) (are_befor
 abbrev pub upcoming_pool : List Hop → List ProxySeen → Option ℕ
 upcoming_pool hops proxies = upcoming hops proxies (length hops)
 
+-- how many of its nodes told what they hold
+abbrev pub seen_text : PoolSeen → List ℕ
+seen_text sums = codes ": " ++ (short sums.seen ++ (codes " of " ++ (counted sums.nodes (codes " node") ++ codes " seen, ")))
+
+-- what a pool holds: all of its nodes told that, or only these did
+abbrev pub holds_text : PoolSeen → List ℕ
+holds_text sums = (if sums.seen == sums.nodes then codes " holds " else seen_text sums) ++ counted sums.items (codes " item")
+
 -- what that pool holds
 abbrev pub pool_text : Option ℕ → List NodeSeen → List ℕ
 pool_text None nodes = []
-pool_text (Some pool) nodes =
-    codes ", pool " ++ (decimal pool ++ (codes " holds " ++ (short (pool_of pool nodes).items ++ codes " items")))
+pool_text (Some pool) nodes = codes ", pool " ++ (decimal pool ++ holds_text (pool_of pool nodes))
 
 -- a premise of which some proxies tell something
 abbrev pub named_line : Bool → List ℕ → Finding → List ℕ → List ProxySeen → List ℕ

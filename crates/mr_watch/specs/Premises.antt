@@ -39,7 +39,7 @@ is_below (Some reading) (Some earlier) = nat_lt reading earlier
 abbrev pub is_behind : ProxySeen → ProxySeen → Bool
 is_behind proxy earlier = bytes_eq proxy.address.now earlier.address.now && is_below (reading_of proxy) (reading_of earlier)
 
--- it told that its clock gave a reading before one that it had given
+-- it told that its clock gave a reading before the one that it gave last
 abbrev pub has_steps_back : Option ProxyTold → Bool
 has_steps_back None = false
 has_steps_back (Some told) = nat_lt 0 told.steps_back

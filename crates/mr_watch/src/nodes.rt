@@ -1,6 +1,6 @@
 //! The lines of nodes.
 ghost use Rattle.std.specs.Prelude.{◌≡◌, ◌++◌, OnOk};
-ghost use Rattle.mr_watch.specs.Nodes.{nodes_head, pool_cell, node_line, line_in, lines_in, no_nodes, with_node, pool_with, pool_of, reached_text, held_text, sums_line, pool_text, pools_text, nodes_text};
+ghost use Rattle.mr_watch.specs.Nodes.{nodes_head, pool_cell, node_line, line_in, lines_in, no_nodes, with_node, pool_with, pool_of, counted, reached_text, held_text, sums_line, pool_text, pools_text, nodes_text};
 
 use crate::look::NodeSeen;
 use crate::shown::{push_left, push_padding, push_perhaps_cell, push_short};
@@ -117,6 +117,19 @@ fn push_each_in(text: &mut Vec<u8>, pool: u32, nodes: &[NodeSeen<'_>]) -> Result
     Ok(())
 }
 
+/// Adds how many there are of what a word names, which ends in an s unless there is one.
+pub(crate) fn push_counted(text: &mut Vec<u8>, count: u64, word: &str) -> Result<(), AllocError>
+    ensures { OnOk result (text.new.items ≡ text.old.items ++ counted count word.now) }
+{
+    push_short(text, count)?;
+    text.extend_from_slice(word.as_bytes())?;
+    if count == 1 {
+        return Ok(());
+    }
+    text.extend_from_slice(b"s")?;
+    Ok(())
+}
+
 /// Adds how many nodes there are, and were reached.
 fn push_reached(text: &mut Vec<u8>, sums: &PoolSeen) -> Result<(), AllocError>
     ensures { OnOk result (text.new.items ≡ text.old.items ++ reached_text sums.now) }
@@ -132,10 +145,10 @@ fn push_reached(text: &mut Vec<u8>, sums: &PoolSeen) -> Result<(), AllocError>
 fn push_held(text: &mut Vec<u8>, sums: &PoolSeen) -> Result<(), AllocError>
     ensures { OnOk result (text.new.items ≡ text.old.items ++ held_text sums.now) }
 {
-    push_short(text, sums.items)?;
-    text.extend_from_slice(b" items, ")?;
-    push_short(text, sums.hits)?;
-    text.extend_from_slice(b" hits\n")?;
+    push_counted(text, sums.items, " item")?;
+    text.extend_from_slice(b", ")?;
+    push_counted(text, sums.hits, " hit")?;
+    text.extend_from_slice(b"\n")?;
     Ok(())
 }
 

@@ -1,12 +1,13 @@
 //! The lines of premises.
 ghost use Rattle.std.specs.Prelude.{◌≡◌, ◌++◌, ◌<◌, ◌^◌, filter, Some, IfOk, OnOk};
+ghost use Rattle.mr_watch.specs.Nodes.{counted};
 ghost use Rattle.mr_watch.specs.Premises.{tells_other, went_back};
-ghost use Rattle.mr_watch.specs.PremiseLines.{finding_text, finding_colour, found_text, more_text, named_text, seconds_text, rounded_up, apart_text, spread_text, or_pool, upcoming_pool, pool_text, named_line, same_line, pool_line, spread_line, empty_line, near_line, forward_line, premises_text};
+ghost use Rattle.mr_watch.specs.PremiseLines.{finding_text, finding_colour, found_text, more_text, named_text, seconds_text, rounded_up, apart_text, spread_text, or_pool, upcoming_pool, seen_text, holds_text, pool_text, named_line, same_line, pool_line, spread_line, empty_line, near_line, forward_line, premises_text};
 
 use crate::finding::Finding;
 use crate::look::{NodeSeen, ProxySeen};
 use crate::next::push_decimal;
-use crate::nodes::pool_of;
+use crate::nodes::{PoolSeen, pool_of, push_counted};
 use crate::premises::{are_before, tells_other, went_back};
 use crate::shown::{Colour, push_coloured, push_cut, push_short};
 use crate::spread::{Spread, spread_of};
@@ -188,15 +189,38 @@ pub(crate) fn upcoming_pool(schedule: &Schedule, proxies: &[ProxySeen<'_>]) -> O
     first
 }
 
-/// Adds what a pool holds.
-fn push_held(text: &mut Vec<u8>, pool: u32, nodes: &[NodeSeen<'_>]) -> Result<(), AllocError>
+/// Adds how many nodes of a pool told what they hold.
+fn push_seen(text: &mut Vec<u8>, sums: &PoolSeen) -> Result<(), AllocError>
+    ensures { OnOk result (text.new.items ≡ text.old.items ++ seen_text sums.now) }
+{
+    text.extend_from_slice(b": ")?;
+    push_short(text, sums.seen)?;
+    text.extend_from_slice(b" of ")?;
+    push_counted(text, sums.nodes, " node")?;
+    text.extend_from_slice(b" seen, ")?;
+    Ok(())
+}
+
+/// Adds what a pool holds: all of its nodes told that, or only so many did.
+fn push_held(text: &mut Vec<u8>, sums: &PoolSeen) -> Result<(), AllocError>
+    ensures { OnOk result (text.new.items ≡ text.old.items ++ holds_text sums.now) }
+{
+    if sums.seen == sums.nodes {
+        text.extend_from_slice(b" holds ")?;
+    } else {
+        push_seen(text, sums)?;
+    }
+    push_counted(text, sums.items, " item")?;
+    Ok(())
+}
+
+/// Adds which pool it is, and what it holds.
+fn push_pool(text: &mut Vec<u8>, pool: u32, nodes: &[NodeSeen<'_>]) -> Result<(), AllocError>
     ensures { OnOk result (text.new.items ≡ text.old.items ++ pool_text (Some pool) nodes.now) }
 {
     text.extend_from_slice(b", pool ")?;
     push_decimal(text, u64::from(pool))?;
-    text.extend_from_slice(b" holds ")?;
-    push_short(text, pool_of(pool, nodes).items)?;
-    text.extend_from_slice(b" items")?;
+    push_held(text, &pool_of(pool, nodes))?;
     Ok(())
 }
 
@@ -209,7 +233,7 @@ fn push_new_pool(
     ensures { OnOk result (text.new.items ≡ text.old.items ++ pool_text pool nodes.now) }
 {
     match pool {
-        Some(pool) => push_held(text, pool, nodes),
+        Some(pool) => push_pool(text, pool, nodes),
         None => Ok(()),
     }
 }

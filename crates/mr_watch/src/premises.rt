@@ -66,7 +66,7 @@ fn is_behind(proxy: &ProxySeen<'_>, earlier: &ProxySeen<'_>) -> bool
     proxy.address == earlier.address && is_below(reading_of(proxy), reading_of(earlier))
 }
 
-/// Whether it told that its clock gave a reading before one that it had given.
+/// Whether it told that its clock gave a reading before the one that it gave last.
 fn has_steps_back(proxy: &ProxySeen<'_>) -> bool
     ensures { result ≡ has_steps_back proxy.now.told }
 {

@@ -131,7 +131,7 @@ fn clock_in(bytes: &[u8]) -> Option<Option<u64>>
     perhaps_number_of(b"migctl_clock_seconds ", bytes)
 }
 
-/// How often the clock gave a reading before one that it had given.
+/// How often the clock gave a reading before the one that it gave last.
 fn steps_back_in(bytes: &[u8]) -> Option<u64>
     ensures { result ≡ steps_back_in bytes.now }
 {

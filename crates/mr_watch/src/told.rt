@@ -32,7 +32,7 @@ pub struct ProxyTold<'a> {
     pub digest: &'a [u8],
     /// What its clock said, in seconds since the epoch; None where it gave no reading.
     pub clock: Option<u64>,
-    /// How often its clock gave a reading before one that it had given.
+    /// How often its clock gave a reading before the one that it gave last.
     pub steps_back: u64,
     /// Where it stands in the schedule.
     pub place: Place,

@@ -51,7 +51,7 @@ IsFaultOf error Readings = ⊥
 
 -- what is said where `explain` names no fault
 abbrev pub no_such_fault : List ℕ
-no_such_fault = codes "no layer has a fault of this number: 'migctl explain --help' names the layers"
+no_such_fault = codes "no layer of this name has a fault of this number: 'migctl explain --help' names the layers"
 
 -- what is said where a service is given `--forever` beside what it stands in place of
 abbrev pub both_given : List ℕ

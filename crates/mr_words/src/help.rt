@@ -21,9 +21,9 @@ macro_rules! notes {
 pub const PROGRAM_NOTES: &str = notes!(
     "Times are whole seconds since the epoch, sizes are bytes. Configurations and scripts are JSON;\n\
     docs/FORMATS.md says all of both, and docs/OPERATING.md how a migration is run.\n\
-    Results go to the standard output. 'migctl explain' says what the line of a fault means.",
+    Results go to the standard output, help to the standard error. 'migctl explain' says what the line of a fault means.",
     ", 3 not accepted by 'check'",
-    "printf 'delete k\\r\\n' | migctl plan --config fleet.json --at 1000"
+    "printf 'delete k\\r\\n' | migctl plan --config examples/fleet.json --at 1000"
 );
 
 /// The notes of `plan`.
@@ -32,7 +32,7 @@ pub const PLAN_NOTES: &str = notes!(
     The standard input holds one request in memcached's text protocol: a key has at most 250 bytes, a value\n\
     at most 1,048,576. What follows it is ignored. Of several migrations in a row, the phase is printed with the\n\
     hop that it is of.",
-    "printf 'delete k\\r\\n' | migctl plan --config fleet.json --at 1000"
+    "printf 'delete k\\r\\n' | migctl plan --config examples/fleet.json --at 1000"
 );
 
 /// The notes of `timeline`.
@@ -43,7 +43,7 @@ pub const TIMELINE_NOTES: &str = notes!(
     whether the least interval allows that.\n\
     Of several migrations in a row, each line begins with its hop, counted from 0.\n\
     The standard input isn't read.",
-    "migctl timeline --config fleet.json --readings 999,1100"
+    "migctl timeline --config examples/fleet.json --readings 999,1100"
 );
 
 /// The notes of `explain`.
@@ -60,7 +60,7 @@ pub const RUN_NOTES: &str = notes!(
     "A script is one JSON object in format 1 or 2, at most 16,777,216 bytes; docs/FORMATS.md says all of it.\n\
     Its transcript is in the same format. Readings of clocks in it are whole seconds since the epoch.\n\
     Without a file the standard input is read to its end; with one it isn't read.",
-    "migctl run far-clocks.json | migctl check"
+    "migctl run examples/far-clocks.json | migctl check"
 );
 
 /// The notes of `check`.
@@ -69,7 +69,7 @@ pub const CHECK_NOTES: &str = notes!(
     nothing else of it is believed. Three lines are printed: the premises, the verdict, and whether it is accepted.\n\
     Without a file the standard input is read to its end; with one it isn't read.",
     ", 3 not accepted",
-    "migctl run far-clocks.json | migctl check"
+    "migctl run examples/far-clocks.json | migctl check"
 );
 
 /// The notes of `upgrade`.
@@ -78,7 +78,7 @@ pub const UPGRADE_NOTES: &str = notes!(
     It is printed in format 2, which holds values of up to 1,048,576 bytes, as hexadecimal digits; format 1 holds\n\
     8,192. Its setup and its events stay the same. Readings of clocks in it are whole seconds since the epoch.\n\
     Without a file the standard input is read to its end; with one it isn't read.",
-    "migctl upgrade far-clocks.json | migctl run"
+    "migctl upgrade examples/far-clocks.json | migctl run"
 );
 
 /// The notes of `node`.
@@ -98,6 +98,7 @@ pub const NODE_NOTES: &str = notes!(
 pub const PROXY_NOTES: &str = notes!(
     "The host is an address, as 127.0.0.1, or localhost. The nodes are those of the configuration, by host and port.\n\
     Its start and its interval are whole seconds, by the clock of this machine.\n\
+    With --room 0, or where as many requests are under way as that, a client is answered SERVER_ERROR busy.\n\
     Connections are accepted one after another, and each is served in a thread of its own. At 0 clients none is.\n\
     The turns bound the reads of a node too, for each leg of a request.\n\
     A leg whose node lets it wait for --leg-timeout milliseconds is lost, as one whose connection broke. A client that\n\
@@ -110,8 +111,9 @@ pub const PROXY_NOTES: &str = notes!(
 
 /// The notes of `watch`.
 pub const WATCH_NOTES: &str = notes!(
-    "An address is where a proxy or a node of migctl tells its metrics (--metrics), as 127.0.0.1:9001. Nodes of the\n\
-    configuration that none of them tells of are asked for their 'stats', as memcacheds. Nothing but that is asked.\n\
+    "An address is where a proxy or a node of migctl tells its metrics (--metrics), as 127.0.0.1:9001. A word that is no\n\
+    address, or has the port 0, is refused before anything is asked. Nodes of the configuration that none of them\n\
+    tells of are asked for their 'stats', as memcacheds. Nothing but that is asked.\n\
     A look begins each second, and has at most a second for each service. It shows each proxy (its phase, by how many\n\
     seconds its clock is ahead of this machine's, requests a second, hits, lost legs, busy), each node (items, hits),\n\
     a bar to the next phase, and the premises: same configuration, new pool empty, clocks near, no clock went back.\n\

@@ -370,7 +370,8 @@ fn refusal_of_values(matches: &ArgMatches) -> &'static str
     ensures service { (subcommand_name_of matches.now ≢ Some (codes "explain")) → (result.now ≡ both_given) }
 {
     match matches.subcommand_matches("explain") {
-        Some(_) => "no layer has a fault of this number: 'migctl explain --help' names the layers",
+        Some(_) =>
+            "no layer of this name has a fault of this number: 'migctl explain --help' names the layers",
         None =>
             "'--forever' stands in place of '--clients' and '--turns', and neither goes with it",
     }

@@ -534,7 +534,7 @@ def one_that_is_silent_and_one_that_talks_nonsense():
         silent = listen_silently(fleet)
         nonsense = listen_with(fleet, b"HTTP/1.0 200 OK\r\n\r\nmigctl_proxy_hop -1\n")
         nobody = fleet.keep(place_at("127.0.0.1")).address()
-        for address in (silent, nonsense, nobody, "nowhere"):
+        for address in (silent, nonsense, nobody):
             began = time.monotonic()
             status, lines, faults = watch(fleet, watched.config, "--once", *watched.addresses(), address)
             check("its status", (1, b""), (status, faults))
