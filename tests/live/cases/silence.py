@@ -86,7 +86,7 @@ def a_stopped_node_costs_its_own_keys_alone():
     with Fleet() as fleet:
         pools = Pools(fleet)
         config = pools.config(fleet, int(time.time()) - HOUR // 2, HOUR)
-        proxy = fleet.proxy(config, "--room", "256", "--leg-timeout", "1500")
+        proxy = fleet.proxy(config, "--room", "256", "--leg-timeout", "3000")
         stuck = [pools.key(0, number % 3, f"stuck{number}-") for number in range(80)]
         free = [pools.key(1, number % 3, f"free{number}-") for number in range(20)]
         asking, others = proxy.clients(80), proxy.clients(20)
