@@ -167,10 +167,10 @@ class Service:
         resource.prlimit(self.child.pid, resource.RLIMIT_NOFILE, (most, most))
 
     def limit_memory(self, more):
-        """From now on it may take so many bytes of addresses more than it has."""
+        """From now on, until this is said again, it may take so many bytes of addresses more than it has."""
         pages = int(pathlib.Path(f"/proc/{self.child.pid}/statm").read_text().split()[0])
-        most = pages * resource.getpagesize() + more
-        resource.prlimit(self.child.pid, resource.RLIMIT_AS, (most, most))
+        _, greatest = resource.prlimit(self.child.pid, resource.RLIMIT_AS)
+        resource.prlimit(self.child.pid, resource.RLIMIT_AS, (pages * resource.getpagesize() + more, greatest))
 
     def name(self):
         """What it is called in what a failure says."""

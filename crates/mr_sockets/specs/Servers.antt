@@ -1,5 +1,5 @@
 -- The services of a machine, as contracts see them.
-use Rattle.std.specs.Prelude.{◌≡◌, ℕ, ◌+◌, ◌≤◌, ◌⊎◌, List, [], ◌∷◌, ◌++◌, Option, Some, None, Result, Ok, Err}
+use Rattle.std.specs.Prelude.{◌≡◌, ℕ, ◌+◌, ◌≤◌, ◌⊎◌, false, List, [], ◌∷◌, ◌++◌, Option, Some, None, Result, Ok, Err}
 use Rattle.std.specs.declared.net.socket_addr.SocketAddrV4.{SocketAddrV4}
 use Rattle.std.specs.declared.random_state.RandomState.{RandomState}
 use Rattle.mr_pools.specs.Routing.{RoutingView}
@@ -10,6 +10,7 @@ use Rattle.mr_sockets.specs.declared.bounds.ServiceBounds.{ServiceBounds}
 use Rattle.mr_sockets.specs.declared.fault.OpenFault.{OpenFault}
 use Rattle.mr_sockets.specs.declared.fault.OpenFault.TheVariants.{Net, Metrics}
 use Rattle.mr_sockets.specs.declared.fault.SeedFault.{SeedFault}
+use Rattle.mr_sockets.specs.declared.screen.Screen.{Screen}
 
 -- where a service listens for clients, and where its metrics are told, if they are
 pub record Places : Type 0 where
@@ -61,7 +62,13 @@ abbrev pub run_of : Asked → Run
 run_of (NodeAt places node bounds) = run (NodeServing (Some node) bounds.turns) bounds.clients
 run_of (ProxyAt places proxy routing bounds) = run (ProxyServing (Some proxy) routing bounds.turns) bounds.clients
 
+-- a place that is no terminal
+abbrev pub no_terminal : Screen
+no_terminal = record { terminal = false; colours = false }
+
 pub record ServersView : Type 0 where
+  -- where the output goes
+  pub screen : Screen
   -- the addresses that a socket was asked to listen at, in order
   pub listened : List SocketAddrV4
   -- the seeds that were drawn, in order
@@ -70,6 +77,10 @@ pub record ServersView : Type 0 where
   pub runs : List Run
   -- how often one couldn't begin, for want of a socket or of a seed
   pub failures : ℕ
+
+-- nothing was asked of the machine yet, whose output goes to this place
+abbrev pub servers_on : Screen → ServersView
+servers_on screen = record { screen = screen; listened = []; seeds = []; runs = []; failures = 0 }
 
 -- a count of failures after one thing that may fail
 abbrev pub failures_after : {A E : Type 0} → ℕ → Result A E → ℕ
@@ -139,5 +150,6 @@ RunsSo asked old (Err fault) new = RanNot asked old fault new
 -- one service was asked for, once, and this came of it
 pub record IsOneService (asked : Asked) (old : ServersView) (result : Result ℕ OpenFault) (new : ServersView) : Type 0 where
   pub runs : RunsSo asked old result new
+  pub on : new.screen ≡ old.screen
   pub undrawn : new.seeds ≡ old.seeds
   pub counted : new.failures ≡ failures_after old.failures result

@@ -101,7 +101,7 @@ impl<
 
     ghost Value = { ServersView };
 
-    ghost view = { λ s. record { listened = s.listens; seeds = s.seeds; runs = s.runs; failures = s.failures } };
+    ghost view = { λ s. record { screen = s.screen; listened = s.listens; seeds = s.seeds; runs = s.runs; failures = s.failures } };
 }
 
 impl<
@@ -113,11 +113,11 @@ impl<
         + RandomSource
         + Sync,
 > HostServers<'a, R> {
-    ghost use Rattle.std.specs.Prelude.{[]};
+    ghost use Rattle.mr_sockets.specs.Servers.{no_terminal, servers_on};
 
-    /// The sockets, threads, time and random source of a machine, of which nothing was asked yet.
+    /// The sockets, threads, time and random source of a machine, of which nothing was asked yet. Its output goes to no terminal.
     pub fn new(rt: &'a R) -> HostServers<'a, R>
-        ensures { result ≡ record { listened = []; seeds = []; runs = []; failures = 0 } }
+        ensures { result ≡ servers_on no_terminal }
     {
         HostServers {
             rt,
@@ -133,16 +133,18 @@ impl<
         }
     }
 
-    /// The same, with an output that goes to this place; without it that is no terminal.
+    /// The same, with an output that goes to this place.
     pub fn on(mut self, screen: Screen) -> HostServers<'a, R>
-        ensures { result ≡ self.entry }
+        ensures { result ≡ record self.entry { screen = screen } }
     {
         self.screen = screen;
         self
     }
 
     /// Where the output goes.
-    pub fn screen(&self) -> Screen {
+    pub fn screen(&self) -> Screen
+        ensures { result ≡ self.now.screen }
+    {
         self.screen
     }
 

@@ -19,6 +19,7 @@ use Rattle.mr_tool.specs.declared.fault.Fault.TheVariants.{Memory, Input, Output
 use Rattle.mr_tool.specs.Services.{NodeGives, ProxyGives}
 use Rattle.mr_tool.specs.WatchCommand.{WatchGives}
 use Rattle.mr_sockets.specs.Servers.{ServersView}
+use Rattle.mr_sockets.specs.declared.screen.Screen.{Screen}
 use Rattle.mr_words.specs.declared.service_words.NodeValues.{NodeValues}
 use Rattle.mr_words.specs.declared.service_words.ProxyValues.{ProxyValues}
 use Rattle.mr_words.specs.declared.watch_words.WatchValues.{WatchValues}
@@ -137,19 +138,19 @@ proxy_reads values before after idle busy (Err (Net line)) h = unread _ _ _ h.ha
 proxy_reads values before after idle busy (Err (Node refusal)) h = unread _ _ _ h.has.unread
 proxy_reads values before after idle busy (Err (Text refusal)) h = unread _ _ _ h.has.unread
 
-watch_reads : (values : WatchValues) (before after : Devices) (result : Result Ended Fault) → WatchGives values before after result
-    → after.input.reads ≤ before.input.reads + 0
-watch_reads values before after (Ok ended) h = unread _ _ _ h.unread
-watch_reads values before after (Err Output) h = unread _ _ _ h.unread
-watch_reads values before after (Err (File line)) h = unread _ _ _ h.unread
-watch_reads values before after (Err (Plan refusal)) h = unread _ _ _ h.unread
-watch_reads values before after (Err Memory) (inl h) = unread _ _ _ h.unread
-watch_reads values before after (Err Memory) (inr (inl h)) = unread _ _ _ h.unread
-watch_reads values before after (Err Memory) (inr (inr h)) = unread _ _ _ h.unread
-watch_reads values before after (Err Input) h = absurd h
-watch_reads values before after (Err (Net line)) h = unread _ _ _ h.unread
-watch_reads values before after (Err (Node refusal)) h = absurd h
-watch_reads values before after (Err (Text refusal)) h = absurd h
+watch_reads : (values : WatchValues) (screen : Screen) (before after : Devices) (result : Result Ended Fault)
+    → WatchGives values screen before after result → after.input.reads ≤ before.input.reads + 0
+watch_reads values screen before after (Ok ended) h = unread _ _ _ h.unread
+watch_reads values screen before after (Err Output) h = unread _ _ _ h.unread
+watch_reads values screen before after (Err (File line)) h = unread _ _ _ h.unread
+watch_reads values screen before after (Err (Plan refusal)) h = unread _ _ _ h.unread
+watch_reads values screen before after (Err Memory) (inl h) = unread _ _ _ h.unread
+watch_reads values screen before after (Err Memory) (inr (inl h)) = unread _ _ _ h.unread
+watch_reads values screen before after (Err Memory) (inr (inr h)) = unread _ _ _ h.unread
+watch_reads values screen before after (Err Input) h = absurd h
+watch_reads values screen before after (Err (Net line)) h = unread _ _ _ h.unread
+watch_reads values screen before after (Err (Node refusal)) h = absurd h
+watch_reads values screen before after (Err (Text refusal)) h = absurd h
 
 command_reads : (command : Wanted) (before after : Devices) (idle busy : ServersView) (result : Result Ended Fault) → Gives command before after idle busy result
     → after.input.reads ≤ before.input.reads + most_reads_of command
@@ -160,7 +161,7 @@ command_reads (wanted.Check file) before after idle busy result h = text_reads _
 command_reads (wanted.Upgrade file) before after idle busy result h = text_reads _ _ (path_in file) before after result h.0
 command_reads (wanted.Node values) before after idle busy result h = node_reads values before after idle busy result h
 command_reads (wanted.Proxy values) before after idle busy result h = proxy_reads values before after idle busy result h
-command_reads (wanted.Watch values) before after idle busy result h = watch_reads values before after result h.0
+command_reads (wanted.Watch values) before after idle busy result h = watch_reads values idle.screen before after result h.0
 command_reads (wanted.Explain explanation) before after idle busy result h = explain_reads (told_by explanation) before after result h.0
 
 -- the same command has the same bound

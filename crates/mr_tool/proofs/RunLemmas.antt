@@ -25,6 +25,7 @@ use Rattle.mr_tool.specs.TimelineCommand.{WritesTimeline}
 use Rattle.mr_tool.specs.Run.{Gives, EndsWith, RunsCommand, Runs}
 use Rattle.mr_tool.specs.Services.{EndsService, NodeGives, ProxyGives, RunsService}
 use Rattle.mr_sockets.specs.Servers.{Asked, IsOneService, ServersView, clients_of, places_of}
+use Rattle.mr_sockets.specs.declared.screen.Screen.{Screen}
 use Rattle.mr_sockets.specs.declared.fault.OpenFault.{OpenFault}
 use Rattle.mr_tool.specs.Fault.{fault_line, readings_line}
 use Rattle.mr_tool.specs.Sources.{SourcesView}
@@ -122,9 +123,9 @@ proxy_steady values ended before between idle busy h silent =
       steady.0,
     )
 
-watch_steady : (values : WatchValues) (ended : Ended) (before between : Devices) → Watches values before between (Ok ended) → between.faults ≡ before.faults
-    → NoneFailed before between
-watch_steady values ended before between h silent = record {
+watch_steady : (values : WatchValues) (screen : Screen) (ended : Ended) (before between : Devices) → Watches values screen before between (Ok ended)
+    → between.faults ≡ before.faults → NoneFailed before between
+watch_steady values screen ended before between h silent = record {
   sources = h.loads.0.gives.3;
   input = ap (λ (s : SourceView). s.failures) h.unread;
   output = h.watches.writes.steady;
@@ -147,7 +148,7 @@ command_steady (wanted.Upgrade file) ended before between idle busy h silent =
     idle_steady _ _ _ _ (text_steady _ (path_in file) ended before between h.0 silent) h.1
 command_steady (wanted.Node values) ended before between idle busy h silent = node_steady values ended before between idle busy h silent
 command_steady (wanted.Proxy values) ended before between idle busy h silent = proxy_steady values ended before between idle busy h silent
-command_steady (wanted.Watch values) ended before between idle busy h silent = idle_steady _ _ _ _ (watch_steady values ended before between h.0 silent) h.1
+command_steady (wanted.Watch values) ended before between idle busy h silent = idle_steady _ _ _ _ (watch_steady values idle.screen ended before between h.0 silent) h.1
 command_steady (wanted.Explain explanation) Done before between idle busy h silent =
     idle_steady _ _ _ _ (explanation_steady (told_by explanation) before between h.0 silent) h.1
 command_steady (wanted.Explain explanation) NotAccepted before between idle busy h silent = absurd h.0

@@ -1,10 +1,10 @@
 -- The services that a watch asks for their metrics.
-use Rattle.std.specs.Prelude.{ℕ, Bool, true, false, List, [], ◌∷◌, ◌++◌, map, Option, Some, None, option_map, option_and_then, Vec, if◌then◌else◌}
+use Rattle.std.specs.Prelude.{◌≡◌, ℕ, Bool, true, false, not, List, [], ◌∷◌, ◌++◌, map, All, Option, Some, None, IsSomeAnd, option_map, option_and_then, Vec, if◌then◌else◌}
 use Rattle.std.specs.Str.{bytes_eq}
 use Rattle.mr_watch.specs.Told.{NodeSaid, ProxySaid, Said, ByProxy, ByNode, proxy_said, said_in}
 use Rattle.mr_watch.specs.declared.look.ProxySeen.{ProxySeen}
+use Rattle.mr_tool.specs.declared.answers.Answer.{Answer}
 use Rattle.mr_tool.specs.declared.last_lines.Unreached.{Unreached}
-use Rattle.mr_tool.specs.declared.posts.Answer.{Answer}
 use Rattle.mr_tool.specs.declared.posts.Kind.{Kind}
 use Rattle.mr_tool.specs.declared.posts.Kind.TheVariants.{Unknown, Proxy, Node}
 use Rattle.mr_tool.specs.declared.posts.Post.{Post}
@@ -16,12 +16,16 @@ address_of post = post.address.now
 abbrev pub addresses_of : List Post → List (List ℕ)
 addresses_of posts = map address_of posts
 
--- what an answer tells
+-- what an answer tells, where there was one
 abbrev pub bytes_of : {Z : Type 0} → Option (Vec ℕ Z) → Option (List ℕ)
 bytes_of text = option_map (λ bytes. bytes.items) text
 
-abbrev pub told_in : Answer → Option Said
-told_in answer = option_and_then said_in (bytes_of answer.text)
+abbrev pub said_by : Answer → Option Said
+said_by answer = option_and_then said_in (bytes_of answer.text)
+
+-- what a service told that gave this answer, or that wasn't asked
+abbrev pub told_in : Option Answer → Option Said
+told_in answer = option_and_then said_by answer
 
 -- what it tells of a proxy
 abbrev pub told_by_proxy : Option Said → Option ProxySaid
@@ -88,15 +92,24 @@ proxy_shown proxy = record {
 abbrev pub all_shown : List ProxySeen → List ProxyShown
 all_shown proxies = map proxy_shown proxies
 
--- what a service is shown as that gave this answer: it is known where it told last what a proxy tells
-abbrev pub shown_by : Post → Answer → ProxyShown
-shown_by post answer = record {
-  address = address_of post;
-  told = told_by_proxy (told_in answer);
-  known = is_proxy post.kind;
+-- what an answer is shown as, of one that is known to be a proxy or not
+abbrev pub answer_shown : Bool → Answer → ProxyShown
+answer_shown known answer = record {
+  address = answer.address.now;
+  told = told_by_proxy (said_by answer);
+  known = known;
   asked = answer.asked;
   answered = answer.answered;
 }
+
+-- what a service is shown as that wasn't asked
+abbrev pub silence_shown : Post → ProxyShown
+silence_shown post = record { address = address_of post; told = None; known = is_proxy post.kind; asked = 0; answered = 0 }
+
+-- what a service is shown as that gave this answer, or that wasn't asked: it is known where it told last what a proxy tells
+abbrev pub shown_by : Post → Option Answer → ProxyShown
+shown_by post None = silence_shown post
+shown_by post (Some answer) = answer_shown (is_proxy post.kind) answer
 
 -- all services but nodes, in their order, as this look saw them
 abbrev pub proxy_now : Post → List ProxyShown
@@ -136,3 +149,35 @@ first_of (Some told) other = Some told
 abbrev pub node_among : List ℕ → List Post → Option NodeSaid
 node_among name [] = None
 node_among name (post ∷ posts) = first_of (node_told name post) (node_among name posts)
+
+-- a service that wasn't asked yet
+pub record IsUnasked (post : Post) : Type 0 where
+  pub kind : post.kind ≡ Unknown
+  pub answer : post.answer ≡ None
+
+abbrev pub AreUnasked : List Post → Type 0
+AreUnasked posts = All IsUnasked posts
+
+-- a service when a look begins: what it answered at the last one is of the look before
+abbrev pub begun : Post → Post
+begun post = record { address = post.address; kind = post.kind; answer = None; earlier = post.answer }
+
+-- it was asked, at its own address, and is what it told last
+pub record IsAsked (old new : Post) : Type 0 where
+  pub address : new.address ≡ old.address
+  pub earlier : new.earlier ≡ old.earlier
+  pub asked : IsSomeAnd new.answer (λ answer. answer.address ≡ old.address)
+  pub kind : new.kind ≡ kind_after old.kind (told_in new.answer)
+
+-- it was asked, or is as it was
+abbrev pub IsAskedIf : Bool → Post → Post → Type 0
+IsAskedIf true old new = IsAsked old new
+IsAskedIf false old new = new ≡ old
+
+-- it was asked where it isn't known to be a proxy
+abbrev pub IsAskedAsOther : Post → Post → Type 0
+IsAskedAsOther old new = IsAskedIf (not (is_proxy old.kind)) old new
+
+-- it was asked where it is known to be a proxy
+abbrev pub IsAskedAsProxy : Post → Post → Type 0
+IsAskedAsProxy old new = IsAskedIf (is_proxy old.kind) old new

@@ -53,7 +53,7 @@ Gives (Check file) before after idle busy result = CheckGives (path_in file) bef
 Gives (Upgrade file) before after idle busy result = UpgradeGives (path_in file) before after result × (busy ≡ idle)
 Gives (Node values) before after idle busy result = NodeGives values before after idle busy result
 Gives (Proxy values) before after idle busy result = ProxyGives values before after idle busy result
-Gives (Watch values) before after idle busy result = WatchGives values before after result × (busy ≡ idle)
+Gives (Watch values) before after idle busy result = WatchGives values idle.screen before after result × (busy ≡ idle)
 Gives (Explain explanation) before after idle busy result = ExplainGives (told_by explanation) before after result × (busy ≡ idle)
 
 -- how a run ends once its command did: the line of a fault is told, and nothing is done after

@@ -1,5 +1,7 @@
 -- Files to load, as contracts see them, and what one load does to them.
-use Rattle.std.specs.Prelude.{◌≡◌, ℕ, ◌+◌, ◌≤◌, List, ◌++◌, take, length, Result, Ok, Err}
+use Rattle.std.specs.Prelude.{◌≡◌, ◌≢◌, ℕ, ◌+◌, ◌≤◌, ◌⊎◌, List, ◌++◌, take, length, Result, Ok, Err}
+use Rattle.std.specs.declared.io.ErrorKind.{ErrorKind}
+use Rattle.std.specs.declared.io.ErrorKind.TheVariants.{OutOfMemory}
 use Rattle.mr_tool.specs.declared.sources.LoadFault.{LoadFault}
 use Rattle.mr_tool.specs.declared.sources.LoadFault.TheVariants.{Unreadable, Memory}
 
@@ -36,6 +38,10 @@ abbrev pub MayFail : Known → LoadFault → Type 0
 MayFail known Memory = Unit {0}
 MayFail (Holds all) Unreadable = ⊥
 MayFail known Unreadable = Unit {0}
+
+-- why a file wasn't given, by what the system said: memory was refused, or it can't be read
+abbrev pub IsLoadFault : ErrorKind → LoadFault → Type 0
+IsLoadFault kind fault = ((kind ≡ OutOfMemory) × (fault ≡ Memory)) ⊎ ((kind ≢ OutOfMemory) × (fault ≡ Unreadable))
 
 -- the bytes of the file, or the fault
 abbrev pub HasLoaded : Known → SourcesView → Result (List ℕ) LoadFault → SourcesView → Type 0

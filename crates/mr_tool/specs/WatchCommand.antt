@@ -3,27 +3,28 @@ use Rattle.std.specs.Prelude.{◌≡◌, ◌≤◌, ◌-◌, ◌^◌, ⊤, ℕ, 
 use Rattle.mr_configs.specs.Config.{ConfigView}
 use Rattle.mr_digest.specs.Digest.{IsDigest}
 use Rattle.mr_phases.specs.Schedule.{Hop}
+use Rattle.mr_sockets.specs.declared.screen.Screen.{Screen}
 use Rattle.mr_text.specs.Sink.{SinkView, HasWritten, IsOneWrite}
 use Rattle.mr_text.specs.declared.error.WriteFault.{WriteFault}
 use Rattle.mr_watch.specs.Findings.{all_unseen}
 use Rattle.mr_watch.specs.Judging.{are_last, findings_after}
 use Rattle.mr_watch.specs.declared.finding.Findings.{Findings}
-use Rattle.mr_watch.specs.declared.look.NodeSeen.{NodeSeen}
 use Rattle.mr_watch.specs.declared.view.View.{View}
 use Rattle.mr_words.specs.Words.{addresses_in}
 use Rattle.mr_words.specs.declared.watch_words.WatchValues.{WatchValues}
 use Rattle.mr_tool.specs.Devices.{Devices}
 use Rattle.mr_tool.specs.Input.{LoadsConfig, LoadsWhole}
 use Rattle.mr_tool.specs.Loaded.{Loaded}
-use Rattle.mr_tool.specs.Looking.{NodeNamed, all_named, nodes_of_pools}
+use Rattle.mr_tool.specs.Looking.{HasLookedAt, NodeNamed, all_named, nodes_of_pools}
 use Rattle.mr_tool.specs.PlanCommand.{LacksConfig}
-use Rattle.mr_tool.specs.Posts.{addresses_of, addresses_of_unreached, all_shown, earlier_proxies, proxies_now, unreached_addresses}
+use Rattle.mr_tool.specs.Posts.{AreUnasked, addresses_of, addresses_of_unreached, all_shown, earlier_proxies, proxies_now, unreached_addresses}
 use Rattle.mr_tool.specs.WatchedWords.{AreAddresses, RefusesWord}
-use Rattle.mr_tool.specs.WatchText.{MayShow, shown, last_lines, end_of_watch}
+use Rattle.mr_tool.specs.WatchText.{end_of_watch, last_lines, manner_of, shown}
 use Rattle.mr_tool.specs.declared.ended.Ended.{Ended}
 use Rattle.mr_tool.specs.declared.fault.Fault.{Fault}
 use Rattle.mr_tool.specs.declared.fault.Fault.TheVariants.{Memory, Output, File, Net, Plan}
 use Rattle.mr_tool.specs.declared.last_lines.Unreached.{Unreached}
+use Rattle.mr_tool.specs.declared.looking.Seen.{Seen}
 use Rattle.mr_tool.specs.declared.manner.Manner.{Manner}
 use Rattle.mr_tool.specs.declared.posts.Post.{Post}
 use Rattle.mr_tool.specs.declared.printing.PrintFault.{PrintFault}
@@ -65,26 +66,38 @@ abbrev pub fleet_of : ConfigView → List ℕ → List (List ℕ) → Fleet
 fleet_of config digest addresses =
     record { hops = config.schedule; nodes = nodes_of_pools config.routing.pools; digest = digest; addresses = addresses }
 
--- the fleet of a look that saw these nodes
-abbrev pub fleet_seen : List Hop → List NodeSeen → List ℕ → List Post → Fleet
-fleet_seen hops nodes digest posts = record { hops = hops; nodes = all_named nodes; digest = digest; addresses = addresses_of posts }
+-- what a look saw of the nodes, and when, and the services as it left them
+pub record Sight : Type 0 where
+  pub seen : Seen
+  pub posts : List Post
 
--- A look, the first one or not. It shows the schedule of the configuration and all of its nodes, and as proxies all services but
--- those that told last that they are nodes, at the first look beside none of a look before. It finds of the premises what it says of
--- them: after what was found before, beside those of the look before, and by the digest of the configuration.
-pub record IsLook (fleet : Fleet) (first : Bool) (before : Findings) (view : View) : Type 0 where
+abbrev pub sight : Seen → List Post → Sight
+sight seen posts = record { seen = seen; posts = posts }
+
+-- the fleet that it looked at, by this schedule and this digest
+abbrev pub fleet_seen : List Hop → List ℕ → Sight → Fleet
+fleet_seen hops digest sight =
+    record { hops = hops; nodes = all_named sight.seen.nodes.items; digest = digest; addresses = addresses_of sight.posts }
+
+-- A look, the first one or not, and the services as it left them. It shows the schedule of the configuration and all of its nodes,
+-- and as proxies all services but those that told last that they are nodes, at the first look beside none of a look before. It
+-- finds of the premises what it says of them: after what was found before, beside those of the look before, and by the digest of the
+-- configuration.
+pub record IsLook (fleet : Fleet) (first : Bool) (before : Findings) (posts : List Post) (view : View) : Type 0 where
   pub schedule : view.schedule ≡ fleet.hops
   pub expected : view.expected.now ≡ fleet.digest
   pub nodes : all_named view.look.nodes.now ≡ fleet.nodes
-  pub posts : List Post
-  pub asked : addresses_of posts ≡ fleet.addresses
+  pub named : addresses_of posts ≡ fleet.addresses
   pub proxies : all_shown view.look.proxies.now ≡ proxies_now posts
   pub earlier : all_shown view.earlier.now ≡ earlier_proxies first posts
   pub findings : view.findings ≡ findings_after before view.earlier.now view.look fleet.digest fleet.hops
 
-abbrev pub AreLooks : Fleet → Looks → Type 0
-AreLooks fleet [] = ⊤
-AreLooks fleet (view ∷ earlier) = IsLook fleet (is_first earlier) (found_by earlier) view × AreLooks fleet earlier
+-- Looks, the last one first, and the services as it left them. None of these was asked before the first one, and each look asks them
+-- as the one before left them.
+abbrev pub AreLooks : Fleet → Looks → List Post → Type 0
+AreLooks fleet [] posts = AreUnasked posts
+AreLooks fleet (view ∷ earlier) posts = (before : List Post) × AreLooks fleet earlier before × HasLookedAt before view.look.nodes.now posts
+    × IsLook fleet (is_first earlier) (found_by earlier) posts view
 
 -- the last one found that all proxies are in the last phase
 abbrev pub has_migrated : List Hop → Looks → Bool
@@ -110,25 +123,35 @@ abbrev pub all_texts : Manner → Looks → List ℕ
 all_texts manner [] = []
 all_texts manner (view ∷ earlier) = all_texts manner earlier ++ shown manner (is_first earlier) (found_by earlier) view
 
--- what one more look writes, after these findings
-pub record WritesView (manner : Manner) (fleet : Fleet) (first : Bool) (before : Findings) (old : SinkView) (found : Found) (new : SinkView) : Type 0 where
+-- a look shows the nodes as they were seen, and when
+pub record ShowsSeen (seen : Seen) (view : View) : Type 0 where
+  pub nodes : view.look.nodes.now ≡ seen.nodes.items
+  pub began : view.look.began ≡ seen.began
+  pub ended : view.look.ended ≡ seen.ended
+  pub second : view.at ≡ seen.second
+  pub moment : view.moment ≡ seen.moment
+
+-- what one more look writes that saw this, after these findings
+pub record WritesView (manner : Manner) (fleet : Fleet) (first : Bool) (before : Findings) (sight : Sight) (old : SinkView) (found : Found) (new : SinkView)
+    : Type 0 where
   pub view : View
-  pub is_look : IsLook fleet first before view
+  pub is_look : IsLook fleet first before sight.posts view
+  pub shows : ShowsSeen sight.seen view
   pub findings : found.findings ≡ view.findings
   pub migrated : found.migrated ≡ are_last fleet.hops view.look.proxies.now
   pub writes : HasWritten (shown manner first before view) old new
 
 -- what comes of one more look: it is written, or memory was refused before, or its one write failed
-abbrev pub WritesLook : Manner → Fleet → Bool → Findings → SinkView → Result Found Fault → SinkView → Type 0
-WritesLook manner fleet first before old (Ok found) new = WritesView manner fleet first before old found new
-WritesLook manner fleet first before old (Err Output) new = (text : List ℕ) × FailsToWrite text old new
-WritesLook manner fleet first before old (Err Memory) new = new ≡ old
-WritesLook manner fleet first before old (Err fault) new = ⊥
+abbrev pub WritesLook : Manner → Fleet → Bool → Findings → Sight → SinkView → Result Found Fault → SinkView → Type 0
+WritesLook manner fleet first before sight old (Ok found) new = WritesView manner fleet first before sight old found new
+WritesLook manner fleet first before sight old (Err Output) new = (text : List ℕ) × FailsToWrite text old new
+WritesLook manner fleet first before sight old (Err Memory) new = new ≡ old
+WritesLook manner fleet first before sight old (Err fault) new = ⊥
 
--- Looks were written, in this manner. There is no second one where there is to be one alone, and none behind one that found all
--- proxies in the last phase.
-pub record HasShown (manner : Manner) (once : Bool) (fleet : Fleet) (looks : Looks) (old new : SinkView) : Type 0 where
-  pub are_looks : AreLooks fleet looks
+-- Looks were written, in this manner, and left the services so. There is no second one where there is to be one alone, and none behind
+-- one that found all proxies in the last phase.
+pub record HasShown (manner : Manner) (once : Bool) (fleet : Fleet) (looks : Looks) (posts : List Post) (old new : SinkView) : Type 0 where
+  pub are_looks : AreLooks fleet looks posts
   pub alone : once ≡ true → length looks ≤ 1
   pub waits : NeverMigrated fleet.hops (before_last looks)
   pub writes : HasWritten (all_texts manner looks) old new
@@ -139,32 +162,34 @@ pub record AreOver (once : Bool) (fleet : Fleet) (looks : Looks) : Type 0 where
   pub looked : 1 ≤ length looks
   pub over : once ≡ false → (has_migrated fleet.hops looks ≡ true) ⊎ (length looks ≡ most_looks)
 
--- all looks were written, and these are the findings
-pub record HasLooked (manner : Manner) (once : Bool) (fleet : Fleet) (old : SinkView) (findings : Findings) (new : SinkView) : Type 0 where
+-- all looks were written, and left the services so, and these are the findings
+pub record HasLooked (manner : Manner) (once : Bool) (fleet : Fleet) (posts : List Post) (old : SinkView) (findings : Findings) (new : SinkView) : Type 0 where
   pub looks : Looks
-  pub shown : HasShown manner once fleet looks old new
+  pub shown : HasShown manner once fleet looks posts old new
   pub over : AreOver once fleet looks
   pub are_found : findings ≡ found_by looks
 
 -- looks were written, and stay, and then one call that was to write a text failed
 pub record StopsBehind (manner : Manner) (once : Bool) (fleet : Fleet) (old new : SinkView) : Type 0 where
   pub looks : Looks
+  pub posts : List Post
   pub between : SinkView
-  pub shown : HasShown manner once fleet looks old between
+  pub shown : HasShown manner once fleet looks posts old between
   pub text : List ℕ
   pub fails : FailsToWrite text between new
 
 -- looks were written, and then memory was refused
 pub record LacksMemoryBehind (manner : Manner) (once : Bool) (fleet : Fleet) (old new : SinkView) : Type 0 where
   pub looks : Looks
-  pub shown : HasShown manner once fleet looks old new
+  pub posts : List Post
+  pub shown : HasShown manner once fleet looks posts old new
 
--- what comes of all looks
-abbrev pub WritesLooks : Manner → Bool → Fleet → SinkView → Result Findings Fault → SinkView → Type 0
-WritesLooks manner once fleet old (Ok findings) new = HasLooked manner once fleet old findings new
-WritesLooks manner once fleet old (Err Output) new = StopsBehind manner once fleet old new
-WritesLooks manner once fleet old (Err Memory) new = LacksMemoryBehind manner once fleet old new
-WritesLooks manner once fleet old (Err fault) new = ⊥
+-- what comes of all looks, which leave the services so
+abbrev pub WritesLooks : Manner → Bool → Fleet → List Post → SinkView → Result Findings Fault → SinkView → Type 0
+WritesLooks manner once fleet posts old (Ok findings) new = HasLooked manner once fleet posts old findings new
+WritesLooks manner once fleet posts old (Err Output) new = StopsBehind manner once fleet old new
+WritesLooks manner once fleet posts old (Err Memory) new = LacksMemoryBehind manner once fleet old new
+WritesLooks manner once fleet posts old (Err fault) new = ⊥
 
 -- the last lines went out, of these findings and of those services that were never reached
 pub record HasEnded (manner : Manner) (posts : List Post) (findings : Findings) (old : SinkView) (ended : Ended) (new : SinkView) : Type 0 where
@@ -180,53 +205,38 @@ EndsWatch manner posts findings old (Err Output) new = (text : List ℕ) × Fail
 EndsWatch manner posts findings old (Err Memory) new = new ≡ old
 EndsWatch manner posts findings old (Err fault) new = ⊥
 
--- Looks were written until no more follow, and then the last lines, in a manner that this watch may have, and they say how it ends:
--- a premise was seen broken, or a service was never reached, or neither. The services are those that were named, each with what it
--- is by what it told last.
-pub record HasWatched (json once : Bool) (fleet : Fleet) (old : SinkView) (ended : Ended) (new : SinkView) : Type 0 where
-  pub manner : Manner
-  pub may_show : MayShow json once manner
+-- Looks were written until no more follow, and then the last lines, in this manner, and they say how the watch ends:
+-- a premise was seen broken, or a service was never reached, or neither. A service was never reached that told nothing at any look.
+pub record HasWatched (manner : Manner) (once : Bool) (fleet : Fleet) (old : SinkView) (ended : Ended) (new : SinkView) : Type 0 where
   pub looks : Looks
-  pub are_looks : AreLooks fleet looks
+  pub posts : List Post
+  pub are_looks : AreLooks fleet looks posts
   pub alone : once ≡ true → length looks ≤ 1
   pub waits : NeverMigrated fleet.hops (before_last looks)
   pub over : AreOver once fleet looks
-  pub posts : List Post
-  pub asked : addresses_of posts ≡ fleet.addresses
   pub unreached : List Unreached
   pub are_unreached : addresses_of_unreached unreached ≡ unreached_addresses posts
   pub writes : HasWritten (all_texts manner looks ++ last_lines manner (found_by looks) unreached) old new
   pub ends : ended ≡ end_of_watch (found_by looks) unreached
 
--- looks were written, and stay, and then a write failed
-pub record WatchStops (json once : Bool) (fleet : Fleet) (old new : SinkView) : Type 0 where
-  pub manner : Manner
-  pub may_show : MayShow json once manner
-  pub stops : StopsBehind manner once fleet old new
+-- what comes of a watch of this fleet, in this manner
+abbrev pub WatchesConfig : Manner → Bool → Fleet → SinkView → Result Ended Fault → SinkView → Type 0
+WatchesConfig manner once fleet old (Ok ended) new = HasWatched manner once fleet old ended new
+WatchesConfig manner once fleet old (Err Output) new = StopsBehind manner once fleet old new
+WatchesConfig manner once fleet old (Err Memory) new = LacksMemoryBehind manner once fleet old new
+WatchesConfig manner once fleet old (Err fault) new = ⊥
 
--- looks were written, and stay, and then memory was refused
-pub record WatchLacksMemory (json once : Bool) (fleet : Fleet) (old new : SinkView) : Type 0 where
-  pub manner : Manner
-  pub may_show : MayShow json once manner
-  pub lacks : LacksMemoryBehind manner once fleet old new
-
--- what comes of a watch of this fleet
-abbrev pub WatchesConfig : Bool → Bool → Fleet → SinkView → Result Ended Fault → SinkView → Type 0
-WatchesConfig json once fleet old (Ok ended) new = HasWatched json once fleet old ended new
-WatchesConfig json once fleet old (Err Output) new = WatchStops json once fleet old new
-WatchesConfig json once fleet old (Err Memory) new = WatchLacksMemory json once fleet old new
-WatchesConfig json once fleet old (Err fault) new = ⊥
-
--- The configuration was had, by one load, nothing is read, and this came of its watch. What proxies tell is held against the digest
--- of the bytes of the file.
-pub record Watches (values : WatchValues) (before after : Devices) (result : Result Ended Fault) : Type 0 where
+-- The configuration was had, by one load, nothing is read, and this came of its watch, whose output goes to this place. What proxies
+-- tell is held against the digest of the bytes of the file.
+pub record Watches (values : WatchValues) (screen : Screen) (before after : Devices) (result : Result Ended Fault) : Type 0 where
   pub loaded : Loaded
   pub loads : LoadsWhole values.config.now before.sources loaded after.sources
   pub unread : after.input ≡ before.input
   pub are_addresses : AreAddresses (addresses_in values)
   pub digest : List ℕ
   pub is_digest : IsDigest loaded.bytes digest
-  pub watches : WatchesConfig values.json values.once (fleet_of loaded.config digest (addresses_in values)) before.output result after.output
+  pub watches : WatchesConfig (manner_of values.json values.once screen) values.once (fleet_of loaded.config digest (addresses_in values))
+      before.output result after.output
 
 -- memory was refused once the configuration was had, and nothing is written
 pub record LacksWatch (values : WatchValues) (before after : Devices) : Type 0 where
@@ -245,12 +255,12 @@ pub record RefusesAddress (values : WatchValues) (fault : Fault) (before after :
 
 -- What the command does. It writes its looks and its last lines, or finds the first of the faults in this order: the file, the
 -- configuration, a word that is no address, the output. The file is loaded once, and nothing is read.
-abbrev pub WatchGives : WatchValues → Devices → Devices → Result Ended Fault → Type 0
-WatchGives values before after (Ok ended) = Watches values before after (Ok ended)
-WatchGives values before after (Err Output) = Watches values before after (Err Output)
-WatchGives values before after (Err (File line)) = LacksConfig values.config.now (File line) before after
-WatchGives values before after (Err (Plan refusal)) = LacksConfig values.config.now (Plan refusal) before after
-WatchGives values before after (Err (Net line)) = RefusesAddress values (Net line) before after
-WatchGives values before after (Err Memory) =
-    LacksConfig values.config.now Memory before after ⊎ LacksWatch values before after ⊎ Watches values before after (Err Memory)
-WatchGives values before after (Err fault) = ⊥
+abbrev pub WatchGives : WatchValues → Screen → Devices → Devices → Result Ended Fault → Type 0
+WatchGives values screen before after (Ok ended) = Watches values screen before after (Ok ended)
+WatchGives values screen before after (Err Output) = Watches values screen before after (Err Output)
+WatchGives values screen before after (Err (File line)) = LacksConfig values.config.now (File line) before after
+WatchGives values screen before after (Err (Plan refusal)) = LacksConfig values.config.now (Plan refusal) before after
+WatchGives values screen before after (Err (Net line)) = RefusesAddress values (Net line) before after
+WatchGives values screen before after (Err Memory) =
+    LacksConfig values.config.now Memory before after ⊎ LacksWatch values before after ⊎ Watches values screen before after (Err Memory)
+WatchGives values screen before after (Err fault) = ⊥

@@ -1,6 +1,7 @@
 -- What is shown of looks, and of what came of them.
-use Rattle.std.specs.Prelude.{⊤, ℕ, ◌==◌, ◌||◌, Bool, true, false, List, [], ◌∷◌, ◌++◌, if◌then◌else◌, codes}
+use Rattle.std.specs.Prelude.{ℕ, ◌==◌, ◌||◌, ◌&&◌, Bool, true, false, List, [], ◌∷◌, ◌++◌, if◌then◌else◌, codes}
 use Rattle.serde_json.specs.Written.{compact_text}
+use Rattle.mr_sockets.specs.declared.screen.Screen.{Screen}
 use Rattle.mr_watch.specs.Changes.{change_text}
 use Rattle.mr_watch.specs.Json.{look_json}
 use Rattle.mr_watch.specs.Text.{look_text}
@@ -14,13 +15,11 @@ use Rattle.mr_tool.specs.declared.last_lines.Unreached.{Unreached}
 use Rattle.mr_tool.specs.declared.manner.Manner.{Manner}
 use Rattle.mr_tool.specs.declared.manner.Manner.TheVariants.{Whole, Drawn, Changes, Objects}
 
--- Whether a watch that asks for JSON or not, and for one look or more, may be shown so: the rest is the terminal's.
-abbrev pub MayShow : Bool → Bool → Manner → Type 0
-MayShow true once Objects = ⊤
-MayShow false true (Whole colours) = ⊤
-MayShow false false (Drawn colours) = ⊤
-MayShow false false Changes = ⊤
-MayShow json once manner = ⊥
+-- how looks are shown of a watch that asks for JSON or not, and for one look or more, and whose output goes to this place
+abbrev pub manner_of : Bool → Bool → Screen → Manner
+manner_of true once screen = Objects
+manner_of false true screen = Whole (screen.terminal && screen.colours)
+manner_of false false screen = if screen.terminal then Drawn screen.colours else Changes
 
 -- before a line end the rest of the line is cleared
 abbrev pub drawn_byte : ℕ → List ℕ

@@ -4,6 +4,7 @@
 //! `serve_proxy`, `SocketCarrier`).
 #![tactic(auto)]
 
+mod answers;
 mod arguments;
 mod check_text;
 mod commands;

@@ -1,8 +1,7 @@
 //! A look at a fleet: which services are asked, and in which order.
-ghost use Rattle.std.specs.Prelude.{◌≡◌, ◌++◌, IfOk, OnOk, Some};
-ghost use Rattle.mr_watch.specs.Told.{NodeSaid};
-ghost use Rattle.mr_tool.specs.Looking.{HasCounts, all_named, named, node_named, nodes_of_pool, nodes_of_pools};
-ghost use Rattle.mr_tool.specs.Posts.{addresses_of, node_among};
+ghost use Rattle.std.specs.Prelude.{◌≡◌, ◌++◌, All, IfOk, OnOk};
+ghost use Rattle.mr_tool.specs.Looking.{HasCountsToldBy, HasLookedAt, all_named, named, node_named, nodes_of_pool, nodes_of_pools};
+ghost use Rattle.mr_tool.specs.Posts.{addresses_of};
 
 use crate::posts::{Post, ask_others, ask_proxies, begin_look, node_in};
 use mr_pools::{Pool, Routing};
@@ -66,8 +65,7 @@ fn node_seen<
     name: &'c str,
 ) -> Result<NodeSeen<'c>, AllocError>
     ensures named { IfOk result (λ node. named node ≡ node_named pool name.now) }
-    ensures told { (told : NodeSaid) → node_among name.now posts.now ≡ Some told
-        → IfOk result (λ node. HasCounts told node) }
+    ensures told { IfOk result (HasCountsToldBy posts.now) }
 {
     if let Some(told) = node_in(posts, name) {
         return Ok(NodeSeen {
@@ -110,7 +108,8 @@ fn push_pool<
     pool: &'c Pool,
     nodes: &mut Vec<NodeSeen<'c>>,
 ) -> Result<(), AllocError>
-    ensures { OnOk result (all_named nodes.new.items ≡ all_named nodes.old.items ++ nodes_of_pool number pool.now) }
+    ensures named { OnOk result (all_named nodes.new.items ≡ all_named nodes.old.items ++ nodes_of_pool number pool.now) }
+    ensures told { OnOk result (All (HasCountsToldBy posts.now) nodes.old.items → All (HasCountsToldBy posts.now) nodes.new.items) }
 {
     for name in pool.names() {
         nodes.push(node_seen(alloc, servers, posts, number, name.as_str())?)?;
@@ -133,7 +132,8 @@ fn nodes_seen<
     posts: &[Post<'_>],
     routing: &'c Routing,
 ) -> Result<Vec<NodeSeen<'c>>, AllocError>
-    ensures { IfOk result (λ nodes. all_named nodes.items ≡ nodes_of_pools routing.now.pools) }
+    ensures named { IfOk result (λ nodes. all_named nodes.items ≡ nodes_of_pools routing.now.pools) }
+    ensures told { IfOk result (λ nodes. All (HasCountsToldBy posts.now) nodes.items) }
 {
     let mut nodes = Vec::new(alloc);
     for (number, pool) in routing.pools().iter().enumerate() {
@@ -159,7 +159,8 @@ pub fn look<
     posts: &mut [Post<'_>],
 ) -> Result<Seen<'c>, AllocError>
     ensures nodes { IfOk result (λ seen. all_named seen.nodes.items ≡ nodes_of_pools routing.now.pools) }
-    ensures posts { addresses_of posts.new ≡ addresses_of posts.old }
+    ensures looked { IfOk result (λ seen. HasLookedAt posts.old seen.nodes.items posts.new) }
+    ensures addresses { addresses_of posts.new ≡ addresses_of posts.old }
 {
     let began = servers.milliseconds();
     begin_look(posts);

@@ -1,6 +1,6 @@
 //! How looks are shown: as text, drawn in place, as lines of changes, or as JSON.
 ghost use Rattle.std.specs.Prelude.{◌≡◌, ◌++◌, IfOk, OnOk};
-ghost use Rattle.mr_tool.specs.WatchText.{MayShow, drawn_byte, drawn, frame_top, frame, json_line, shown};
+ghost use Rattle.mr_tool.specs.WatchText.{drawn_byte, drawn, frame_top, frame, json_line, manner_of, shown};
 
 use mr_sockets::Screen;
 use mr_watch::{Findings, View, change_lines, look_json, look_text};
@@ -22,7 +22,7 @@ pub enum Manner {
 
 /// How looks are shown of a watch whose output goes to this place.
 pub fn manner_of(values: &WatchValues<'_>, screen: Screen) -> Manner
-    ensures { MayShow values.now.json values.now.once result }
+    ensures { result ≡ manner_of values.now.json values.now.once screen }
 {
     if values.json {
         Manner::Objects

@@ -1,17 +1,19 @@
 //! The services that a watch asks for their metrics, with what they told at this look and at the one before.
-ghost use Rattle.std.specs.Prelude.{◌≡◌, map, IfOk, None, OnOk, option_map};
-ghost use Rattle.mr_watch.specs.Told.{node_said, proxy_said, said};
-ghost use Rattle.mr_tool.specs.Posts.{addresses_of, addresses_of_unreached, all_shown, earlier_proxies, kind_after, node_among, node_told, proxies_now, proxy_shown, shown_by, told_by_node, told_by_proxy, told_in, unreached_addresses};
+ghost use Rattle.std.specs.Prelude.{◌≡◌, map, IfOk, OnErr, OnOk, option_map};
+ghost use Rattle.std.specs.List.{AllZip};
+ghost use Rattle.mr_watch.specs.Told.{node_said};
+ghost use Rattle.mr_tool.specs.Posts.{AreUnasked, IsAsked, IsAskedAsOther, IsAskedAsProxy, IsUnasked, addresses_of, addresses_of_unreached, all_shown, begun, earlier_proxies, node_among, node_told, proxies_now, proxy_shown, shown_by, silence_shown, unreached_addresses};
 
+use crate::answers::Answer;
 use crate::last_lines::Unreached;
 use mr_sockets::HostServers;
-use mr_watch::{NodeTold, ProxySeen, ProxyTold, Told, read_told};
+use mr_watch::{NodeTold, ProxySeen, Told};
 use std::alloc::{AllocError, Global};
 use std::net::{Net, TcpListener, TcpStream};
 use std::random::RandomSource;
 use std::sync::Wait;
 use std::thread::Threads;
-use std::{mem, time};
+use std::time;
 
 /// What a service is, by what it told last.
 #[derive(Clone, Copy, Debug, PartialEq, Eq)]
@@ -24,60 +26,6 @@ pub enum Kind {
     Node,
 }
 
-/// An answer of a service, if there was one, and when it was asked and had answered.
-#[derive(Debug, Drop)]
-pub struct Answer {
-    /// The whole answer.
-    pub text: Option<Vec<u8>>,
-    /// When the service was asked, in milliseconds.
-    pub asked: u64,
-    /// When its answer was there.
-    pub answered: u64,
-}
-
-impl Answer {
-    /// Nothing was answered.
-    fn none() -> Answer
-        ensures { result.text ≡ None }
-    {
-        Answer {
-            text: None,
-            asked: 0,
-            answered: 0,
-        }
-    }
-
-    /// What the service told.
-    fn told(&self) -> Option<Told<'_>>
-        ensures { option_map said result ≡ told_in self.now }
-    {
-        match &self.text {
-            Some(text) => read_told(text.as_slice()),
-            None => None,
-        }
-    }
-
-    /// What it told, where it is a proxy.
-    fn of_proxy(&self) -> Option<ProxyTold<'_>>
-        ensures { option_map proxy_said result ≡ told_by_proxy (told_in self.now) }
-    {
-        match self.told() {
-            Some(Told::Proxy(told)) => Some(told),
-            _ => None,
-        }
-    }
-
-    /// What it told, where it is a node.
-    fn of_node(&self) -> Option<NodeTold<'_>>
-        ensures { option_map node_said result ≡ told_by_node (told_in self.now) }
-    {
-        match self.told() {
-            Some(Told::Node(told)) => Some(told),
-            _ => None,
-        }
-    }
-}
-
 /// A service that is asked for its metrics.
 #[derive(Debug, Drop)]
 pub struct Post<'a> {
@@ -85,23 +33,23 @@ pub struct Post<'a> {
     pub address: &'a str,
     /// What it is.
     pub kind: Kind,
-    /// What it answered at this look.
-    pub answer: Answer,
-    /// What it answered at the look before.
-    pub earlier: Answer,
+    /// What it answered at this look, where it was asked.
+    pub answer: Option<Answer<'a>>,
+    /// What it answered at the look before, where it was asked.
+    pub earlier: Option<Answer<'a>>,
 }
 
 impl<'a> Post<'a> {
     /// A service at this address, which wasn't asked yet.
     fn new(address: &'a str) -> Post<'a>
         ensures address { result.address.now ≡ address.entry.now }
-        ensures kind { result.kind ≡ Kind.Unknown }
+        ensures unasked { IsUnasked result }
     {
         Post {
             address,
             kind: Kind::Unknown,
-            answer: Answer::none(),
-            earlier: Answer::none(),
+            answer: None,
+            earlier: None,
         }
     }
 
@@ -114,15 +62,12 @@ impl<'a> Post<'a> {
 
     /// What it answered at the last look is of the look before from now on.
     fn begin_look(&mut self)
-        ensures address { self.new.address ≡ self.old.address }
-        ensures kind { self.new.kind ≡ self.old.kind }
-        ensures answer { self.new.answer.text ≡ None }
-        ensures earlier { self.new.earlier ≡ self.old.answer }
+        ensures { self.new ≡ begun self.old }
     {
-        self.earlier = mem::replace(&mut self.answer, Answer::none());
+        self.earlier = self.answer.take();
     }
 
-    /// Asks it.
+    /// Asks it. Nothing is changed where memory is refused.
     fn ask<
         R: Net<Listener = TcpListener, Stream = TcpStream>
             + Threads
@@ -131,36 +76,75 @@ impl<'a> Post<'a> {
             + RandomSource
             + Sync,
     >(&mut self, alloc: Global, servers: &HostServers<'_, R>) -> Result<(), AllocError>
-        ensures address { self.new.address ≡ self.old.address }
-        ensures earlier { self.new.earlier ≡ self.old.earlier }
-        ensures kind { OnOk result (self.new.kind ≡ kind_after self.old.kind (told_in self.new.answer)) }
+        ensures asked { OnOk result (IsAsked self.old self.new) }
+        ensures kept { OnErr result (self.new ≡ self.old) }
     {
-        let asked = servers.milliseconds();
-        let text = servers.metrics_at(alloc, self.address)?;
-        let answered = servers.milliseconds();
-        self.answer = Answer {
-            text,
-            asked,
-            answered,
-        };
-        match self.answer.told() {
+        let answer = Answer::fetch(alloc, servers, self.address)?;
+        match answer.told() {
             Some(Told::Proxy(_)) => self.kind = Kind::Proxy,
             Some(Told::Node(_)) => self.kind = Kind::Node,
             None => {}
         }
+        self.answer = Some(answer);
         Ok(())
+    }
+
+    /// Asks it, where it isn't known to be a proxy. Nothing is changed where memory is refused.
+    fn ask_as_other<
+        R: Net<Listener = TcpListener, Stream = TcpStream>
+            + Threads
+            + Wait
+            + time::Clock
+            + RandomSource
+            + Sync,
+    >(&mut self, alloc: Global, servers: &HostServers<'_, R>) -> Result<(), AllocError>
+        ensures asked { OnOk result (IsAskedAsOther self.old self.new) }
+        ensures kept { OnErr result (self.new ≡ self.old) }
+    {
+        match self.kind {
+            Kind::Proxy => Ok(()),
+            Kind::Unknown | Kind::Node => self.ask(alloc, servers),
+        }
+    }
+
+    /// Asks it, where it is known to be a proxy. Nothing is changed where memory is refused.
+    fn ask_as_proxy<
+        R: Net<Listener = TcpListener, Stream = TcpStream>
+            + Threads
+            + Wait
+            + time::Clock
+            + RandomSource
+            + Sync,
+    >(&mut self, alloc: Global, servers: &HostServers<'_, R>) -> Result<(), AllocError>
+        ensures asked { OnOk result (IsAskedAsProxy self.old self.new) }
+        ensures kept { OnErr result (self.new ≡ self.old) }
+    {
+        match self.kind {
+            Kind::Proxy => self.ask(alloc, servers),
+            Kind::Unknown | Kind::Node => Ok(()),
+        }
+    }
+
+    /// What is seen of it where it wasn't asked.
+    fn unseen(&self) -> ProxySeen<'_>
+        ensures { proxy_shown result ≡ silence_shown self.now }
+    {
+        ProxySeen {
+            address: self.address,
+            told: None,
+            known: self.kind() == Kind::Proxy,
+            asked: 0,
+            answered: 0,
+        }
     }
 
     /// What this look saw of it, as a proxy.
     fn seen(&self) -> ProxySeen<'_>
         ensures { proxy_shown result ≡ shown_by self.now self.now.answer }
     {
-        ProxySeen {
-            address: self.address,
-            told: self.answer.of_proxy(),
-            known: self.kind() == Kind::Proxy,
-            asked: self.answer.asked,
-            answered: self.answer.answered,
+        match &self.answer {
+            Some(answer) => answer.seen(self.kind() == Kind::Proxy),
+            None => self.unseen(),
         }
     }
 
@@ -168,19 +152,17 @@ impl<'a> Post<'a> {
     fn seen_before(&self) -> ProxySeen<'_>
         ensures { proxy_shown result ≡ shown_by self.now self.now.earlier }
     {
-        ProxySeen {
-            address: self.address,
-            told: self.earlier.of_proxy(),
-            known: self.kind() == Kind::Proxy,
-            asked: self.earlier.asked,
-            answered: self.earlier.answered,
+        match &self.earlier {
+            Some(answer) => answer.seen(self.kind() == Kind::Proxy),
+            None => self.unseen(),
         }
     }
 }
 
 /// The services at these addresses, of which none was asked yet.
 pub fn posts_at<'a>(alloc: Global, addresses: &[&'a str]) -> Result<Vec<Post<'a>>, AllocError>
-    ensures { IfOk result (λ posts. addresses_of posts.items ≡ map (λ address. address.now) addresses.now) }
+    ensures addresses { IfOk result (λ posts. addresses_of posts.items ≡ map (λ address. address.now) addresses.now) }
+    ensures unasked { IfOk result (λ posts. AreUnasked posts.items) }
 {
     let mut posts = Vec::new(alloc);
     for address in addresses {
@@ -191,14 +173,14 @@ pub fn posts_at<'a>(alloc: Global, addresses: &[&'a str]) -> Result<Vec<Post<'a>
 
 /// What services answered at the last look is of the look before from now on.
 pub fn begin_look(posts: &mut [Post<'_>])
-    ensures { addresses_of posts.new ≡ addresses_of posts.old }
+    ensures { posts.new ≡ map begun posts.old }
 {
     for post in posts.iter_mut() {
         post.begin_look();
     }
 }
 
-/// Asks the services that aren't known to be proxies.
+/// Asks the services that aren't known to be proxies, each at its own address, until memory is refused.
 pub fn ask_others<
     R: Net<Listener = TcpListener, Stream = TcpStream>
         + Threads
@@ -207,17 +189,16 @@ pub fn ask_others<
         + RandomSource
         + Sync,
 >(alloc: Global, servers: &HostServers<'_, R>, posts: &mut [Post<'_>]) -> Result<(), AllocError>
-    ensures { addresses_of posts.new ≡ addresses_of posts.old }
+    ensures asked { OnOk result (AllZip IsAskedAsOther posts.old posts.new) }
+    ensures addresses { addresses_of posts.new ≡ addresses_of posts.old }
 {
     for post in posts.iter_mut() {
-        if post.kind() != Kind::Proxy {
-            post.ask(alloc, servers)?;
-        }
+        post.ask_as_other(alloc, servers)?;
     }
     Ok(())
 }
 
-/// Asks the services that are known to be proxies.
+/// Asks the services that are known to be proxies, each at its own address, until memory is refused.
 pub fn ask_proxies<
     R: Net<Listener = TcpListener, Stream = TcpStream>
         + Threads
@@ -226,12 +207,11 @@ pub fn ask_proxies<
         + RandomSource
         + Sync,
 >(alloc: Global, servers: &HostServers<'_, R>, posts: &mut [Post<'_>]) -> Result<(), AllocError>
-    ensures { addresses_of posts.new ≡ addresses_of posts.old }
+    ensures asked { OnOk result (AllZip IsAskedAsProxy posts.old posts.new) }
+    ensures addresses { addresses_of posts.new ≡ addresses_of posts.old }
 {
     for post in posts.iter_mut() {
-        if post.kind() == Kind::Proxy {
-            post.ask(alloc, servers)?;
-        }
+        post.ask_as_proxy(alloc, servers)?;
     }
     Ok(())
 }
@@ -279,7 +259,10 @@ fn node_at<'b>(post: &'b Post<'_>, name: &str) -> Option<NodeTold<'b>>
     if post.kind() != Kind::Node {
         return None;
     }
-    match post.answer.of_node() {
+    let Some(answer) = &post.answer else {
+        return None;
+    };
+    match answer.of_node() {
         Some(told) if told.address == name.as_bytes() => Some(told),
         _ => None,
     }

@@ -29,6 +29,11 @@ pub enum LoadFault {
 }
 
 impl From<io::Error> for LoadFault {
+    ghost use Rattle.std.specs.IoError.{error_kind};
+    ghost use Rattle.mr_tool.specs.Sources.{IsLoadFault};
+
+    ghost from_gives = { λ error fault. IsLoadFault (error_kind error) fault };
+
     fn from(error: io::Error) -> LoadFault {
         if error.kind() == io::ErrorKind::OutOfMemory {
             LoadFault::Memory

@@ -3,8 +3,9 @@ ghost use Rattle.std.specs.Prelude.{◌≡◌};
 ghost use Rattle.mr_text.specs.Sink.{SinkView};
 ghost use Rattle.mr_text.specs.Source.{SourceView};
 ghost use Rattle.mr_tool.specs.Devices.{devices};
-ghost use Rattle.mr_tool.specs.Posts.{addresses_of};
-ghost use Rattle.mr_tool.specs.WatchCommand.{EndsWatch, WatchesConfig, WatchGives, WritesAll, WritesLook, WritesLooks, fleet_of, fleet_seen};
+ghost use Rattle.mr_tool.specs.Posts.{AreUnasked, addresses_of};
+ghost use Rattle.mr_tool.specs.WatchCommand.{EndsWatch, WatchesConfig, WatchGives, WritesAll, WritesLook, WritesLooks, fleet_of, fleet_seen, sight};
+ghost use Rattle.mr_tool.specs.WatchText.{manner_of};
 ghost use Rattle.mr_words.specs.Words.{addresses_in};
 
 use crate::ended::Ended;
@@ -64,7 +65,7 @@ fn write_look<O: Sink>(
     schedule: Schedule,
     output: &mut O,
 ) -> Result<Found, Fault>
-    ensures { WritesLook manner (fleet_seen schedule seen.now.nodes.items expected.now posts.now) first before
+    ensures { WritesLook manner (fleet_seen schedule expected.now (sight seen.now posts.now)) first before (sight seen.now posts.now)
         (O.told output.old) result (O.told output.new) }
 {
     let earlier = earlier_in(alloc, first, posts)?;
@@ -129,9 +130,9 @@ fn write_looks<
     posts: &mut [Post<'_>],
     output: &mut O,
 ) -> Result<Findings, Fault>
-    ensures looks { WritesLooks manner once (fleet_of config.now expected.now (addresses_of posts.old))
+    requires { AreUnasked posts.old }
+    ensures { WritesLooks manner once (fleet_of config.now expected.now (addresses_of posts.old)) posts.new
         (O.told output.old) result (O.told output.new) }
-    ensures posts { addresses_of posts.new ≡ addresses_of posts.old }
 {
     let schedule = config.schedule();
     let mut findings = Findings::unseen();
@@ -184,8 +185,8 @@ fn watch_config<
     expected: &str,
     output: &mut O,
 ) -> Result<Ended, Fault>
-    ensures { WatchesConfig values.now.json values.now.once (fleet_of config.now expected.now (addresses_in values.now))
-        (O.told output.old) result (O.told output.new) }
+    ensures { WatchesConfig (manner_of values.now.json values.now.once servers.now.screen) values.now.once
+        (fleet_of config.now expected.now (addresses_in values.now)) (O.told output.old) result (O.told output.new) }
 {
     let manner = manner_of(values, servers.screen());
     let mut posts = posts_at(alloc, values.addresses())?;
@@ -220,7 +221,7 @@ pub fn run_watch<
     sources: &mut S,
     output: &mut O,
 ) -> Result<Ended, Fault>
-    ensures { (input : SourceView) (faults : SinkView) → WatchGives values.now
+    ensures { (input : SourceView) (faults : SinkView) → WatchGives values.now servers.now.screen
         (devices (S.told sources.old) input (O.told output.old) faults)
         (devices (S.told sources.new) input (O.told output.new) faults) result }
 {

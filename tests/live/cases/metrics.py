@@ -22,6 +22,7 @@ from wanted import Wrong, check, check_true
 
 UNPROVED = "MIGCTL_UNPROVED" in os.environ
 ANSWERS = ("hit", "miss", "stored", "deleted", "not found", "leg lost", "busy", "out of memory", "clock fault", "other fault")
+MIB = 1 << 20
 BOUNDS = "0.0001 0.00025 0.0005 0.001 0.0025 0.005 0.01 0.025 0.05 0.1 0.25 0.5 1 2.5 5 +Inf".split()  # by docs/METRICS.md
 
 
@@ -429,6 +430,28 @@ def sixty_four_scrapers_are_served_at_once():
             for it in open_ones:
                 it.close()
             wait_until_answered(told)
+
+
+@case(waits=True)
+def scrapers_for_whom_no_thread_can_be_made_are_turned_away():
+    """Seventy, of a service that may take no memory for one more thread's stack: each is closed without an answer, clients are
+    served meanwhile, and once there is memory scrapers are answered, since none kept a place."""
+    with Fleet() as fleet:
+        for told in told_both(fleet):
+            client = told.service.client()
+            client.ask(set_of("k", "v"), STORED)
+            told.service.limit_memory(MIB)
+            with within(4):  # behind which those are ended that a stack was left for
+                open_ones = [begun_scrape(fleet, told) for _ in range(8)]
+                for number in range(70):
+                    with Client(told.address) as more:
+                        more.expect_end(f"the end of scraper {number}")
+            client.ask(set_of("k", f"{told.address}") + get_of("k"), STORED + hits(("k", told.address)))
+            told.service.limit_memory(1024 * MIB)
+            for it in open_ones:
+                it.close()
+            wait_until_answered(told)
+            client.quit()
 
 
 def begun_scrape(fleet, told):
