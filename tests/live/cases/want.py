@@ -66,12 +66,14 @@ def clients_for_whom_there_is_no_open_file_harm_no_other():
 
 
 def use_up(service, clients):
-    """Connects to a service until it has ended, so often at most."""
+    """Connects to a service until it has ended, so often at most. A connection that is being made while it ends is reset."""
     for _ in range(clients):
         try:
             with service.client() as client:
                 client.stop_sending()
                 client.expect_end()
+        except ConnectionResetError:
+            continue
         except ConnectionRefusedError:
             return
 
