@@ -2,9 +2,7 @@ pub mod FaultLemmas
 pub mod FewReads
 pub mod GivenLemmas
 pub mod InputLemmas
-pub mod PostLemmas
 pub mod RequestLemmas
 pub mod RunLemmas
-pub mod TextLemmas
 pub mod WatchLemmas
 pub mod WholeRun

@@ -1,5 +1,5 @@
 -- What each step of a run says of the whole.
-use Rattle.std.proofs.Common.{◌≡◌, ◌∙◌, ℕ, List, Option, Some, None, Result, Ok, Err, refl, ap, subst, sym, inl, inr, ◌⊎◌}
+use Rattle.std.proofs.Common.{◌≡◌, ◌∙◌, ℕ, Bool, List, Option, Some, None, Result, Ok, Err, refl, ap, subst, sym, inl, inr, ◌⊎◌}
 use Rattle.mr_text.specs.Sink.{SinkView, IsOneWrite}
 use Rattle.mr_text.specs.Source.{SourceView}
 use Rattle.mr_text.specs.declared.error.WriteFault.{WriteFault}
@@ -27,10 +27,13 @@ use Rattle.mr_tool.specs.Services.{EndsService, NodeGives, ProxyGives, RunsServi
 use Rattle.mr_sockets.specs.Servers.{Asked, IsOneService, ServersView, clients_of, places_of}
 use Rattle.mr_sockets.specs.declared.screen.Screen.{Screen}
 use Rattle.mr_sockets.specs.declared.fault.OpenFault.{OpenFault}
-use Rattle.mr_tool.specs.Fault.{fault_line, readings_line}
+use Rattle.mr_tool.specs.Fault.{fault_line, fault_of_printing, readings_line}
 use Rattle.mr_tool.specs.Sources.{SourcesView}
 use Rattle.mr_tool.specs.VersionCommand.{VersionGives}
-use Rattle.mr_tool.specs.WatchCommand.{Watches}
+use Rattle.mr_looks.specs.Watch.{Fleet, WatchesConfig}
+use Rattle.mr_looks.specs.declared.manner.Manner.{Manner}
+use Rattle.mr_printing.specs.declared.printing.PrintFault.{PrintFault}
+use Rattle.mr_tool.specs.WatchCommand.{Watches, given_by}
 use Rattle.mr_words.specs.Words.{Say, SayBadReadings, SayNothing, SayVersion, path_in}
 
 -- a command that did what was wanted met no failure
@@ -123,12 +126,18 @@ proxy_steady values ended before between idle busy h silent =
       steady.0,
     )
 
+-- so did a watch that was written to its end
+came_steady : (manner : Manner) (once : Bool) (fleet : Fleet) (old new : SinkView) (came : Result Bool PrintFault) (ended : Ended)
+    → Ok ended ≡ given_by came → WatchesConfig manner once fleet old came new → new.failures ≡ old.failures
+came_steady manner once fleet old new (Ok sound) ended given watches = watches.writes.steady
+came_steady manner once fleet old new (Err failed) ended given watches = let never : Ok ended ≡ Err (fault_of_printing failed) = given in cc
+
 watch_steady : (values : WatchValues) (screen : Screen) (ended : Ended) (before between : Devices) → Watches values screen before between (Ok ended)
     → between.faults ≡ before.faults → NoneFailed before between
 watch_steady values screen ended before between h silent = record {
   sources = h.loads.0.gives.3;
   input = ap (λ (s : SourceView). s.failures) h.unread;
-  output = h.watches.writes.steady;
+  output = came_steady _ _ _ _ _ h.came ended h.given h.watches;
   faults = ap (λ (s : SinkView). s.failures) silent;
 }
 

@@ -2,11 +2,19 @@
 use Rattle.std.specs.Prelude.{◌≡◌, ℕ, List, Option, Result}
 use Rattle.mr_transcripts.specs.Transcripts.{IsCheckOf, RefusesCheck}
 use Rattle.mr_transcripts.specs.declared.check.Checked.{Checked}
-use Rattle.mr_tool.specs.CheckText.{check_text, end_of}
+use Rattle.mr_transcripts.specs.declared.check.Outcome.{Outcome}
+use Rattle.mr_transcripts.specs.declared.check.Outcome.TheVariants.{Accepted}
+use Rattle.mr_printing.specs.CheckText.{check_text}
 use Rattle.mr_tool.specs.Devices.{Devices}
 use Rattle.mr_tool.specs.GivenText.{PrintsOf}
 use Rattle.mr_tool.specs.declared.ended.Ended.{Ended}
+use Rattle.mr_tool.specs.declared.ended.Ended.TheVariants.{Done, NotAccepted}
 use Rattle.mr_tool.specs.declared.fault.Fault.{Fault}
+
+-- how a check ends by its outcome
+abbrev pub end_of : Outcome → Ended
+end_of Accepted = Done
+end_of _ = NotAccepted
 
 -- what a check prints of bytes, and how it ends: by what was found of the transcript that they are
 pub record MakesCheck (bytes text : List ℕ) (ended : Ended) : Type 0 where

@@ -1,17 +1,14 @@
 -- What the command `explain` does.
-use Rattle.std.specs.Prelude.{◌≡◌, ℕ, List, ◌++◌, Result, Ok, Err, codes}
+use Rattle.std.specs.Prelude.{◌≡◌, Result, Ok, Err}
 use Rattle.mr_text.specs.Sink.{IsOneWrite}
 use Rattle.mr_text.specs.declared.error.WriteFault.{WriteFault}
 use Rattle.mr_tool.specs.Devices.{Devices}
-use Rattle.mr_words.specs.Explain.{Told, heading_line}
+use Rattle.mr_printing.specs.ExplainText.{explanation_text}
+use Rattle.mr_words.specs.Explain.{Told}
 use Rattle.mr_tool.specs.declared.ended.Ended.{Ended}
 use Rattle.mr_tool.specs.declared.ended.Ended.TheVariants.{Done, NotAccepted, Faulted}
 use Rattle.mr_tool.specs.declared.fault.Fault.{Fault}
 use Rattle.mr_tool.specs.declared.fault.Fault.TheVariants.{Memory, Output}
-
--- what is printed of it: that line, and below it what the refusal means
-abbrev pub explanation_text : Told → List ℕ
-explanation_text told = heading_line told ++ (told.meaning ++ codes "\n")
 
 -- what is told was handed to the output in one call, which answered so, and nothing was loaded or read
 pub record WritesExplanation (told : Told) (before after : Devices) (answer : Result (Unit {0}) WriteFault) : Type 0 where

@@ -1,5 +1,7 @@
 -- What is printed of a fault: the layer that found it, and the number and the name of the refusal.
 use Rattle.std.specs.Prelude.{◌≡◌, ℕ, List, ◌++◌, codes, string_bytes}
+use Rattle.mr_printing.specs.declared.printing.PrintFault.{PrintFault}
+use Rattle.mr_printing.specs.declared.printing.PrintFault.TheVariants as print
 use Rattle.mr_words.specs.Lines.{text_fault_line, node_fault_line, plan_fault_line}
 use Rattle.mr_tool.specs.declared.fault.Fault.{Fault}
 use Rattle.mr_tool.specs.declared.fault.Fault.TheVariants.{Memory, Input, Output, File, Net, Plan, Node, Text}
@@ -41,3 +43,8 @@ abbrev pub IsNetFault : List ℕ → Fault → Type 0
 IsNetFault address (Net line) = string_bytes line ≡ net_line address
 IsNetFault address Memory = Unit {0}
 IsNetFault address fault = ⊥
+
+-- the fault of a command whose text wasn't printed
+abbrev pub fault_of_printing : PrintFault → Fault
+fault_of_printing print.Memory = Memory
+fault_of_printing print.Write = Output

@@ -6,7 +6,7 @@ use Rattle.mr_text.specs.declared.request.Request.{Request}
 use Rattle.mr_configs.specs.Config.{ConfigView}
 use Rattle.mr_tool.specs.Input.{LoadsConfig, ReadsRequest}
 use Rattle.mr_tool.specs.Devices.{Devices}
-use Rattle.mr_tool.specs.PlanText.{plan_shown}
+use Rattle.mr_printing.specs.PlanText.{plan_shown}
 use Rattle.mr_tool.specs.declared.ended.Ended.{Ended}
 use Rattle.mr_tool.specs.declared.ended.Ended.TheVariants.{Done, NotAccepted, Faulted}
 use Rattle.mr_tool.specs.declared.fault.Fault.{Fault}

@@ -6,7 +6,7 @@ use Rattle.mr_configs.specs.Config.{ConfigView}
 use Rattle.mr_tool.specs.Input.{LoadsConfig}
 use Rattle.mr_tool.specs.Devices.{Devices}
 use Rattle.mr_tool.specs.PlanCommand.{LacksConfig}
-use Rattle.mr_tool.specs.TimelineText.{timeline_text}
+use Rattle.mr_printing.specs.TimelineText.{timeline_text}
 use Rattle.mr_words.specs.Words.{readings_in}
 use Rattle.mr_tool.specs.declared.ended.Ended.{Ended}
 use Rattle.mr_tool.specs.declared.ended.Ended.TheVariants.{Done}

@@ -1,7 +1,8 @@
 //! The commands, from their values to what they write.
+ghost use Rattle.std.specs.Prelude.{◌≡◌};
 ghost use Rattle.mr_text.specs.Source.{SourceView};
 ghost use Rattle.mr_text.specs.Sink.{SinkView};
-ghost use Rattle.mr_tool.specs.CheckCommand.{CheckGives};
+ghost use Rattle.mr_tool.specs.CheckCommand.{CheckGives, end_of};
 ghost use Rattle.mr_tool.specs.Devices.{devices};
 ghost use Rattle.mr_words.specs.Explain.{told_by};
 ghost use Rattle.mr_tool.specs.ExplainCommand.{ExplainGives};
@@ -13,18 +14,14 @@ ghost use Rattle.mr_tool.specs.TimelineCommand.{TimelineGives};
 ghost use Rattle.mr_tool.specs.UpgradeCommand.{UpgradeGives};
 ghost use Rattle.mr_tool.specs.VersionCommand.{VersionGives};
 
-use crate::check_text::{end_of, write_check};
 use crate::ended::Ended;
-use crate::explain::write_explanation;
 use crate::fault::Fault;
 use crate::input::{first_request, given_bytes, load_config};
-use crate::plan::write_plan;
-use crate::printing::write_at_once;
 use crate::script_text::{text_of_play, text_of_upgrade};
 use crate::sources::Sources;
-use crate::timeline::write_timeline;
+use mr_printing::{write_at_once, write_check, write_explanation, write_plan, write_timeline};
 use mr_text::{Sink, Source};
-use mr_transcripts::check_transcript;
+use mr_transcripts::{Outcome, check_transcript};
 use mr_words::{Explanation, PlanValues, TimelineValues, version_line};
 use std::alloc::Global;
 
@@ -78,6 +75,16 @@ pub fn run_script<S: Sources, I: Source, O: Sink>(
     let text = text_of_play(alloc, bytes.as_slice())?;
     write_at_once(text.as_slice(), output)?;
     Ok(Ended::Done)
+}
+
+/// How a check ends by its outcome.
+fn end_of(outcome: Outcome) -> Ended
+    ensures { result ≡ end_of outcome }
+{
+    match outcome {
+        Outcome::Accepted => Ended::Done,
+        _ => Ended::NotAccepted,
+    }
 }
 
 /// Writes what is found of the transcript in a file, or of the one on the input.

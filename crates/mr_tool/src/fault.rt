@@ -1,9 +1,9 @@
 //! What stops a command once its words were read.
 ghost use Rattle.std.specs.Prelude.{◌≡◌};
 
-use crate::printing::PrintFault;
 use mr_configs::PlanError;
 use mr_node::NodeError;
+use mr_printing::PrintFault;
 use mr_sockets::SeedFault;
 use mr_text::{ReadFault, Sink, TextError};
 use mr_words::{node_line, plan_line, text_line};
@@ -102,7 +102,7 @@ impl From<SeedFault> for Fault {
 
 impl From<PrintFault> for Fault {
     ghost use Rattle.std.specs.Prelude.{◌≡◌};
-    ghost use Rattle.mr_tool.specs.Printing.{fault_of_printing};
+    ghost use Rattle.mr_tool.specs.Fault.{fault_of_printing};
 
     ghost from_gives = { λ failed fault. fault ≡ fault_of_printing failed };
 

@@ -4,37 +4,25 @@
 //! `serve_proxy`, `SocketCarrier`).
 #![tactic(auto)]
 
-mod answers;
 mod arguments;
-mod check_text;
 mod commands;
 mod ended;
-mod explain;
 mod fault;
 mod input;
-mod last_lines;
-mod line;
-mod looking;
-mod manner;
-mod plan;
-mod posts;
-mod printing;
 mod run;
 mod script_text;
 mod services;
 mod sources;
-mod timeline;
 mod watch;
 mod watched_words;
 
 pub use arguments::run_arguments;
 pub use input::MOST_CONFIG_BYTES;
+pub use mr_printing::{PrintFault, write_plan};
 pub use mr_sockets::{SocketCarrier, serve_node, serve_proxy};
 pub use mr_words::{
     NodeValues, PlanValues, ProxyValues, TimelineValues, Wanted, WatchValues, WordsFault,
     read_words,
 };
-pub use plan::write_plan;
-pub use printing::PrintFault;
 pub use run::{DONE, FAULT, NOT_ACCEPTED, WRONG_WORDS, run_words};
 pub use sources::{HostFiles, LoadFault, MOST_LOADED, Sources};

@@ -1,28 +1,18 @@
-//! The command that watches a migration: it looks each second, and writes what it sees, until every proxy is in the last phase.
+//! The command that watches a migration, by the configuration in a file.
 ghost use Rattle.std.specs.Prelude.{◌≡◌};
 ghost use Rattle.mr_text.specs.Sink.{SinkView};
 ghost use Rattle.mr_text.specs.Source.{SourceView};
 ghost use Rattle.mr_tool.specs.Devices.{devices};
-ghost use Rattle.mr_tool.specs.Posts.{AreUnasked, addresses_of};
-ghost use Rattle.mr_tool.specs.WatchCommand.{EndsWatch, WatchesConfig, WatchGives, WritesAll, WritesLook, WritesLooks, fleet_of, fleet_seen, sight};
-ghost use Rattle.mr_tool.specs.WatchText.{manner_of};
-ghost use Rattle.mr_words.specs.Words.{addresses_in};
+ghost use Rattle.mr_tool.specs.WatchCommand.{WatchGives, end_of_watch};
 
 use crate::ended::Ended;
 use crate::fault::Fault;
 use crate::input::load_whole_config;
-use crate::last_lines::{end_of_watch, last_lines};
-use crate::looking::{Seen, look};
-use crate::manner::{Manner, manner_of, text_of};
-use crate::posts::{Post, earlier_in, posts_at, proxies_in, unreached_in};
-use crate::printing::{PrintFault, write_at_once};
 use crate::sources::Sources;
 use crate::watched_words::check_words;
-use mr_configs::Config;
-use mr_phases::Schedule;
+use mr_looks::watch;
 use mr_sockets::HostServers;
 use mr_text::Sink;
-use mr_watch::{Findings, Look, View, all_in_last_phase, findings_after};
 use mr_words::WatchValues;
 use std::alloc::Global;
 use std::net::{Net, TcpListener, TcpStream};
@@ -31,176 +21,11 @@ use std::sync::Wait;
 use std::thread::Threads;
 use std::time;
 
-/// How many milliseconds lie between the beginnings of two looks, where the first isn't longer.
-const LOOK_MILLIS: u64 = 1_000;
-
-/// What came of a look.
-#[derive(Clone, Copy, Debug)]
-struct Found {
-    /// What was found of the premises so far.
-    findings: Findings,
-    /// Whether every proxy is in the last phase.
-    migrated: bool,
-}
-
-/// Writes a text in one call, or nothing where it is empty.
-fn write_all<O: Sink>(text: &[u8], output: &mut O) -> Result<(), PrintFault>
-    ensures { WritesAll text.now (O.told output.old) result (O.told output.new) }
+/// How the command ends of a watch that saw nothing wrong, or did.
+fn end_of_watch(sound: bool) -> Ended
+    ensures { result ≡ end_of_watch sound }
 {
-    if text.is_empty() {
-        return Ok(());
-    }
-    write_at_once(text, output)
-}
-
-/// Finds what a look says of the premises, and writes what is shown of it.
-fn write_look<O: Sink>(
-    alloc: Global,
-    manner: Manner,
-    first: bool,
-    before: Findings,
-    seen: &Seen<'_>,
-    posts: &[Post<'_>],
-    expected: &str,
-    schedule: Schedule,
-    output: &mut O,
-) -> Result<Found, Fault>
-    ensures { WritesLook manner (fleet_seen schedule expected.now (sight seen.now posts.now)) first before (sight seen.now posts.now)
-        (O.told output.old) result (O.told output.new) }
-{
-    let earlier = earlier_in(alloc, first, posts)?;
-    let proxies = proxies_in(alloc, posts)?;
-    let look = Look {
-        began: seen.began,
-        ended: seen.ended,
-        proxies: proxies.as_slice(),
-        nodes: seen.nodes.as_slice(),
-    };
-    let expected = expected.as_bytes();
-    let findings = findings_after(before, earlier.as_slice(), &look, expected, &schedule);
-    let view = View {
-        at: seen.second,
-        moment: seen.moment,
-        look,
-        earlier: earlier.as_slice(),
-        findings,
-        expected,
-        schedule,
-    };
-    let text = text_of(alloc, manner, first, &before, &view)?;
-    write_all(text.as_slice(), output)?;
-    Ok(Found {
-        findings,
-        migrated: all_in_last_phase(&look, &schedule),
-    })
-}
-
-/// Waits until the next look begins, where the one that began then wasn't longer.
-fn wait_for_next<
-    R: Net<Listener = TcpListener, Stream = TcpStream>
-        + Threads
-        + Wait
-        + time::Clock
-        + RandomSource
-        + Sync,
->(servers: &HostServers<'_, R>, began: u64) {
-    let passed = servers.milliseconds().saturating_sub(began);
-    let left = LOOK_MILLIS.saturating_sub(passed);
-    if left > 0 {
-        servers.pause(left);
-    }
-}
-
-/// Looks until every proxy is in the last phase, or once, and writes what is shown of each look. Gives what was found.
-fn write_looks<
-    R: Net<Listener = TcpListener, Stream = TcpStream>
-        + Threads
-        + Wait
-        + time::Clock
-        + RandomSource
-        + Sync,
-    O: Sink,
->(
-    alloc: Global,
-    servers: &HostServers<'_, R>,
-    manner: Manner,
-    once: bool,
-    config: &Config,
-    expected: &str,
-    posts: &mut [Post<'_>],
-    output: &mut O,
-) -> Result<Findings, Fault>
-    requires { AreUnasked posts.old }
-    ensures { WritesLooks manner once (fleet_of config.now expected.now (addresses_of posts.old)) posts.new
-        (O.told output.old) result (O.told output.new) }
-{
-    let schedule = config.schedule();
-    let mut findings = Findings::unseen();
-    let mut first = true;
-    for number in 0..u64::MAX {
-        let seen = look(alloc, servers, config.routing(), posts)?;
-        let found = write_look(
-            alloc, manner, first, findings, &seen, posts, expected, schedule, output,
-        )?;
-        findings = found.findings;
-        first = false;
-        if once || found.migrated {
-            return Ok(findings);
-        }
-        wait_for_next(servers, seen.began);
-    }
-    Ok(findings)
-}
-
-/// Writes the last lines, and says how the watch ends.
-fn end_watch<O: Sink>(
-    alloc: Global,
-    manner: Manner,
-    findings: Findings,
-    posts: &[Post<'_>],
-    output: &mut O,
-) -> Result<Ended, Fault>
-    ensures { EndsWatch manner posts.now findings (O.told output.old) result (O.told output.new) }
-{
-    let unreached = unreached_in(alloc, posts)?;
-    let text = last_lines(alloc, manner, &findings, unreached.as_slice())?;
-    write_all(text.as_slice(), output)?;
-    Ok(end_of_watch(&findings, unreached.as_slice()))
-}
-
-/// Watches a migration of this configuration.
-fn watch_config<
-    R: Net<Listener = TcpListener, Stream = TcpStream>
-        + Threads
-        + Wait
-        + time::Clock
-        + RandomSource
-        + Sync,
-    O: Sink,
->(
-    alloc: Global,
-    values: &WatchValues<'_>,
-    servers: &HostServers<'_, R>,
-    config: &Config,
-    expected: &str,
-    output: &mut O,
-) -> Result<Ended, Fault>
-    ensures { WatchesConfig (manner_of values.now.json values.now.once servers.now.screen) values.now.once
-        (fleet_of config.now expected.now (addresses_in values.now)) (O.told output.old) result (O.told output.new) }
-{
-    let manner = manner_of(values, servers.screen());
-    let mut posts = posts_at(alloc, values.addresses())?;
-    let findings = write_looks(
-        alloc,
-        servers,
-        manner,
-        values.once,
-        config,
-        expected,
-        posts.as_mut_slice(),
-        output,
-    )?;
-    end_watch(alloc, manner, findings, posts.as_slice(), output)
+    if sound { Ended::Done } else { Ended::Faulted }
 }
 
 /// Watches a migration by the configuration in a file. A word that is no address at which a service may listen is refused before any
@@ -228,12 +53,13 @@ pub fn run_watch<
     let loaded = load_whole_config(alloc, values.config, sources)?;
     check_words(alloc, values.addresses())?;
     let expected = loaded.digest(alloc)?;
-    watch_config(
+    let sound = watch(
         alloc,
         values,
         servers,
         loaded.config(),
         expected.as_str(),
         output,
-    )
+    )?;
+    Ok(end_of_watch(sound))
 }

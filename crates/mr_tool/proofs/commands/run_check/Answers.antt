@@ -1,8 +1,8 @@
 use Rattle.std.proofs.Common.{refl}
 use Rattle.mr_transcripts.specs.Transcripts.{RefusesCheck}
 use Rattle.mr_tool.proofs.GivenLemmas.{ends_not_given, ends_not_printed}
-use Rattle.mr_tool.specs.CheckCommand.{MakesCheck}
-use Rattle.mr_tool.specs.CheckText.{check_text, end_of}
+use Rattle.mr_tool.specs.CheckCommand.{MakesCheck, end_of}
+use Rattle.mr_printing.specs.CheckText.{check_text}
 use Rattle.mr_tool.specs.Devices.{devices}
 use Rattle.mr_words.specs.Words.{path_in}
 use Rattle.mr_tool.proofs.commands.run_check.Goals as goal

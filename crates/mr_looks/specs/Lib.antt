@@ -1,0 +1,4 @@
+pub mod Looking
+pub mod Posts
+pub mod Watch
+pub mod WatchText

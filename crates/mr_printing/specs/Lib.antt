@@ -1,0 +1,6 @@
+pub mod CheckText
+pub mod ExplainText
+pub mod HopText
+pub mod PlanText
+pub mod Printing
+pub mod TimelineText

@@ -1,6 +1,0 @@
-use Rattle.std.proofs.Common.{◌≡◌, ◌++◌, drop}
-use Rattle.mr_tool.specs.Posts.{all_shown, proxies_before}
-use Rattle.mr_tool.proofs.posts.earlier_in.Given as goal
-
-abbrev pub invariant-loop-post : goal.invariant-loop-post
-invariant-loop-post l = all_shown l.proxies.items ++ proxies_before (drop l.post-index l.posts) ≡ proxies_before l.posts
