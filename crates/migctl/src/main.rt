@@ -2,7 +2,7 @@
 //! it while it runs.
 #![tactic(auto)]
 
-use mr_sockets::{HostServers, Screen};
+use mr_servers::{HostServers, Screen};
 use mr_text::{OverReader, OverWriter};
 use mr_tool::{HostFiles, run_arguments};
 use std::env;

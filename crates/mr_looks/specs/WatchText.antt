@@ -1,7 +1,7 @@
 -- What is shown of looks, and of what came of them.
 use Rattle.std.specs.Prelude.{ℕ, ◌==◌, ◌||◌, ◌&&◌, Bool, true, false, not, List, [], ◌∷◌, ◌++◌, if◌then◌else◌, codes}
 use Rattle.serde_json.specs.Written.{compact_text}
-use Rattle.mr_sockets.specs.declared.screen.Screen.{Screen}
+use Rattle.mr_servers.specs.declared.screen.Screen.{Screen}
 use Rattle.mr_watch.specs.Changes.{change_text}
 use Rattle.mr_watch.specs.Json.{look_json}
 use Rattle.mr_watch.specs.Text.{look_text}

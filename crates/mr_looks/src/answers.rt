@@ -3,7 +3,7 @@ ghost use Rattle.std.specs.Prelude.{◌≡◌, IfOk, option_map};
 ghost use Rattle.mr_watch.specs.Told.{node_said, proxy_said, said};
 ghost use Rattle.mr_looks.specs.Posts.{answer_shown, proxy_shown, said_by, told_by_node, told_by_proxy};
 
-use mr_sockets::HostServers;
+use mr_servers::HostServers;
 use mr_watch::{NodeTold, ProxySeen, ProxyTold, Told, read_told};
 use std::alloc::{AllocError, Global};
 use std::net::{Net, TcpListener, TcpStream};

@@ -5,7 +5,7 @@ ghost use Rattle.mr_looks.specs.Posts.{addresses_of};
 
 use crate::posts::{Post, ask_others, ask_proxies, begin_look, node_in};
 use mr_pools::{Pool, Routing};
-use mr_sockets::HostServers;
+use mr_servers::HostServers;
 use mr_watch::{NodeSeen, StatsTold, read_stats};
 use std::alloc::{AllocError, Global};
 use std::net::{Net, TcpListener, TcpStream};

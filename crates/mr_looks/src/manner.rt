@@ -2,7 +2,7 @@
 ghost use Rattle.std.specs.Prelude.{◌≡◌, ◌++◌, IfOk, OnOk};
 ghost use Rattle.mr_looks.specs.WatchText.{drawn_byte, drawn, frame_top, frame, json_line, manner_of, shown};
 
-use mr_sockets::Screen;
+use mr_servers::Screen;
 use mr_watch::{Findings, View, change_lines, look_json, look_text};
 use mr_words::WatchValues;
 use std::alloc::{AllocError, Global};

@@ -6,7 +6,7 @@ ghost use Rattle.mr_looks.specs.Posts.{AreUnasked, IsAsked, IsAskedAsOther, IsAs
 
 use crate::answers::Answer;
 use crate::last_lines::Unreached;
-use mr_sockets::HostServers;
+use mr_servers::HostServers;
 use mr_watch::{NodeTold, ProxySeen, Told};
 use std::alloc::{AllocError, Global};
 use std::net::{Net, TcpListener, TcpStream};

@@ -12,7 +12,7 @@ use crate::posts::{Post, earlier_in, posts_at, proxies_in, unreached_in};
 use mr_configs::Config;
 use mr_phases::Schedule;
 use mr_printing::{PrintFault, write_at_once};
-use mr_sockets::HostServers;
+use mr_servers::HostServers;
 use mr_text::Sink;
 use mr_watch::{Findings, Look, View, all_in_last_phase, findings_after};
 use mr_words::WatchValues;

@@ -1,11 +1,10 @@
 pub mod Address
 pub mod Addresses
-pub mod Asking
 pub mod Carriers
 pub mod Listener
+pub mod Listening
 pub mod Runs
 pub mod SeededNode
-pub mod Seeds
-pub mod Servers
+pub mod Serving
 pub mod SocketCarrier
 pub mod steps

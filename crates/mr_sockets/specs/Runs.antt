@@ -1,6 +1,6 @@
 -- What the services stand for that only contracts see.
 use Rattle.std.specs.Prelude.{List, [], ◌∷◌, ◌++◌, option_map}
-use Rattle.mr_sockets.specs.Servers.{Run, NodeServing, ProxyServing, run}
+use Rattle.mr_sockets.specs.Serving.{Run, NodeServing, ProxyServing, run}
 use Rattle.mr_sockets.specs.declared.runs.Runs.{Runs, Nothing, Node', Proxy'}
 
 -- the services, in the order in which they ran

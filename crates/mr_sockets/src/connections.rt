@@ -1,7 +1,7 @@
 //! The service of a listener's connections, one thread each.
 ghost use Rattle.std.specs.Prelude.{◌≡◌, ◌<◌, ◌≤◌, [], ◌∷◌, ◌++◌};
 ghost use Rattle.mr_sockets.specs.Listener.{AsksFor, AreAccepted};
-ghost use Rattle.mr_sockets.specs.Servers.{Serving, run};
+ghost use Rattle.mr_sockets.specs.Serving.{Serving, run};
 
 use crate::listener::Listener;
 use crate::runs::GhostRuns;
@@ -19,7 +19,7 @@ use std::time::{Clock, Duration};
 const PAUSE_MILLIS: u64 = 100;
 
 /// What is done with each connection.
-pub(crate) trait Service {
+pub trait Service {
     /// What each connection is served by.
     ghost serves: { Self → Serving };
 
@@ -125,11 +125,12 @@ fn serve_counted<
 
 /// Accepts so many connections, serves each in a thread of its own, and gives the listener back, with how many connections
 /// ended without a fault, once all have ended. Nothing is kept of a connection that has ended.
-pub(crate) fn accept_clients<
-    L: Listener + Drop,
-    S: Service + Sync,
-    R: Threads + Wait + Clock + Sync,
->(rt: &R, listener: L, service: &S, clients: u64) -> (L, u64)
+pub fn accept_clients<L: Listener + Drop, S: Service + Sync, R: Threads + Wait + Clock + Sync>(
+    rt: &R,
+    listener: L,
+    service: &S,
+    clients: u64,
+) -> (L, u64)
     ensures { AreAccepted clients (L.told listener) result.1 (L.told result.0) }
 {
     if clients == 0 {

@@ -60,7 +60,7 @@ impl OverListener {
 
 impl OverListener {
     /// The socket.
-    pub(crate) fn into_socket(self) -> TcpListener {
+    pub fn into_socket(self) -> TcpListener {
         let OverListener {
             inner,
             wait: _,

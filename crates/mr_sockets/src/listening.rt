@@ -1,7 +1,7 @@
 //! Sockets that listen, with the addresses that were asked for as contracts see them.
 ghost use Rattle.std.specs.Prelude.{◌≡◌, List, [], ◌∷◌, ◌++◌};
 ghost use Rattle.std.specs.declared.net.socket_addr.SocketAddrV4.{SocketAddrV4};
-ghost use Rattle.mr_sockets.specs.Servers.{Opens};
+ghost use Rattle.mr_sockets.specs.Listening.{Opens};
 
 use crate::address::address_of;
 use crate::addresses::GhostAddresses;
@@ -11,7 +11,7 @@ use std::net::{Net, SocketAddrV4, TcpListener, TcpStream};
 use std::time::Duration;
 
 /// What sockets that listen are asked of, whose contract tells at which addresses.
-pub(crate) trait Listens {
+pub trait Listens {
     /// The addresses that a socket was asked to listen at, in order.
     ghost listened: { Self → List SocketAddrV4 };
 
@@ -22,7 +22,7 @@ pub(crate) trait Listens {
 }
 
 /// The sockets of a machine.
-pub(crate) struct HostListens<'a, R: Net<Listener = TcpListener, Stream = TcpStream>> {
+pub struct HostListens<'a, R: Net<Listener = TcpListener, Stream = TcpStream>> {
     net: &'a R,
     listened: GhostAddresses,
 }
@@ -49,7 +49,7 @@ impl<'a, R: Net<Listener = TcpListener, Stream = TcpStream>> HostListens<'a, R> 
     ghost use Rattle.std.specs.Prelude.{◌≡◌, []};
 
     /// The sockets of this machine, of which none was asked to listen yet.
-    pub(crate) fn new(net: &'a R) -> HostListens<'a, R>
+    pub fn new(net: &'a R) -> HostListens<'a, R>
         ensures { result ≡ [] }
     {
         HostListens {
@@ -73,11 +73,7 @@ impl<'a, R: Net<Listener = TcpListener, Stream = TcpStream>> Listens for HostLis
 
 /// A socket that listens at the address that a text is, whose connections wait so long at most for their clients, where that is
 /// bounded. None where it is no address, or where the machine gives none there.
-pub(crate) fn open<L: Listens>(
-    listens: &mut L,
-    text: &str,
-    wait: Option<Duration>,
-) -> Option<OverListener>
+pub fn open<L: Listens>(listens: &mut L, text: &str, wait: Option<Duration>) -> Option<OverListener>
     ensures { Opens text.now (L.listened listens.old) result (L.listened listens.new) }
 {
     let address = address_of(text)?;

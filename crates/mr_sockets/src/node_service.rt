@@ -1,7 +1,7 @@
 //! The service of a node's connections.
 ghost use Rattle.std.specs.Prelude.{◌≡◌, ◌+◌, ◌≤◌, Some, Err, [], ◌∷◌, ◌++◌, option_map};
 ghost use Rattle.mr_sockets.specs.Listener.{AreAccepted};
-ghost use Rattle.mr_sockets.specs.Servers.{NodeServing, run};
+ghost use Rattle.mr_sockets.specs.Serving.{NodeServing, run};
 
 use crate::bounds::ServiceBounds;
 use crate::connections::{Service, serve_connections};
@@ -121,7 +121,7 @@ fn share(node: SeededNode) -> (SharedNode, Snapshot<SeededNode>)
 }
 
 /// Serves a node at a socket of its own, by the machine's time, and gives how many of its clients ended without a fault.
-pub(crate) fn run_node<R: Threads + Wait + time::Clock + Sync>(
+pub fn run_node<R: Threads + Wait + time::Clock + Sync>(
     rt: &R,
     alloc: Global,
     listener: OverListener,

@@ -21,13 +21,13 @@ impl Patience {
     };
 
     /// How long a client may be silent, where that is bounded.
-    pub(crate) fn for_client(self) -> Option<Duration> {
+    pub fn for_client(self) -> Option<Duration> {
         bound_of(Duration::from_secs(self.client_seconds))
     }
 }
 
 /// How long a leg may wait at a time, where that is bounded.
-pub(crate) fn leg_wait(millis: u64) -> Option<Duration> {
+pub fn leg_wait(millis: u64) -> Option<Duration> {
     bound_of(Duration::from_millis(millis))
 }
 

@@ -3,7 +3,7 @@ ghost use Rattle.std.specs.Prelude.{◌≡◌, ◌+◌, ◌≤◌, Some, Err, []
 ghost use Rattle.mr_proxy.specs.ProxyView.{IsFresh};
 ghost use Rattle.mr_desks.specs.declared.error.WorkerError.TheVariants.{TurnsSpent};
 ghost use Rattle.mr_sockets.specs.Listener.{AreAccepted};
-ghost use Rattle.mr_sockets.specs.Servers.{ProxyServing, run};
+ghost use Rattle.mr_sockets.specs.Serving.{ProxyServing, run};
 
 use crate::bounds::ServiceBounds;
 use crate::carriers::node_carriers;
@@ -193,7 +193,7 @@ fn share<N: Net + Copy>(core: ProxyCore) -> (SharedProxy<SocketCarrier<N>>, Snap
 
 /// Serves a fresh proxy at a socket of its own, by the machine's time and by carriers to the nodes of a routing, and gives how
 /// many of its clients ended without a fault.
-pub(crate) fn run_proxy<
+pub fn run_proxy<
     R: Net<Listener = TcpListener, Stream = TcpStream> + Threads + Wait + time::Clock + Sync,
 >(
     rt: &R,

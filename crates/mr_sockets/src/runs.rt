@@ -1,6 +1,6 @@
 //! The services that ran, which only contracts see.
 ghost use Rattle.std.specs.Prelude.{◌≡◌, [], ◌∷◌, ◌++◌, option_map};
-ghost use Rattle.mr_sockets.specs.Servers.{NodeServing, ProxyServing, run};
+ghost use Rattle.mr_sockets.specs.Serving.{NodeServing, ProxyServing, run};
 
 use crate::seeded_node::SeededNode;
 use mr_pools::Routing;
@@ -27,13 +27,13 @@ pub(crate) enum Runs {
 
 /// The services that ran, which contracts see as a list and the program doesn't keep.
 #[derive(Drop)]
-pub(crate) struct GhostRuns {
+pub struct GhostRuns {
     runs: Runs,
 }
 
 impl Model for GhostRuns {
     ghost use Rattle.std.specs.Prelude.{List};
-    ghost use Rattle.mr_sockets.specs.Servers.{Run};
+    ghost use Rattle.mr_sockets.specs.Serving.{Run};
     ghost use Rattle.mr_sockets.specs.Runs.{runs_of};
 
     ghost Value = { List Run };
@@ -53,7 +53,7 @@ fn again<T>(began: &Option<Snapshot<T>>) -> Option<Snapshot<Snapshot<T>>>
 
 impl GhostRuns {
     /// None yet.
-    pub(crate) fn new() -> GhostRuns
+    pub fn new() -> GhostRuns
         ensures { result ≡ [] }
     {
         GhostRuns {
@@ -62,12 +62,7 @@ impl GhostRuns {
     }
 
     /// One more, of a node.
-    pub(crate) fn add_node(
-        &mut self,
-        began: &Option<Snapshot<SeededNode>>,
-        turns: u64,
-        clients: u64,
-    )
+    pub fn add_node(&mut self, began: &Option<Snapshot<SeededNode>>, turns: u64, clients: u64)
         ensures { self.new ≡ self.old ++ run (NodeServing (option_map (λ s. s.value) began.now) turns) clients ∷ [] }
     {
         let before = Snapshot::of(&self.runs);
@@ -80,7 +75,7 @@ impl GhostRuns {
     }
 
     /// One more, of a proxy.
-    pub(crate) fn add_proxy(
+    pub fn add_proxy(
         &mut self,
         began: &Option<Snapshot<ProxyCore>>,
         routing: &Routing,

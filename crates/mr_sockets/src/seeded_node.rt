@@ -42,14 +42,14 @@ impl SeededNode {
     }
 
     /// How many items it holds at most.
-    pub(crate) fn capacity(&self) -> usize
+    pub fn capacity(&self) -> usize
         ensures { result ≡ self.now.cache.capacity }
     {
         self.capacity
     }
 
     /// The cache.
-    pub(crate) fn into_cache(self) -> CacheNode
+    pub fn into_cache(self) -> CacheNode
         ensures { result ≡ self.cache }
     {
         self.cache

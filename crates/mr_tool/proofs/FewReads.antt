@@ -18,8 +18,8 @@ use Rattle.mr_tool.specs.declared.fault.Fault.{Fault}
 use Rattle.mr_tool.specs.declared.fault.Fault.TheVariants.{Memory, Input, Output, File, Net, Plan, Node, Text}
 use Rattle.mr_tool.specs.Services.{NodeGives, ProxyGives}
 use Rattle.mr_tool.specs.WatchCommand.{WatchGives}
-use Rattle.mr_sockets.specs.Servers.{ServersView}
-use Rattle.mr_sockets.specs.declared.screen.Screen.{Screen}
+use Rattle.mr_servers.specs.Servers.{ServersView}
+use Rattle.mr_servers.specs.declared.screen.Screen.{Screen}
 use Rattle.mr_words.specs.declared.service_words.NodeValues.{NodeValues}
 use Rattle.mr_words.specs.declared.service_words.ProxyValues.{ProxyValues}
 use Rattle.mr_words.specs.declared.watch_words.WatchValues.{WatchValues}

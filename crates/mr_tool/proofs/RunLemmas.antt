@@ -24,9 +24,9 @@ use Rattle.mr_tool.specs.PlanCommand.{WritesPlan}
 use Rattle.mr_tool.specs.TimelineCommand.{WritesTimeline}
 use Rattle.mr_tool.specs.Run.{Gives, EndsWith, RunsCommand, Runs}
 use Rattle.mr_tool.specs.Services.{EndsService, NodeGives, ProxyGives, RunsService}
-use Rattle.mr_sockets.specs.Servers.{Asked, IsOneService, ServersView, clients_of, places_of}
-use Rattle.mr_sockets.specs.declared.screen.Screen.{Screen}
-use Rattle.mr_sockets.specs.declared.fault.OpenFault.{OpenFault}
+use Rattle.mr_servers.specs.Servers.{Asked, IsOneService, ServersView, clients_of, places_of}
+use Rattle.mr_servers.specs.declared.screen.Screen.{Screen}
+use Rattle.mr_servers.specs.declared.fault.OpenFault.{OpenFault}
 use Rattle.mr_tool.specs.Fault.{fault_line, fault_of_printing, readings_line}
 use Rattle.mr_tool.specs.Sources.{SourcesView}
 use Rattle.mr_tool.specs.VersionCommand.{VersionGives}

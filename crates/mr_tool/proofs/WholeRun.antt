@@ -2,7 +2,7 @@
 use Rattle.std.proofs.Common.{◌≡◌, ℕ, List, subst}
 use Rattle.mr_text.specs.Sink.{SinkView}
 use Rattle.mr_text.specs.Source.{SourceView}
-use Rattle.mr_sockets.specs.Servers.{ServersView}
+use Rattle.mr_servers.specs.Servers.{ServersView}
 use Rattle.mr_tool.specs.Devices.{IsToldAtOnce, Machine, machine}
 use Rattle.mr_tool.specs.Fault.{fault_line}
 use Rattle.mr_tool.specs.Run.{IsRunOf, Runs}

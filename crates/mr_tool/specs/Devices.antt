@@ -3,7 +3,7 @@ use Rattle.std.specs.Prelude.{◌≡◌, ℕ, List, Result}
 use Rattle.mr_text.specs.Source.{SourceView}
 use Rattle.mr_text.specs.Sink.{SinkView, IsOneWrite}
 use Rattle.mr_text.specs.declared.error.WriteFault.{WriteFault}
-use Rattle.mr_sockets.specs.Servers.{ServersView}
+use Rattle.mr_servers.specs.Servers.{ServersView}
 use Rattle.mr_tool.specs.Sources.{SourcesView}
 
 -- the four devices, as contracts see them

@@ -6,11 +6,11 @@ use Rattle.mr_node.specs.declared.error.NodeError.{NodeError}
 use Rattle.mr_node.specs.declared.error.NodeError.TheVariants.{ZeroCapacity, OutOfMemory}
 use Rattle.mr_proxy.specs.ProxyView.{ProxyView, fresh_proxy}
 use Rattle.mr_sockets.specs.SeededNode.{SeededView, IsSeededNode}
-use Rattle.mr_sockets.specs.Servers.{Asked, NodeAt, ProxyAt, ServersView, DrawsSeed, IsOneService, Places, places_of, clients_of}
+use Rattle.mr_servers.specs.Servers.{Asked, NodeAt, ProxyAt, ServersView, DrawsSeed, IsOneService, Places, places_of, clients_of}
 use Rattle.mr_sockets.specs.declared.bounds.ServiceBounds.{ServiceBounds}
-use Rattle.mr_sockets.specs.declared.fault.OpenFault.{OpenFault}
-use Rattle.mr_sockets.specs.declared.fault.OpenFault.TheVariants as socket
-use Rattle.mr_sockets.specs.declared.fault.SeedFault.{SeedFault}
+use Rattle.mr_servers.specs.declared.fault.OpenFault.{OpenFault}
+use Rattle.mr_servers.specs.declared.fault.OpenFault.TheVariants as socket
+use Rattle.mr_servers.specs.declared.fault.SeedFault.{SeedFault}
 use Rattle.mr_text.specs.Sink.{SinkView, IsOneWrite}
 use Rattle.mr_text.specs.declared.error.WriteFault.{WriteFault}
 use Rattle.mr_tool.specs.Input.{LoadsConfig}

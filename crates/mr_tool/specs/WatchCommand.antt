@@ -5,7 +5,7 @@ use Rattle.mr_digest.specs.Digest.{IsDigest}
 use Rattle.mr_looks.specs.Watch.{WatchesConfig, fleet_of}
 use Rattle.mr_looks.specs.WatchText.{manner_of}
 use Rattle.mr_printing.specs.declared.printing.PrintFault.{PrintFault}
-use Rattle.mr_sockets.specs.declared.screen.Screen.{Screen}
+use Rattle.mr_servers.specs.declared.screen.Screen.{Screen}
 use Rattle.mr_words.specs.Words.{addresses_in}
 use Rattle.mr_words.specs.declared.watch_words.WatchValues.{WatchValues}
 use Rattle.mr_tool.specs.Devices.{Devices}

@@ -9,7 +9,7 @@ ghost use Rattle.mr_tool.specs.Run.{IsRunOf};
 use crate::fault::Fault;
 use crate::run::{run_words, tell_fault, tell_not_text};
 use crate::sources::Sources;
-use mr_sockets::HostServers;
+use mr_servers::HostServers;
 use mr_text::{Sink, Source};
 use std::alloc::{AllocError, Global};
 use std::env::Args;

@@ -4,7 +4,7 @@ ghost use Rattle.std.specs.Prelude.{◌≡◌};
 use mr_configs::PlanError;
 use mr_node::NodeError;
 use mr_printing::PrintFault;
-use mr_sockets::SeedFault;
+use mr_servers::SeedFault;
 use mr_text::{ReadFault, Sink, TextError};
 use mr_words::{node_line, plan_line, text_line};
 use std::alloc::AllocError;

@@ -15,7 +15,7 @@ use crate::fault::Fault;
 use crate::services::{run_node, run_proxy};
 use crate::sources::Sources;
 use crate::watch::run_watch;
-use mr_sockets::HostServers;
+use mr_servers::HostServers;
 use mr_text::{Sink, Source};
 use mr_words::{Wanted, WordsFault, read_words};
 use std::alloc::Global;

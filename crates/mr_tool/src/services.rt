@@ -1,7 +1,7 @@
 //! The commands that serve clients: what is asked of the machine, and what is printed once all clients have ended.
 ghost use Rattle.std.specs.Prelude.{◌≡◌, Err, IfOk, IsSome, MatchResult};
 ghost use Rattle.mr_proxy.specs.ProxyView.{IsFresh};
-ghost use Rattle.mr_sockets.specs.Servers.{IsOneService, ProxyAt};
+ghost use Rattle.mr_servers.specs.Servers.{IsOneService, ProxyAt};
 ghost use Rattle.mr_text.specs.Sink.{SinkView};
 ghost use Rattle.mr_text.specs.Source.{SourceView};
 ghost use Rattle.mr_tool.specs.Devices.{devices};
@@ -19,7 +19,8 @@ use mr_counting::LegTotals;
 use mr_node::NodeError;
 use mr_printing::{push_number, write_at_once};
 use mr_proxy::ProxyCore;
-use mr_sockets::{HostServers, OpenFault, Patience, Scraped, SeededNode, ServiceBounds};
+use mr_servers::{HostServers, OpenFault, Scraped};
+use mr_sockets::{Patience, SeededNode, ServiceBounds};
 use mr_text::Sink;
 use mr_words::{NodeValues, ProxyValues, version_number};
 use std::alloc::{AllocError, Global};

@@ -11,7 +11,7 @@ use crate::input::load_whole_config;
 use crate::sources::Sources;
 use crate::watched_words::check_words;
 use mr_looks::watch;
-use mr_sockets::HostServers;
+use mr_servers::HostServers;
 use mr_text::Sink;
 use mr_words::WatchValues;
 use std::alloc::Global;

@@ -3,7 +3,8 @@ use super::plan::config;
 use super::pools::routing;
 use super::text::get;
 use mr_clock::FixedClock;
-use mr_sockets::{HostServers, OverListener};
+use mr_servers::HostServers;
+use mr_sockets::OverListener;
 use mr_text::{OverReader, OverWriter};
 use mr_tool::{
     HostFiles, SocketCarrier, WRONG_WORDS, Wanted, read_words, run_words, serve_node, serve_proxy,

@@ -2,7 +2,7 @@
 //! for threads.
 use super::is;
 use crate::tests::tool::files_at::{FilesAt, Place};
-use mr_sockets::HostServers;
+use mr_servers::HostServers;
 use mr_text::{OverReader, OverWriter, Source};
 use mr_tool::{Sources, run_words};
 use std::alloc::Global;

@@ -2,7 +2,7 @@
 use super::{PLACES, Ran, expect_run, is};
 use crate::tests::must;
 use crate::tests::tool::files_at::FilesAt;
-use mr_sockets::HostServers;
+use mr_servers::HostServers;
 use mr_text::{OverReader, OverWriter};
 use mr_tool::run_arguments;
 use std::alloc::Global;

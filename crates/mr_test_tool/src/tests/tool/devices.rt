@@ -1,7 +1,7 @@
 //! What is left where an output fails.
 use super::{ACCEPTED, HELD, PLACES, SCRIPT, TRANSCRIPT, UPGRADED, is_in};
 use crate::tests::tool::files_at::FilesAt;
-use mr_sockets::HostServers;
+use mr_servers::HostServers;
 use mr_test_support::TakesHalf;
 use mr_text::{OverReader, OverWriter};
 use mr_tool::run_words;

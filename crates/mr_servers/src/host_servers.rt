@@ -1,23 +1,18 @@
 //! The services of this machine.
 ghost use Rattle.std.specs.Prelude.{◌≡◌};
 ghost use Rattle.mr_proxy.specs.ProxyView.{IsFresh};
-ghost use Rattle.mr_sockets.specs.Servers.{DrawsSeed, IsOneService, NodeAt, ProxyAt, clients_at, told_at};
+ghost use Rattle.mr_servers.specs.Servers.{DrawsSeed, IsOneService, NodeAt, ProxyAt, clients_at, told_at};
 
 use crate::asking::{metrics_at, stats_at};
-use crate::bounds::ServiceBounds;
 use crate::fault::{OpenFault, SeedFault};
-use crate::listening::{HostListens, open};
-use crate::node_service::run_node;
-use crate::proxy_service::run_proxy;
-use crate::runs::GhostRuns;
 use crate::screen::Screen;
-use crate::seeded_node::SeededNode;
 use crate::seeds::GhostSeeds;
 use crate::told_node::run_told_node;
 use crate::told_proxy::run_told_proxy;
 use mr_counting::{LegTotals, NodeIdentity};
 use mr_pools::Routing;
 use mr_proxy::ProxyCore;
+use mr_sockets::{GhostRuns, HostListens, SeededNode, ServiceBounds, open, run_node, run_proxy};
 use mr_text::GhostCount;
 use std::alloc::{AllocError, Global};
 use std::hash::RandomState;
@@ -97,7 +92,7 @@ impl<
         + RandomSource
         + Sync,
 > Model for HostServers<'a, R> {
-    ghost use Rattle.mr_sockets.specs.Servers.{ServersView};
+    ghost use Rattle.mr_servers.specs.Servers.{ServersView};
 
     ghost Value = { ServersView };
 
@@ -113,7 +108,7 @@ impl<
         + RandomSource
         + Sync,
 > HostServers<'a, R> {
-    ghost use Rattle.mr_sockets.specs.Servers.{no_terminal, servers_on};
+    ghost use Rattle.mr_servers.specs.Servers.{no_terminal, servers_on};
 
     /// The sockets, threads, time and random source of a machine, of which nothing was asked yet. Its output goes to no terminal.
     pub fn new(rt: &'a R) -> HostServers<'a, R>

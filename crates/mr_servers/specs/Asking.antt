@@ -1,5 +1,5 @@
 -- What is given of an answer.
-use Rattle.std.specs.Prelude.{◌≡◌, ⊤, ℕ, Option, Some, None, Result, Ok, Err}
+use Rattle.std.specs.Prelude.{◌≡◌, ⊤, Option, Some, None, Result, Ok, Err}
 use Rattle.mr_http.specs.declared.error.FetchFault.{FetchFault}
 use Rattle.mr_http.specs.declared.error.FetchFault.TheVariants.{OutOfMemory}
 

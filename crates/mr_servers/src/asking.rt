@@ -1,10 +1,10 @@
 //! Services that are asked what they tell of themselves. No contract speaks of what they answer, nor of how long it takes.
 ghost use Rattle.std.specs.Prelude.{◌≡◌, Ok, Err};
-ghost use Rattle.mr_sockets.specs.Asking.{GivesAnswer};
+ghost use Rattle.mr_servers.specs.Asking.{GivesAnswer};
 
-use crate::address::{address_of, node_address};
 use crate::until::{UntilThen, left_until};
 use mr_http::{FetchFault, ask_stats, fetch_metrics};
+use mr_sockets::{address_of, node_address};
 use mr_text::{OverReader, OverWriter};
 use std::alloc::{AllocError, Global};
 use std::net::{Net, SocketAddr, SocketAddrV4, TcpStream};

@@ -3,15 +3,8 @@ ghost use Rattle.std.specs.Prelude.{◌≡◌, ◌+◌, ◌≤◌, Some, Err, []
 ghost use Rattle.mr_proxy.specs.ProxyView.{IsFresh};
 ghost use Rattle.mr_desks.specs.declared.error.WorkerError.TheVariants.{TurnsSpent};
 ghost use Rattle.mr_sockets.specs.Listener.{AreAccepted};
-ghost use Rattle.mr_sockets.specs.Servers.{ProxyServing, run};
+ghost use Rattle.mr_sockets.specs.Serving.{ProxyServing, run};
 
-use crate::bounds::ServiceBounds;
-use crate::carriers::node_carriers;
-use crate::connections::Service;
-use crate::listener::{Listener, OverListener};
-use crate::patience::leg_wait;
-use crate::runs::GhostRuns;
-use crate::socket_carrier::SocketCarrier;
 use crate::telling::{CountedService, serve_and_tell};
 use mr_clock::{Clock, SystemClock};
 use mr_counting::{
@@ -22,6 +15,10 @@ use mr_desks::{Carrier, Carriers, Desk, DirectCarriers};
 use mr_pools::Routing;
 use mr_proxy::ProxyCore;
 use mr_sessions::{Served, serve_client};
+use mr_sockets::{
+    GhostRuns, Listener, OverListener, Service, ServiceBounds, SocketCarrier, leg_wait,
+    node_carriers,
+};
 use mr_text::{OverReader, OverWriter, Sink, Source};
 use std::alloc::Global;
 use std::net::{Net, TcpListener, TcpStream};

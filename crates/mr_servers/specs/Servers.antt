@@ -4,13 +4,14 @@ use Rattle.std.specs.declared.net.socket_addr.SocketAddrV4.{SocketAddrV4}
 use Rattle.std.specs.declared.random_state.RandomState.{RandomState}
 use Rattle.mr_pools.specs.Routing.{RoutingView}
 use Rattle.mr_proxy.specs.ProxyView.{ProxyView}
-use Rattle.mr_sockets.specs.Address.{IsAddress}
+use Rattle.mr_sockets.specs.Listening.{Listens, ListensNowhere}
 use Rattle.mr_sockets.specs.SeededNode.{SeededView}
+use Rattle.mr_sockets.specs.Serving.{NodeServing, ProxyServing, Run, run}
 use Rattle.mr_sockets.specs.declared.bounds.ServiceBounds.{ServiceBounds}
-use Rattle.mr_sockets.specs.declared.fault.OpenFault.{OpenFault}
-use Rattle.mr_sockets.specs.declared.fault.OpenFault.TheVariants.{Net, Metrics}
-use Rattle.mr_sockets.specs.declared.fault.SeedFault.{SeedFault}
-use Rattle.mr_sockets.specs.declared.screen.Screen.{Screen}
+use Rattle.mr_servers.specs.declared.fault.OpenFault.{OpenFault}
+use Rattle.mr_servers.specs.declared.fault.OpenFault.TheVariants.{Net, Metrics}
+use Rattle.mr_servers.specs.declared.fault.SeedFault.{SeedFault}
+use Rattle.mr_servers.specs.declared.screen.Screen.{Screen}
 
 -- where a service listens for clients, and where its metrics are told, if they are
 pub record Places : Type 0 where
@@ -40,22 +41,6 @@ places_of (ProxyAt places proxy routing bounds) = places
 abbrev pub clients_of : Asked → ℕ
 clients_of (NodeAt places node bounds) = bounds.clients
 clients_of (ProxyAt places proxy routing bounds) = bounds.clients
-
--- what each connection is served by
-pub data Serving : Type 0 where
-  -- a node as it was at first, where that is known, with the most reads of a connection
-  NodeServing : (node : Option SeededView) (turns : ℕ) → Serving
-  -- a proxy as it was at first, where that is known, the routing that its carriers are made of, and the most reads
-  ProxyServing : (proxy : Option ProxyView) (routing : RoutingView) (turns : ℕ) → Serving
-
--- a service that ran
-pub record Run : Type 0 where
-  pub serving : Serving
-  -- how many connections were asked for
-  pub clients : ℕ
-
-abbrev pub run : Serving → ℕ → Run
-run serving clients = record { serving = serving; clients = clients }
 
 -- the service that runs where this one is asked for
 abbrev pub run_of : Asked → Run
@@ -96,22 +81,6 @@ seeds_after seeds (Err fault) = seeds
 abbrev pub DrawsSeed : ServersView → Result RandomState SeedFault → ServersView → Type 0
 DrawsSeed old result new =
     new ≡ record old { seeds = seeds_after old.seeds result; failures = failures_after old.failures result }
-
--- one socket was asked for, at the address that the text is
-pub record Listens (text : List ℕ) (old new : List SocketAddrV4) : Type 0 where
-  pub address : SocketAddrV4
-  pub is_address : IsAddress text address
-  pub once : new ≡ old ++ address ∷ []
-
--- the text is no address, and no socket was asked for
-pub record ListensNowhere (text : List ℕ) (old new : List SocketAddrV4) : Type 0 where
-  pub no_address : (address : SocketAddrV4) → ¬ IsAddress text address
-  pub none : new ≡ old
-
--- a socket that listens was asked for, and was had or not
-abbrev pub Opens : {L : Type 0} → List ℕ → List SocketAddrV4 → Option L → List SocketAddrV4 → Type 0
-Opens text old (Some listener) new = Listens text old new
-Opens text old None new = Listens text old new ⊎ ListensNowhere text old new
 
 -- a socket was asked for at the address of clients, and then one at that of metrics, if there is one
 abbrev pub ListensAtBoth : List ℕ → Option (List ℕ) → List SocketAddrV4 → List SocketAddrV4 → Type 0

@@ -1,16 +1,12 @@
 //! The service of a node that tells its metrics.
 ghost use Rattle.std.specs.Prelude.{◌≡◌, ◌+◌, ◌≤◌, Some, Err, [], ◌∷◌, ◌++◌, option_map};
-ghost use Rattle.mr_sockets.specs.Servers.{NodeServing, run};
+ghost use Rattle.mr_sockets.specs.Serving.{NodeServing, run};
 
-use crate::bounds::ServiceBounds;
-use crate::connections::Service;
-use crate::listener::OverListener;
-use crate::runs::GhostRuns;
-use crate::seeded_node::SeededNode;
 use crate::telling::{CountedService, serve_and_tell};
 use mr_clock::{Clock, SystemClock};
 use mr_counting::{ClockWatch, CountedNode, NodeIdentity, NodeTeller, ServiceCounts, WatchedClock};
 use mr_node::{Ended, NodeError, serve};
+use mr_sockets::{GhostRuns, OverListener, SeededNode, Service, ServiceBounds};
 use mr_text::{OverReader, OverWriter, Sink, Source};
 use std::alloc::Global;
 use std::net::TcpStream;

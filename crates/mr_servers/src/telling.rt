@@ -1,14 +1,12 @@
 //! The service of a listener's connections, beside which metrics are told.
 ghost use Rattle.std.specs.Prelude.{◌≡◌, [], ◌∷◌, ◌++◌};
 ghost use Rattle.mr_sockets.specs.Listener.{AreAccepted};
-ghost use Rattle.mr_sockets.specs.Servers.{run};
+ghost use Rattle.mr_sockets.specs.Serving.{run};
 
-use crate::connections::{Service, accept_clients};
-use crate::listener::{Listener, OverListener};
-use crate::runs::GhostRuns;
 use crate::scrapes::{ScrapeState, serve_scrapers};
 use mr_counting::ServiceCounts;
 use mr_http::Tells;
+use mr_sockets::{GhostRuns, Listener, OverListener, Service, accept_clients};
 use std::alloc::Global;
 use std::net::TcpStream;
 use std::sync::Wait;

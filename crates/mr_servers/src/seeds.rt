@@ -23,7 +23,7 @@ pub(crate) struct GhostSeeds {
 impl Model for GhostSeeds {
     ghost use Rattle.std.specs.Prelude.{List};
     ghost use Rattle.std.specs.declared.random_state.RandomState.{RandomState};
-    ghost use Rattle.mr_sockets.specs.Seeds.{seeds_of};
+    ghost use Rattle.mr_servers.specs.Seeds.{seeds_of};
 
     ghost Value = { List RandomState };
 

@@ -1,0 +1,18 @@
+//! The services of the program on this machine, from the first moment to the last connection, with metrics that they tell or
+//! without; and what a watch asks of the machine.
+#![tactic(auto)]
+
+mod asking;
+mod fault;
+mod host_servers;
+mod scrapes;
+mod screen;
+mod seeds;
+mod telling;
+mod told_node;
+mod told_proxy;
+mod until;
+
+pub use fault::{OpenFault, SeedFault};
+pub use host_servers::{HostServers, Scraped};
+pub use screen::Screen;
