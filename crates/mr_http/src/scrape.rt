@@ -98,7 +98,8 @@ pub fn serve_scrape<T: Tells, S: Source, W: Sink>(
     reader: &mut S,
     writer: &mut W,
 ) -> Result<(), ScrapeFault>
-    ensures scraped { Scrapes (T.told tells.now) (S.told reader.old) (W.told writer.old) result (S.told reader.new) (W.told writer.new) }
+    ensures scraped { Scrapes (T.told tells.now) (S.told reader.old) (W.told writer.old) result
+        (S.told reader.new) (W.told writer.new) }
     ensures reads { (S.told reader.new).reads ≤ (S.told reader.old).reads + most_reads }
 {
     let text = match read_head(alloc, reader) {

@@ -57,8 +57,8 @@ fn write_look<O: Sink>(
     schedule: Schedule,
     output: &mut O,
 ) -> Result<Found, PrintFault>
-    ensures { WritesLook manner (fleet_seen schedule expected.now (sight seen.now posts.now)) first before (sight seen.now posts.now)
-        (O.told output.old) result (O.told output.new) }
+    ensures { WritesLook manner (fleet_seen schedule expected.now (sight seen.now posts.now)) first before
+        (sight seen.now posts.now) (O.told output.old) result (O.told output.new) }
 {
     let earlier = earlier_in(alloc, first, posts)?;
     let proxies = proxies_in(alloc, posts)?;

@@ -150,7 +150,8 @@ fn push_family_of_requests(
     help: &str,
     rows: &[RequestCount],
 ) -> Result<(), AllocError>
-    ensures { OnOk result (text.new.items ≡ text.old.items ++ (family_head name.now help.now Counter ++ request_samples name.now rows.now)) }
+    ensures { OnOk result (text.new.items ≡ text.old.items
+        ++ (family_head name.now help.now Counter ++ request_samples name.now rows.now)) }
 {
     push_family(text, name, help, Kind::Counter)?;
     push_each_request(text, name, rows)?;
@@ -186,7 +187,8 @@ fn push_family_of_answers(
     help: &str,
     rows: &[AnswerCount],
 ) -> Result<(), AllocError>
-    ensures { OnOk result (text.new.items ≡ text.old.items ++ (family_head name.now help.now Counter ++ answer_samples name.now rows.now)) }
+    ensures { OnOk result (text.new.items ≡ text.old.items
+        ++ (family_head name.now help.now Counter ++ answer_samples name.now rows.now)) }
 {
     push_family(text, name, help, Kind::Counter)?;
     push_each_answer(text, name, rows)?;
@@ -249,7 +251,8 @@ fn push_family_of_legs(
     help: &str,
     rows: &[LegCount<'_>],
 ) -> Result<(), AllocError>
-    ensures { OnOk result (text.new.items ≡ text.old.items ++ (family_head name.now help.now Counter ++ leg_samples name.now rows.now)) }
+    ensures { OnOk result (text.new.items ≡ text.old.items
+        ++ (family_head name.now help.now Counter ++ leg_samples name.now rows.now)) }
 {
     push_family(text, name, help, Kind::Counter)?;
     push_each_leg(text, name, rows)?;

@@ -172,7 +172,8 @@ fn push_phase_at(
     help: &str,
     in_force: PhaseName,
 ) -> Result<(), AllocError>
-    ensures { OnOk result (text.new.items ≡ text.old.items ++ (family_head name.now help.now Gauge ++ phase_states name.now in_force)) }
+    ensures { OnOk result (text.new.items ≡ text.old.items
+        ++ (family_head name.now help.now Gauge ++ phase_states name.now in_force)) }
 {
     push_family(text, name, help, Kind::Gauge)?;
     push_states(text, name, in_force)?;

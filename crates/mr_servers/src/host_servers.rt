@@ -302,7 +302,8 @@ impl<
         bounds: ServiceBounds,
     ) -> Result<u64, OpenFault>
         requires { IsFresh core }
-        ensures { IsOneService (ProxyAt (told_at listen.now scraped.entry.address.now) core routing.now bounds) self.old result self.new }
+        ensures { IsOneService (ProxyAt (told_at listen.now scraped.entry.address.now) core routing.now bounds)
+            self.old result self.new }
     {
         let wait = bounds.patience.for_client();
         let Some(listener) = open(&mut self.listens, listen, wait) else {

@@ -148,7 +148,7 @@ fn run_wanted<
 /// Faults are looked for in this order: the words; then for a plan the file, the configuration, the request; for a timeline
 /// the file, the configuration; for a run, a check or an upgrade the file, or the input where none is named, and then the script
 /// or the transcript; for a node its capacity, the seed and the socket; for a proxy the file, the configuration, the socket; for a
-/// watch the file, the configuration; last the output.
+/// watch the file, the configuration, the addresses; last the output.
 pub fn run_words<
     R: Net<Listener = TcpListener, Stream = TcpStream>
         + Threads
