@@ -87,11 +87,11 @@ def read_edits(place):
             edits[-1].cases.append(text)
         elif word == "old" and path and text:
             old = text
-        elif word == "new" and old is not None:
+        elif word == "new" and old not in (None, text):
             edits[-1].changes.append((path, old, text))
             old = None
         elif word:
-            raise BadEdit(f"line {number}: `{word}:` lacks a {'line `old:`' if word == 'new' else 'file or a text'}")
+            raise BadEdit(f"line {number}: `{word}:` {'gives no other text' if word == 'new' else 'lacks a file or a text'}")
     if empty := [edit.name for edit in edits if not edit.changes]:
         raise BadEdit(f"{empty[0]} changes nothing")
     return edits
