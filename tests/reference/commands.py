@@ -1,7 +1,7 @@
 """What the program answers: from its words, files and standard input to its status, output and faults.
 
-Written from README.md, "Usage", and docs/FORMATS.md, "What is printed". Of the words only those shapes are known that drawn
-cases have. Faults are looked for in the order words, file, configuration or script, request.
+Written from docs/OPERATING.md, "The commands", and docs/FORMATS.md, "What is printed". Of the words only those shapes are known
+that drawn cases have. Faults are looked for in the order words, file, configuration or script, request.
 """
 import re
 from typing import NamedTuple

@@ -1,4 +1,5 @@
-"""What is read from a JSON value, each refusal in its place. Written from docs/FORMATS.md and docs/DEFINITIONS.md, `mr_plan`.
+"""What is read from a JSON value, each refusal in its place. Written from docs/FORMATS.md and what docs/definitions prints
+of mr_configs and mr_scripts.
 
 An object is looked at in this order: it is none (WrongKind), it has a key that isn't known (UnknownKey), it lacks one
 (MissingKey); then its members.

@@ -1,4 +1,4 @@
-"""What happened in a fleet, as one list of entries, and its judge. Written from docs/DEFINITIONS.md, `mr_history`.
+"""What happened in a fleet, as one list of entries, and its judge. Written from what docs/definitions prints of mr_history.
 
 A history is safe where each hit is fresh: its item was stored before the answer and after the issue of each delete of its key
 that was acknowledged before the get was issued.

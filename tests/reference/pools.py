@@ -1,4 +1,7 @@
-"""Nodes' names, pools, and the node of a key. Written from docs/FORMATS.md, "Configurations", and docs/DEFINITIONS.md."""
+"""Nodes' names, pools, and the node of a key.
+
+Written from docs/FORMATS.md, "Configurations", and what docs/definitions prints of mr_pools.
+"""
 import re
 from typing import NamedTuple, Tuple
 

@@ -1,6 +1,6 @@
 """One proxy: its requests become legs, and what comes back one answer.
 
-Written from docs/DEFINITIONS.md (`mr_proxy`, `mr_join`) and docs/FORMATS.md, "What a play does".
+Written from what docs/definitions prints of mr_proxy and mr_join and docs/FORMATS.md, "What a play does".
 """
 from typing import NamedTuple
 

@@ -1,6 +1,6 @@
 """A fleet, event by event: clocks, messages, replies, restarts, and the history of what happened.
 
-Written from docs/FORMATS.md, "What a play does", and docs/DEFINITIONS.md, `mr_world`.
+Written from docs/FORMATS.md, "What a play does", and what docs/definitions prints of mr_world.
 """
 from typing import NamedTuple
 

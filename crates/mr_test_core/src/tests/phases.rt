@@ -2,7 +2,8 @@
 use super::{count_is, holds, is, number_is, says};
 use crate::tests::must;
 use mr_phases::{
-    Judged, PhaseName, RequestKind, Schedule, ScheduleError, Side, Sides, judge, laws,
+    Judged, Phase, PhaseKind, PhaseName, RequestKind, Schedule, ScheduleError, Side, Sides, judge,
+    laws,
 };
 use std::alloc::Global;
 use std::fmt::Display;
@@ -78,6 +79,26 @@ fn goes_to(rt: &impl Abort, row: usize, judged: &Judged, it: &Row) {
     are_sides(rt, row, judged.sides(RequestKind::Delete), it.4, it.5);
 }
 
+/// Asserts what the type of a phase says, and a copy of the phase.
+fn is_typed<P: PhaseKind>(rt: &impl Abort, row: usize, phase: &Phase<P>, it: &Row) {
+    is(rt, row, phase.name(), it.1);
+    is(rt, row, phase.read_side(), it.3);
+    is(rt, row, phase.hop(), 0);
+    let copied = phase.copy();
+    number_is(rt, row, copied.reading(), it.0);
+    holds(rt, row, copied.schedule().same_as(&phase.schedule()), true);
+}
+
+/// Asserts what the phase of a judgement says as a type.
+fn says_by_type(rt: &impl Abort, row: usize, judged: &Judged, it: &Row) {
+    match judged {
+        Judged::OldOnly(phase) => is_typed(rt, row, phase, it),
+        Judged::BothReadOld(phase) => is_typed(rt, row, phase, it),
+        Judged::BothReadNew(phase) => is_typed(rt, row, phase, it),
+        Judged::NewOnly(phase) => is_typed(rt, row, phase, it),
+    }
+}
+
 /// The sides that a delete goes to by its type.
 fn by_type(judged: Judged) -> (Side, Option<Side>) {
     let [first, second] = match judged {
@@ -96,6 +117,7 @@ fn is_row(rt: &impl Abort, alloc: Global, row: usize, schedule: Schedule, it: &R
     number_is(rt, row, judged.reading(), it.0);
     holds(rt, row, judged.schedule().same_as(&schedule), true);
     goes_to(rt, row, &judged, it);
+    says_by_type(rt, row, &judged, it);
     is(rt, row, by_type(judged), (it.4, it.5));
     is_printed(rt, alloc, row, &it.1, it.2);
 }
