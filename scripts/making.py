@@ -75,16 +75,18 @@ def gigabytes(count):
 
 
 @contextlib.contextmanager
-def turn(path, work):
-    """Lets one call at a time do this work: the others say so, and wait."""
-    lock = os.open(path, os.O_RDONLY)
+def turn(folder, who):
+    """Waits while somebody else has the lock of a folder, and says who that is. It gives whether it had to wait."""
+    lock = os.open(folder, os.O_RDONLY)
     try:
+        has_waited = False
         try:
             fcntl.flock(lock, fcntl.LOCK_EX | fcntl.LOCK_NB)
         except BlockingIOError:
-            say(f"another call is {work}: waiting for it")
+            has_waited = True
+            say(f"{who}: waiting for it")
             fcntl.flock(lock, fcntl.LOCK_EX)
-        yield
+        yield has_waited
     finally:
         os.close(lock)
 
@@ -109,8 +111,8 @@ class Progress:
         if now < self.next:
             return
         if self.redraws:
-            width = os.get_terminal_size(sys.stderr.fileno()).columns
-            print(f"\r{f'migctl: {on_terminal}'[: max(width - 1, 20)]}\033[K", end="", file=sys.stderr, flush=True)
+            width = os.get_terminal_size(sys.stderr.fileno()).columns or 80
+            print(f"\r{f'migctl: {on_terminal}'[: width - 1]}\033[K", end="", file=sys.stderr, flush=True)
             self.next = now + REDRAWN_AFTER
         else:
             say(elsewhere)

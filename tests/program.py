@@ -1,4 +1,4 @@
-"""Where the program under test is: what MIGCTL names, or what `./migctl` at the top builds."""
+"""Where the program under test is: what MIGCTL names, or the proved one of these very sources."""
 import os
 import pathlib
 import subprocess
@@ -11,13 +11,12 @@ SANITIZED = "quarantine_size_mb=0:thread_local_quarantine_size_kb=0"
 
 
 def path():
-    """The program, as an absolute path. `./migctl` is run once, so that the program is built where it isn't yet, and then left
-    out: it looks over all sources at each call."""
+    """The program, as an absolute path. `./migctl prove` is run, which is silent where the proved one is there, and makes it where it
+    isn't; ./migctl itself is left out, since it looks over all sources at each call, and may run one that isn't proved."""
     if "MIGCTL_UNPROVED" in os.environ:
         os.environ.setdefault("ASAN_OPTIONS", SANITIZED)
     if "MIGCTL" in os.environ:
         return str(pathlib.Path(os.environ["MIGCTL"]).resolve())
-    built = subprocess.run([ROOT / "migctl", "timeline", "--config", ROOT / "examples/fleet.json"], stdout=subprocess.DEVNULL)
-    if built.returncode != 0:
-        sys.exit("./migctl isn't built")
+    if subprocess.run([ROOT / "migctl", "prove"]).returncode != 0:
+        sys.exit("there is no proved program")
     return str(BUILT)
