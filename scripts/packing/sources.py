@@ -1,13 +1,15 @@
 """What a package is made of: the proved program of these sources, their version and moment, and the licences of what it holds."""
+import hashlib
 import os
 import pathlib
 import re
 import shutil
 import subprocess
 
-ROOT = pathlib.Path(__file__).resolve().parent.parent.parent
-PROVED = ROOT / "crates/migctl/out/migctl"
-ASIDE = ("out", "must-fail", "mutants")  # folders of a crate that are no sources of the program
+from making import OUT, ROOT, sources_sum
+
+PROVED = OUT / "migctl"
+WRITTEN = OUT / "proved"  # by scripts/prove: the sum of the sources, and that of the program
 
 
 class NoProgram(Exception):
@@ -15,15 +17,11 @@ class NoProgram(Exception):
 
 
 def is_proved():
-    """Whether the program that `./migctl` proved and built is that of these sources: none of them is newer."""
-    if not os.access(PROVED, os.X_OK):
+    """Whether the program that stands there is the one that `./migctl prove` made of these very sources: it wrote down of which
+    sources it is, and which program."""
+    if not (PROVED.is_file() and WRITTEN.is_file()):
         return False
-    built = PROVED.stat().st_mtime_ns
-    files = [ROOT / "crates.txt"]
-    for folder, below, names in os.walk(ROOT / "crates"):
-        below[:] = [name for name in below if name not in ASIDE]
-        files += [pathlib.Path(folder, name) for name in names]
-    return all(file.stat().st_mtime_ns <= built for file in files)
+    return WRITTEN.read_text(encoding="utf-8").split() == [sources_sum(), hashlib.sha256(PROVED.read_bytes()).hexdigest()]
 
 
 def program(unproved):
@@ -36,7 +34,7 @@ def program(unproved):
     if named:
         raise NoProgram("MIGCTL names a program of which nobody knows whether it is proved: --unproved makes a package that says so")
     if not is_proved():
-        raise NoProgram(f"there is no proved program of these sources at {PROVED.relative_to(ROOT)}: ./migctl makes it")
+        raise NoProgram(f"there is no proved program of these sources at {PROVED.relative_to(ROOT)}: ./migctl prove makes it")
     return PROVED
 
 
