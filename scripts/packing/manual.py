@@ -65,7 +65,7 @@ def paragraphs(notes):
 
 def examples(texts):
     shown = [plain(text) for text in texts]
-    return [".PP", "Example:" if len(texts) == 1 else "Examples:", ".PP", ".EX", *(f"  {text}" for text in shown), ".EE"]
+    return [".PP", "Example:", ".PP", ".EX", *(f"  {text}" for text in shown), ".EE"]
 
 
 def command(name, it):
