@@ -32,7 +32,7 @@ def program(unproved):
     if unproved:
         raise NoProgram("--unproved is for a program that MIGCTL names")
     if named:
-        raise NoProgram("MIGCTL names a program of which nobody knows whether it is proved: --unproved makes a package that says so")
+        raise NoProgram("nobody knows whether the program that MIGCTL names is proved: --unproved makes a package that says so")
     if not is_proved():
         raise NoProgram(f"there is no proved program of these sources at {PROVED.relative_to(ROOT)}: ./migctl prove makes it")
     return PROVED
