@@ -11,7 +11,7 @@ FILES = (
     ("/usr/lib/systemd/system/migctl-proxy@.service", "the unit of a proxy, for any NAME"),
     ("/usr/lib/systemd/system/migctl-node@.service", "the unit of a node, for any NAME"),
     (SHARE, "how a migration is run (OPERATING.md), and the formats, the protocol and the metrics"),
-    (f"{SHARE}/examples", "configurations, scripts, files for /etc/default, and what Prometheus and Grafana are given"),
+    (f"{SHARE}/examples", "configurations, scripts, files for /etc, and what Prometheus and Grafana are given"),
 )
 SEE_ALSO = ("memcached(1)", "prometheus(1)", "systemd.unit(5)", "chronyc(1)")
 WIDTH = 78  # of a line of roff
