@@ -1,7 +1,7 @@
 #!/usr/bin/env python3
 """Builds the program of a checkout without any proof, by the toolchain's command that tries a program.
 
-Usage: tests/live/building.py FILE   writes the program of this checkout to a file, in a minute and a half
+Usage: tests/live/building.py FILE   copies the one of this checkout that scripts/checked makes sure of to a file
 """
 import glob
 import os
@@ -23,8 +23,8 @@ class NotBuilt(Exception):
     """The program couldn't be built: what the toolchain said."""
 
 
-def build(checkout, program):
-    """Writes the program of a checkout to a file.
+def build(checkout, program, tell=lambda: None):
+    """Writes the program of a checkout to a file, and tells every moment that it still builds.
 
     The toolchain gives no unproved program out. It builds one in a folder of its own and runs it, here as a node of one
     client. Once that listens, the program is whole: it is copied while that client is connected, and what runs is told to end.
@@ -42,7 +42,7 @@ def build(checkout, program):
                 stderr=said,
             )
         try:
-            with connected(trying, place.address(), log):
+            with connected(trying, place.address(), log, tell):
                 shutil.copy(one_program(folder), program)
             os.chmod(program, 0o755)
         finally:
@@ -50,7 +50,7 @@ def build(checkout, program):
             place.close()
 
 
-def connected(trying, address, log):
+def connected(trying, address, log, tell):
     """A connection to the built program, once it listens."""
     until = time.monotonic() + LIMIT
     host, port = address.rsplit(":", 1)
@@ -58,6 +58,7 @@ def connected(trying, address, log):
         try:
             return socket.create_connection((host, int(port)), timeout=1)
         except OSError:
+            tell()
             time.sleep(0.2)
     raise NotBuilt(log.read_text(errors="replace"))
 
@@ -84,7 +85,8 @@ def end(trying):
 if __name__ == "__main__":
     if len(sys.argv) != 2 or sys.argv[1].startswith("-"):
         sys.exit(__doc__)
-    try:
-        build(pathlib.Path(__file__).resolve().parent.parent.parent, sys.argv[1])
-    except NotBuilt as why:
-        sys.exit(f"not built: {why}")
+    checked = pathlib.Path(__file__).resolve().parent.parent.parent / "scripts/checked"
+    made = subprocess.run([checked], stdout=subprocess.PIPE, text=True)
+    if made.returncode != 0:
+        sys.exit(made.returncode)
+    shutil.copy(made.stdout.strip(), sys.argv[1])
