@@ -398,8 +398,6 @@ def another_toolchain_proves_all_anew(checkout):
     checkout.play("version", "another kit\n")
     checkout.play("calls", "")
     checkout.change(checkout.source("migctl"), "text 6", "text 60")
-    for name in LIBRARIES:
-        (checkout.root / f"crates/{name}/out/rlib/stamp").write_text("of the other kit\n", encoding="utf-8")
     prove(checkout)
     is_equal(len(checkout.calls()), 2 * 6, "calls")
 
@@ -442,6 +440,19 @@ def progress_is_one_line_on_a_terminal(checkout):
     drawn = said.split("\r")
     matches(drawn[1], r"migctl: proved 0 of 5 libraries, 0 functions, 0 min so far, some 1 left: .*\033\[K", "drawn first")
     is_equal((status, "\n" in "".join(drawn[:-2])), (0, False), "lines on a terminal")
+
+
+@case
+def other_checkouts_are_told_of_the_libraries(checkout):
+    checkout.play("shares", "")
+    prove(checkout)
+    taken = [call for call in checkout.calls() if call.startswith("takes")]
+    is_equal(sorted(taken), sorted(f"takes {name}" for name in LIBRARIES), "what the toolchain took into the checkout")
+    want_proved(checkout)
+    checkout.play("calls", "")
+    checkout.change(checkout.source("mr_top"), "text 5", "text 50")
+    prove(checkout)
+    is_equal(checkout.calls(), ["begin mr_top", "end mr_top", "takes mr_top", "begin migctl", "end migctl"], "calls after an edit")
 
 
 @case
