@@ -30,8 +30,8 @@ FUNCTIONS = re.compile(r"^so far: (\d+) of|^logic=proved functions=(\d+)", re.MU
 
 
 class Sources:
-    """What the program is made of as it stands: its libraries, each behind those below it, and for each the names of all below it and
-    a sum of all that its proof reads."""
+    """What the program is made of as it stands: its libraries, each behind those below it, and for each the names of all below it
+    and a sum of all that its proof reads."""
 
     def __init__(self):
         *listed, self.sum = printed(ROOT / "scripts/sources", "--list").splitlines()
@@ -74,8 +74,8 @@ def text_of(file):
 
 
 def jobs_at_once(processors, memory):
-    """How many processes may prove at a time. Those of one library wait for one another now and then, so on more than two processors
-    there are half as many again, where free memory holds them."""
+    """How many processes may prove at a time. Those of one library wait for one another now and then, so on more than two
+    processors there are half as many again, where free memory holds them."""
     wanted = processors + (processors // 2 if processors > 2 else 0)
     return max(1, min(wanted, memory // MEMORY_OF_JOB))
 
@@ -103,8 +103,8 @@ class Lane:
             link(CRATES / name / "out" / part, self.crate(name) / "out" / part)
 
     def give(self, name, parts=KEPT):
-        """Moves what a proof left to the checkout. The library keeps its name here too, since the toolchain tells other checkouts on
-        this machine to take it from here."""
+        """Moves what a proof left to the checkout. The library keeps its name here too, since the toolchain tells other checkouts
+        on this machine to take it from here."""
         with turn(CRATES / name, f"another rt works in crates/{name}"):
             for part in parts:
                 move(self.crate(name) / "out" / part, CRATES / name / "out" / part, self.folder / "old")
@@ -206,9 +206,9 @@ class Proof:
             self.end_all()
 
     def share(self):
-        """Has the toolchain tell other checkouts on this machine to take these libraries from this one, since the lanes go. It does so
-        when it takes a library itself. That is tried with one: where it can't, it makes that one again of the work that is kept, in
-        seconds. The others it takes as it builds the program."""
+        """Has the toolchain tell other checkouts on this machine to take these libraries from this one, since the lanes go. It does
+        so when it takes a library itself. That is tried with one: where it can't, it makes that one again of the work that is kept,
+        in seconds. The others it takes as it builds the program."""
         names = list(self.lane_of)
         if not names:
             return
@@ -249,8 +249,8 @@ class Proof:
         return self.jobs - sum(it.jobs for it in self.running)
 
     def begin_one(self, name, lane, others):
-        """Begins a library, beside which so many others can begin: each of them gets a process, and this one the rest, where no other
-        has that already."""
+        """Begins a library, beside which so many others can begin: each of them gets a process, and this one the rest, where no
+        other has that already."""
         is_wide = any(it.jobs > 1 for it in self.running)
         jobs = 1 if is_wide else max(1, min(MOST_JOBS, self.processors, self.free_jobs() - others))
         lane.take(name, self.below[name])
@@ -306,7 +306,7 @@ def functions_in(said):
 
 
 def longest_ways(below, times):
-    """For the program and each library the known seconds of the longest way through it and those above, with the program at its end."""
+    """For the program and each library the known seconds of the longest way through it and those above, to the program."""
     ways = {PROGRAM: times[PROGRAM]}
     for name in reversed(list(below)):
         ways[name] = times[name] + max(way for other, way in ways.items() if other == PROGRAM or name in below[other])

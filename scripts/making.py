@@ -1,4 +1,4 @@
-"""What making a program takes, be it checked or proved: the sum of its sources, one call at a time, lines of progress and of faults."""
+"""What making a program takes, checked or proved: the sum of its sources, one call at a time, lines of progress and of faults."""
 import contextlib
 import fcntl
 import os

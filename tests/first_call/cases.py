@@ -93,10 +93,16 @@ def signals_reach_the_program(checkout):
     want_checked(checkout, BUILDING + CHECKED)
     for number in (signal.SIGTERM, signal.SIGINT, signal.SIGKILL):
         child = checkout.start("migctl", "stay")
-        comes_true(lambda: (b"sleep\0" in open(f"/proc/{child.pid}/cmdline", "rb").read()), "the program didn't take the place of ./migctl")
+        comes_true(lambda: b"sleep\0" in command(child.pid), "the program didn't take the place of ./migctl")
         child.send_signal(number)
         child.communicate()
         is_equal(child.returncode, -number, "ended by")
+
+
+def command(process):
+    """The command that a process runs."""
+    with open(f"/proc/{process}/cmdline", "rb") as file:
+        return file.read()
 
 
 @case
@@ -275,7 +281,8 @@ def no_library_begins_before_those_below_it(checkout):
     prove(checkout)
     calls = checkout.calls()
     is_equal(sorted(calls), sorted(f"{word} {name}" for name in (*LIBRARIES, "migctl") for word in ("begin", "end")), "calls")
-    for name, below in (("mr_left", "mr_low"), ("mr_right", "mr_low"), ("mr_top", "mr_left"), ("mr_top", "mr_right"), ("migctl", "mr_top")):
+    for pair in ("mr_left mr_low", "mr_right mr_low", "mr_top mr_left", "mr_top mr_right", "migctl mr_top", "migctl mr_side"):
+        name, below = pair.split()
         is_equal(calls.index(f"begin {name}") > calls.index(f"end {below}"), True, f"{name} behind {below}")
 
 
@@ -410,7 +417,8 @@ def an_edit_while_it_is_proved_has_it_proved_once_more(checkout):
     checkout.play("seconds.mr_top", "0")
     checkout.change(checkout.source("migctl"), "text 6", "text 60")
     said = child.communicate()[1]
-    is_equal((child.returncode, "migctl: the sources changed meanwhile: once more\n" in said), (0, True), f"./migctl prove, which said {said}")
+    is_equal("migctl: the sources changed meanwhile: once more\n" in said, True, f"what ./migctl prove said, which was {said}")
+    is_equal(child.returncode, 0, "status")
     is_equal(checkout.run("migctl", "plain"), (0, answer("proved", ("text 6", "text 60")), ""), "./migctl")
 
 
