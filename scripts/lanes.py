@@ -26,12 +26,12 @@ MOST_JOBS = 4  # of one library; more were never tried
 AFTER = 0.1  # seconds after which is looked again at what runs
 PATIENCE = 30  # seconds in which a proof that is told to end has to
 FILE = re.compile(r"[0-9a-f]{64}  ")  # before a file of the sources
-FUNCTION = re.compile(r"^fn \S+: proved$", re.MULTILINE)
+FUNCTIONS = re.compile(r"^so far: (\d+) of|^logic=proved functions=(\d+)", re.MULTILINE)  # that a proof says are proved
 
 
 class Sources:
-    """What the program is made of as it stands: its libraries, each behind those below it, and for each the names of all below it and
-    a sum of all that its proof reads."""
+    """What the program is made of as it stands: its libraries, each behind those below it, and for each the names of all below it
+    and a sum of all that its proof reads."""
 
     def __init__(self):
         *listed, self.sum = printed(ROOT / "scripts/sources", "--list").splitlines()
@@ -74,8 +74,8 @@ def text_of(file):
 
 
 def jobs_at_once(processors, memory):
-    """How many processes may prove at a time. Those of one library wait for one another now and then, so on more than two processors
-    there are half as many again, where free memory holds them."""
+    """How many processes may prove at a time. Those of one library wait for one another now and then, so on more than two
+    processors there are half as many again, where free memory holds them."""
     wanted = processors + (processors // 2 if processors > 2 else 0)
     return max(1, min(wanted, memory // MEMORY_OF_JOB))
 
@@ -103,10 +103,12 @@ class Lane:
             link(CRATES / name / "out" / part, self.crate(name) / "out" / part)
 
     def give(self, name, parts=KEPT):
-        """Moves what a proof left to the checkout."""
+        """Moves what a proof left to the checkout. The library keeps its name here too, since the toolchain tells other checkouts
+        on this machine to take it from here."""
         with turn(CRATES / name, f"another rt works in crates/{name}"):
             for part in parts:
                 move(self.crate(name) / "out" / part, CRATES / name / "out" / part, self.folder / "old")
+            link(CRATES / name / "out/rlib", self.crate(name) / "out/rlib")
 
 
 def link(source, target):
@@ -168,14 +170,12 @@ class Running:
             self.child.send_signal(signal.SIGTERM)
 
     def end(self):
-        """Waits for it once it was told to end, and keeps what it proved so far."""
+        """Waits for it once it was told to end."""
         try:
             self.child.wait(PATIENCE)
         except subprocess.TimeoutExpired:
             self.child.kill()
             self.child.wait()
-        if self.lane is not None:
-            self.lane.give(self.name, ["incremental"])
 
 
 class Proof:
@@ -186,6 +186,7 @@ class Proof:
         self.done = [name for name in self.below if sources.is_proved(name)]
         self.waiting = [name for name in self.below if name not in self.done]
         self.running = []
+        self.lane_of = {}  # of each library that was proved now
         self.functions = 0
         self.took = {}  # the seconds of each crate that was proved now, from nothing
         self.processors = processors
@@ -204,8 +205,22 @@ class Proof:
         finally:
             self.end_all()
 
+    def share(self):
+        """Has the toolchain tell other checkouts on this machine to take these libraries from this one, since the lanes go. It does
+        so when it takes a library itself. That is tried with one: where it can't, it makes that one again of the work that is kept,
+        in seconds. The others it takes as it builds the program."""
+        names = list(self.lane_of)
+        if not names:
+            return
+        stamp_of(names[0]).unlink()
+        subprocess.run(["rt", "lib"], cwd=CRATES / names[0], stdin=subprocess.DEVNULL, capture_output=True)
+        if is_same(stamp_of(names[0]), self.lane_of[names[0]].crate(names[0]) / "out/rlib/stamp"):
+            for name in names[1:]:
+                stamp_of(name).unlink()
+
     def build(self, telling):
         """Builds the program over them in the checkout itself, by the toolchain's command that runs it."""
+        self.share()
         words = ["rt", "run", "--", "timeline", "--config", ROOT / "examples/fleet.json"]
         self.running.append(Running(PROGRAM, words, CRATES / PROGRAM, self.home / "migctl.log"))
         try:
@@ -234,8 +249,8 @@ class Proof:
         return self.jobs - sum(it.jobs for it in self.running)
 
     def begin_one(self, name, lane, others):
-        """Begins a library, beside which so many others can begin: each of them gets a process, and this one the rest, where no other
-        has that already."""
+        """Begins a library, beside which so many others can begin: each of them gets a process, and this one the rest, where no
+        other has that already."""
         is_wide = any(it.jobs > 1 for it in self.running)
         jobs = 1 if is_wide else max(1, min(MOST_JOBS, self.processors, self.free_jobs() - others))
         lane.take(name, self.below[name])
@@ -248,21 +263,30 @@ class Proof:
         said = it.said()
         if it.child.returncode != 0:
             raise NotMade(f"{it.name} isn't proved: the toolchain ended with status {it.child.returncode}", said)
-        if it.lane is not None:
-            it.lane.give(it.name)
-            note_of(it.name).write_text(self.sources.note(it.name), encoding="utf-8")
-            self.done.append(it.name)
+        self.keep(it)
         self.running.remove(it)
         self.functions += functions_in(said)
         if functions_in(said) and ADOPTED not in said:
             self.took[it.name] = it.seconds()
 
+    def keep(self, it):
+        """Moves what a library left to the checkout: all where it is proved, else the work."""
+        if it.lane is not None and it.child.returncode == 0:
+            it.lane.give(it.name)
+            note_of(it.name).write_text(self.sources.note(it.name), encoding="utf-8")
+            self.done.append(it.name)
+            self.lane_of[it.name] = it.lane
+        elif it.lane is not None:
+            it.lane.give(it.name, ["incremental"])
+
     def end_all(self):
-        """Ends all that runs."""
+        """Ends all that runs, and keeps what it proved."""
         for it in self.running:
             it.tell_to_end()
         for it in self.running:
             it.end()
+        for it in self.running:
+            self.keep(it)
 
     def functions_so_far(self):
         """How many functions were proved in this call."""
@@ -276,12 +300,13 @@ class Proof:
 
 
 def functions_in(said):
-    """How many functions a proof says that it proved."""
-    return len(FUNCTION.findall(said))
+    """How many functions a proof says that it proved, so far or in all."""
+    found = FUNCTIONS.findall(said)
+    return int("".join(found[-1])) if found else 0
 
 
 def longest_ways(below, times):
-    """For the program and each library the known seconds of the longest way through it and those above, with the program at its end."""
+    """For the program and each library the known seconds of the longest way through it and those above, to the program."""
     ways = {PROGRAM: times[PROGRAM]}
     for name in reversed(list(below)):
         ways[name] = times[name] + max(way for other, way in ways.items() if other == PROGRAM or name in below[other])

@@ -1,4 +1,4 @@
-"""What making a program takes, be it checked or proved: the sum of its sources, one call at a time, lines of progress and of faults."""
+"""What making a program takes, checked or proved: the sum of its sources, one call at a time, lines of progress and of faults."""
 import contextlib
 import fcntl
 import os
@@ -105,18 +105,19 @@ class Progress:
         """How long the work takes so far."""
         return time.monotonic() - self.begun
 
+    def is_due(self):
+        """Whether it is time for a line."""
+        return time.monotonic() >= self.next
+
     def tell(self, on_terminal, elsewhere):
-        """Says one of these two lines, where it is time to."""
-        now = time.monotonic()
-        if now < self.next:
-            return
+        """Says one of these two lines."""
         if self.redraws:
             width = os.get_terminal_size(sys.stderr.fileno()).columns or 80
             print(f"\r{f'migctl: {on_terminal}'[: width - 1]}\033[K", end="", file=sys.stderr, flush=True)
-            self.next = now + REDRAWN_AFTER
+            self.next = time.monotonic() + REDRAWN_AFTER
         else:
             say(elsewhere)
-            self.next = now + (self.again_after or float("inf"))
+            self.next = time.monotonic() + (self.again_after or float("inf"))
 
     def clear(self):
         """Leaves nothing of the line on a terminal."""

@@ -93,10 +93,16 @@ def signals_reach_the_program(checkout):
     want_checked(checkout, BUILDING + CHECKED)
     for number in (signal.SIGTERM, signal.SIGINT, signal.SIGKILL):
         child = checkout.start("migctl", "stay")
-        comes_true(lambda: (b"sleep\0" in open(f"/proc/{child.pid}/cmdline", "rb").read()), "the program didn't take the place of ./migctl")
+        comes_true(lambda: b"sleep\0" in command(child.pid), "the program didn't take the place of ./migctl")
         child.send_signal(number)
         child.communicate()
         is_equal(child.returncode, -number, "ended by")
+
+
+def command(process):
+    """The command that a process runs."""
+    with open(f"/proc/{process}/cmdline", "rb") as file:
+        return file.read()
 
 
 @case
@@ -275,7 +281,8 @@ def no_library_begins_before_those_below_it(checkout):
     prove(checkout)
     calls = checkout.calls()
     is_equal(sorted(calls), sorted(f"{word} {name}" for name in (*LIBRARIES, "migctl") for word in ("begin", "end")), "calls")
-    for name, below in (("mr_left", "mr_low"), ("mr_right", "mr_low"), ("mr_top", "mr_left"), ("mr_top", "mr_right"), ("migctl", "mr_top")):
+    for pair in ("mr_left mr_low", "mr_right mr_low", "mr_top mr_left", "mr_top mr_right", "migctl mr_top", "migctl mr_side"):
+        name, below = pair.split()
         is_equal(calls.index(f"begin {name}") > calls.index(f"end {below}"), True, f"{name} behind {below}")
 
 
@@ -398,8 +405,6 @@ def another_toolchain_proves_all_anew(checkout):
     checkout.play("version", "another kit\n")
     checkout.play("calls", "")
     checkout.change(checkout.source("migctl"), "text 6", "text 60")
-    for name in LIBRARIES:
-        (checkout.root / f"crates/{name}/out/rlib/stamp").write_text("of the other kit\n", encoding="utf-8")
     prove(checkout)
     is_equal(len(checkout.calls()), 2 * 6, "calls")
 
@@ -412,20 +417,24 @@ def an_edit_while_it_is_proved_has_it_proved_once_more(checkout):
     checkout.play("seconds.mr_top", "0")
     checkout.change(checkout.source("migctl"), "text 6", "text 60")
     said = child.communicate()[1]
-    is_equal((child.returncode, "migctl: the sources changed meanwhile: once more\n" in said), (0, True), f"./migctl prove, which said {said}")
+    is_equal("migctl: the sources changed meanwhile: once more\n" in said, True, f"what ./migctl prove said, which was {said}")
+    is_equal(child.returncode, 0, "status")
     is_equal(checkout.run("migctl", "plain"), (0, answer("proved", ("text 6", "text 60")), ""), "./migctl")
 
 
 @case
 def progress_is_a_line_now_and_then(checkout):
     checkout.change("scripts/prove", "EVERY = 60", "EVERY = 0.4")
-    checkout.play("seconds.mr_low", "1")
+    checkout.play("seconds.mr_low", "1.5")
+    checkout.play("seconds.mr_side", "1.5")
     lines = prove(checkout).splitlines()
-    shape = r"migctl: proved [0-5] of 5 libraries, \d+ functions, \d+ minutes so far, some \d+ left: [a-z_, ]+"
+    shape = r"migctl: proved [0-5] of 5 libraries, \d+ functions, \d+ min so far, some \d+ left: [a-z_, ]+"
     for line in lines[:-1]:
         matches(line, shape, "a line of progress")
+    counted = [line for line in lines if re.search("proved 0 of 5 libraries, [12] functions,", line)]
+    is_equal(counted != [], True, f"functions of libraries that aren't done yet, in {lines}")
     is_equal(3 <= len(lines) <= 40, True, f"{len(lines)} lines")
-    is_equal(lines[-1], "migctl: 11 functions were proved, and the program built, in 0 minutes", "the last line")
+    is_equal(lines[-1], "migctl: 11 functions were proved, and the program built, in 0 min", "the last line")
 
 
 @case
@@ -437,8 +446,21 @@ def progress_is_one_line_on_a_terminal(checkout):
     is_equal((status, drawn[-2:]), (0, ["\033[K" + CHECKED.strip(), "\n"]), "drawn last")
     status, said = checkout.on_terminal("migctl", "prove")
     drawn = said.split("\r")
-    matches(drawn[1], r"migctl: proved 0 of 5 libraries, 0 functions, 0 minutes so far, some 1 left: .*\033\[K", "drawn first")
+    matches(drawn[1], r"migctl: proved 0 of 5 libraries, 0 functions, 0 min so far, some 1 left: .*\033\[K", "drawn first")
     is_equal((status, "\n" in "".join(drawn[:-2])), (0, False), "lines on a terminal")
+
+
+@case
+def other_checkouts_are_told_of_the_libraries(checkout):
+    checkout.play("shares", "")
+    prove(checkout)
+    taken = [call for call in checkout.calls() if call.startswith("takes")]
+    is_equal(sorted(taken), sorted(f"takes {name}" for name in LIBRARIES), "what the toolchain took into the checkout")
+    want_proved(checkout)
+    checkout.play("calls", "")
+    checkout.change(checkout.source("mr_top"), "text 5", "text 50")
+    prove(checkout)
+    is_equal(checkout.calls(), ["begin mr_top", "end mr_top", "takes mr_top", "begin migctl", "end migctl"], "calls after an edit")
 
 
 @case

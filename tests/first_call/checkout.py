@@ -6,6 +6,7 @@ import re
 import shutil
 import signal
 import subprocess
+import sys
 import tempfile
 import time
 
@@ -114,7 +115,8 @@ class Checkout:
 
     def environment(self, more):
         """What commands find in their environment."""
-        own = {"FAKE": str(self.fake), "TMPDIR": str(self.temporary), "PATH": f"{self.home / 'bin'}:{os.environ['PATH']}"}
+        path = f"{self.home / 'bin'}:{os.path.dirname(os.path.realpath(sys.executable))}:{os.environ['PATH']}"
+        own = {"FAKE": str(self.fake), "TMPDIR": str(self.temporary), "PATH": path}
         base = {name: value for name, value in os.environ.items() if not name.startswith(("MIGCTL", "MALLOC"))}
         return {**base, **own, **more}
 
