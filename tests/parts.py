@@ -10,7 +10,7 @@ import tempfile
 import time
 
 COUNTS = re.compile(r"\b(\d+) passed[,;] (\d+) failed\b")
-LEFT_OUT = re.compile(r"^\d+ cases? left out.*$", re.MULTILINE)
+LEFT_OUT = re.compile(r"^left out, .*: \d+$", re.MULTILINE)
 SHOWN = 20_000  # characters of what a part that failed said, from its end
 LIMIT = 1800  # seconds after which a part hangs
 PATIENCE = 20  # seconds in which a part that is told to end has to
