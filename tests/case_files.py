@@ -30,6 +30,8 @@ file, where a case doesn't say otherwise. The fields:
                    the last one; each is a case, that wants the same answer
     faults         the standard error, empty where it isn't given; `...` is any text but the empty one, whose wording isn't ours
     status         0 where it isn't given
+    slow           `yes` where the checked program, which isn't proved, takes more than a second of processor time for it, or for a
+                   run that belongs to it, on a machine that has nothing else to do: `tests/run --quick` leaves it out
 
 A value stands behind the colon, and is then taken without a line end; or in the lines below, indented by four spaces, each
 of which ends with a line end. In a value stand `\\r \\n \\t \\\\ \\xNN` for bytes, `\\(TEXT*COUNT)` for so many times the text, and
@@ -49,7 +51,7 @@ CASES = pathlib.Path(__file__).resolve().parent / "cases"
 SHARED = CASES / "files"
 ANY = object()
 
-FIELD = re.compile(r"(words|files|file \S+(?: of \S+)?|input(?: of \S+)?|output(?: json| added)?|checked|played|cut|faults|status):(?: (.*))?")
+FIELD = re.compile(r"(words|files|file \S+(?: of \S+)?|input(?: of \S+)?|output(?: json| added)?|checked|played|cut|faults|status|slow):(?: (.*))?")
 INNER = r"\\\([^\n]*?\*\d+(?:\|[^\n]*?)?\)"
 PIECE = re.compile(rf"\\\(((?:{INNER}|[^\n])*?)\*(\d+)(?:\|([^\n]*?))?\)" + r"|\\x([0-9a-fA-F]{2})|\\(.)")
 LETTERS = {"r": "\r", "n": "\n", "t": "\t", "\\": "\\"}
@@ -237,8 +239,9 @@ def slot(field):
     return re.sub(r" of \S+$| json$| added$", "", field)
 
 
-def cases_in(path, word):
-    """The cases of one file whose names contain a word, in order."""
+def cases_in(path, word, left_out):
+    """The cases of one file whose names contain a word, in order. Where a list of those that are left out is given, the slow ones
+    are told to it instead."""
     try:
         (_, head), *rest = sections(path.read_text(encoding="utf-8").split("\n"))
         if not rest:
@@ -247,7 +250,9 @@ def cases_in(path, word):
             said = {slot(field) for field in own}
             fields = {**{field: it for field, it in head.items() if slot(field) not in said}, **own}
             name = f"{path.relative_to(CASES).with_suffix('')}: {short_name}"
-            if word in name:
+            if word in name and left_out is not None and "slow" in fields:
+                left_out.append(name)
+            elif word in name:
                 case = case_of(name, fields)
                 yield from cuts(case, fields["cut"]) if "cut" in fields else [case]
                 if "checked" in fields:
@@ -258,7 +263,8 @@ def cases_in(path, word):
         raise BadCase(f"{path.relative_to(CASES)}: {error}") from error
 
 
-def all_cases(word):
-    """Every case whose name contains a word, in the order of folders, files and places."""
+def all_cases(word, left_out=None):
+    """Every case whose name contains a word, in the order of folders, files and places; or all but the slow ones, whose names are
+    told to a list."""
     for path in sorted(CASES.glob("*/*.case")):
-        yield from cases_in(path, word)
+        yield from cases_in(path, word, left_out)

@@ -16,17 +16,20 @@ CASES = []
 class Case:
     """A case, by its name and what it does."""
 
-    def __init__(self, name, does, waits):
+    def __init__(self, name, does, waits, quick):
         self.name = name
         self.does = does
         self.waits = waits
+        self.quick = quick
 
 
-def case(does=None, waits=False):
-    """Makes a function a case. One that waits for seconds to go by runs beside others; the rest run one after another."""
+def case(does=None, waits=False, quick=True):
+    """Makes a function a case. One that waits for seconds to go by runs beside others; the rest run one after another. One that isn't
+    quick bounds memory of which a checked program takes more, or takes that more than ten seconds of processor time: `--quick`
+    leaves it out."""
 
     def add(does):
-        CASES.append(Case(does.__name__, does, waits))
+        CASES.append(Case(does.__name__, does, waits, quick))
         return does
 
     return add(does) if does else add

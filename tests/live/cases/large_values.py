@@ -57,7 +57,7 @@ def held_anyway(services, clients):
     return [it.memory("VmRSS") for it in services]
 
 
-@case
+@case(quick=False)
 def values_of_up_to_1048576_bytes_come_back_as_they_were():
     """Through a node and through a proxy, one by one, twice in one answer, and several in one write."""
     with Fleet() as fleet:
@@ -93,7 +93,7 @@ def a_value_of_1048577_bytes_is_refused():
             other.ask(get_of("k"), hits(("k", "before")))
 
 
-@case
+@case(quick=False)
 def a_node_holds_no_more_memory_than_its_items():
     """After 1,000 blocks of 1,048,576 bytes, by several clients, of which it keeps 10."""
     with Fleet() as fleet:
@@ -111,7 +111,7 @@ def a_node_holds_no_more_memory_than_its_items():
         expect_resident(node, KEPT * LARGEST)
 
 
-@case
+@case(quick=False)
 def a_proxy_holds_nothing_of_the_blocks_that_went_through_it():
     """Of 64 clients each sends a block but for its end, then all blocks come to their end and go to the node, and each client
     gets one. The memory for a block is given back as it goes on, also while its connection lasts. Then others come, and it
@@ -141,7 +141,7 @@ def a_proxy_holds_nothing_of_the_blocks_that_went_through_it():
             expect_resident(node, at_node + LARGEST)
 
 
-@case
+@case(quick=False)
 def a_block_that_is_only_said_takes_no_memory():
     """Of 64 clients each says that 1,048,576 bytes come, and sends nothing or a few of them."""
     with Fleet() as fleet:

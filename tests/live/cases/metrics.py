@@ -9,7 +9,7 @@ import threading
 import time
 
 from cases.silence import check_took
-from client import BUSY, DELETED, LOST, MISS, NOT_FOUND, STORED, Client, delete_of, get_of, hits, set_of
+from client import BUSY, DELETED, LOST, MISS, NOT_FOUND, PATIENCE, SETTLING, STORED, Client, delete_of, get_of, hits, set_of
 from fake import SlowNode
 from fleet import Fleet
 from moments import moment, within
@@ -421,8 +421,7 @@ def sixty_four_scrapers_are_served_at_once():
                 for it in open_ones:
                     wait_until_read(it.socket)
                 told.samples()
-                open_ones.append(begun_scrape(fleet, told))
-                wait_until_read(open_ones[-1].socket)
+                open_ones.append(kept_scrape(fleet, told))
                 with Client(told.address) as more:
                     begun = time.monotonic()
                     more.expect_end("the end of the 65th scraper at once")
@@ -459,6 +458,19 @@ def begun_scrape(fleet, told):
     client = fleet.keep(Client(told.address))
     client.send(b"GET /metrics HTTP/1.1\r\n")
     return client
+
+
+def kept_scrape(fleet, told):
+    """The same, of a scraper that has a place: who was answered gives its place back a moment later, and until then others may be
+    turned away."""
+    until = time.monotonic() + PATIENCE
+    while True:
+        client = begun_scrape(fleet, told)
+        wait_until_read(client.socket)
+        if client.piece(1, SETTLING) == (b"", b"<nothing more>"):
+            return client
+        if time.monotonic() > until:
+            raise Wrong(f"a scraper of {told.address}", "a place", "none")
 
 
 def wait_until_answered(told):

@@ -22,7 +22,7 @@ def serves(client, value):
     client.ask(delete_of("k"), DELETED)
 
 
-@case(waits=True)
+@case(waits=True, quick=False)
 def clients_for_whom_there_is_no_memory_harm_no_other():
     """Fifty clients at once, of a node and of a proxy that may take 60 MiB more: each has the stack of a thread reserved for
     it. Who was served before is served throughout, and so is who comes once these are gone. A client for whom no thread
@@ -85,7 +85,7 @@ def large_script():
     return text + b" " * (16 * MIB - len(text))
 
 
-@case(waits=True)
+@case(waits=True, quick=False)
 def a_check_without_memory_says_so_and_nothing_else():
     """A text of 16 MiB takes more than these limits of memory to be read: one line says so, and nothing is printed."""
     text = large_script()
