@@ -26,7 +26,7 @@ MOST_JOBS = 4  # of one library; more were never tried
 AFTER = 0.1  # seconds after which is looked again at what runs
 PATIENCE = 30  # seconds in which a proof that is told to end has to
 FILE = re.compile(r"[0-9a-f]{64}  ")  # before a file of the sources
-FUNCTION = re.compile(r"^fn \S+: proved$", re.MULTILINE)
+FUNCTIONS = re.compile(r"^so far: (\d+) of|^logic=proved functions=(\d+)", re.MULTILINE)  # that a proof says are proved
 
 
 class Sources:
@@ -276,8 +276,9 @@ class Proof:
 
 
 def functions_in(said):
-    """How many functions a proof says that it proved."""
-    return len(FUNCTION.findall(said))
+    """How many functions a proof says that it proved, so far or in all."""
+    found = FUNCTIONS.findall(said)
+    return int("".join(found[-1])) if found else 0
 
 
 def longest_ways(below, times):

@@ -419,13 +419,16 @@ def an_edit_while_it_is_proved_has_it_proved_once_more(checkout):
 @case
 def progress_is_a_line_now_and_then(checkout):
     checkout.change("scripts/prove", "EVERY = 60", "EVERY = 0.4")
-    checkout.play("seconds.mr_low", "1")
+    checkout.play("seconds.mr_low", "1.5")
+    checkout.play("seconds.mr_side", "1.5")
     lines = prove(checkout).splitlines()
-    shape = r"migctl: proved [0-5] of 5 libraries, \d+ functions, \d+ minutes so far, some \d+ left: [a-z_, ]+"
+    shape = r"migctl: proved [0-5] of 5 libraries, \d+ functions, \d+ min so far, some \d+ left: [a-z_, ]+"
     for line in lines[:-1]:
         matches(line, shape, "a line of progress")
+    counted = [line for line in lines if re.search("proved 0 of 5 libraries, [12] functions,", line)]
+    is_equal(counted != [], True, f"functions of libraries that aren't done yet, in {lines}")
     is_equal(3 <= len(lines) <= 40, True, f"{len(lines)} lines")
-    is_equal(lines[-1], "migctl: 11 functions were proved, and the program built, in 0 minutes", "the last line")
+    is_equal(lines[-1], "migctl: 11 functions were proved, and the program built, in 0 min", "the last line")
 
 
 @case
@@ -437,7 +440,7 @@ def progress_is_one_line_on_a_terminal(checkout):
     is_equal((status, drawn[-2:]), (0, ["\033[K" + CHECKED.strip(), "\n"]), "drawn last")
     status, said = checkout.on_terminal("migctl", "prove")
     drawn = said.split("\r")
-    matches(drawn[1], r"migctl: proved 0 of 5 libraries, 0 functions, 0 minutes so far, some 1 left: .*\033\[K", "drawn first")
+    matches(drawn[1], r"migctl: proved 0 of 5 libraries, 0 functions, 0 min so far, some 1 left: .*\033\[K", "drawn first")
     is_equal((status, "\n" in "".join(drawn[:-2])), (0, False), "lines on a terminal")
 
 
