@@ -1,0 +1,1 @@
+"""What a package is made of: scripts/package puts it together."""
