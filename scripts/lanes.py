@@ -186,7 +186,7 @@ class Proof:
         self.done = [name for name in self.below if sources.is_proved(name)]
         self.waiting = [name for name in self.below if name not in self.done]
         self.running = []
-        self.lane_of = {}  # of each library that was proved now
+        self.lane_of = {}  # of each library that was proved now, and not taken from another checkout
         self.functions = 0
         self.took = {}  # the seconds of each crate that was proved now, from nothing
         self.processors = processors
@@ -275,7 +275,8 @@ class Proof:
             it.lane.give(it.name)
             note_of(it.name).write_text(self.sources.note(it.name), encoding="utf-8")
             self.done.append(it.name)
-            self.lane_of[it.name] = it.lane
+            if functions_in(it.said()):
+                self.lane_of[it.name] = it.lane
         elif it.lane is not None:
             it.lane.give(it.name, ["incremental"])
 
