@@ -44,7 +44,7 @@ def printed(*words):
 def want_toolchain():
     """Refuses where there is no toolchain."""
     if shutil.which("rt") is None:
-        raise NotMade("the toolchain isn't there: put Rattle's rt on the path (README.md, Install)")
+        raise NotMade("the toolchain isn't there: put Rattle's rt on the path (README.md)")
 
 
 def want_memory(least, what):

@@ -9,7 +9,7 @@ from checkout import CHECKED, LIBRARIES, TIMES, Wrong, comes_true, is_equal, mat
 ALL = []
 BUILDING = "migctl: building the checked program, which takes about a minute and a half\n"
 TEXTS = "text 0 text 2 text 6 text 4 text 3 text 1 text 5 "  # of the crates in the order of their names
-NO_TOOLCHAIN = "migctl: the toolchain isn't there: put Rattle's rt on the path (README.md, Install)\n"
+NO_TOOLCHAIN = "migctl: the toolchain isn't there: put Rattle's rt on the path (README.md)\n"
 
 
 def case(function):
