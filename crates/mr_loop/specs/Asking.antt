@@ -129,8 +129,8 @@ pub record DoesOne (asker : Asker) (old new : Asking) : Type 0 where
 
 -- things that the client sent were done, one after the other
 pub data DoesAll (asker : Asker) (old : Asking) : Asking → Type 0 where
-  begins : DoesAll asker old old
-  does : {between new : Asking} → DoesAll asker old between → DoesOne asker between new → DoesAll asker old new
+  starts : DoesAll asker old old
+  goes_on : {between new : Asking} → DoesAll asker old between → DoesOne asker between new → DoesAll asker old new
 
 -- the next one came, and is held back
 pub record HoldsBack (old new : Asking) (input : Input) : Type 0 where

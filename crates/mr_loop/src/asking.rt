@@ -77,11 +77,7 @@ fn answer(
 }
 
 /// Tells a client why its text is refused, if it is told.
-fn answer_refusal(
-    front: &mut Front,
-    asker: Asker,
-    refusal: TextError,
-) -> Result<(), (Pause, Input)>
+fn answer_refusal(front: &mut Front, asker: Asker, refusal: TextError) -> Result<(), (Pause, Input)>
     ensures { RefusesSo asker refusal front.old result front.new }
 {
     if let Some(reply) = reply_to_refusal(refusal) {

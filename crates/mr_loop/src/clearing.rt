@@ -25,13 +25,7 @@ fn has_place(links: &[Link], most: usize, number: usize) -> bool
 }
 
 /// Whether so it is of the link to the node of each key in a pool.
-fn are_keys_clear(
-    links: &[Link],
-    most: usize,
-    routing: &Routing,
-    pool: usize,
-    keys: &[Key],
-) -> bool
+fn are_keys_clear(links: &[Link], most: usize, routing: &Routing, pool: usize, keys: &[Key]) -> bool
     requires { pool + 1 ≤ length routing.now.pools }
     ensures { result ≡ keys_clear most routing.now pool keys.now links.now }
 {

@@ -58,11 +58,7 @@ impl Link {
     }
 
     /// Puts a leg behind those that went, and the request for it behind theirs. For want of memory nothing changes.
-    pub(crate) fn send(
-        &mut self,
-        buffer: &mut FixedBuffer,
-        sent: SentLeg,
-    ) -> Result<(), AllocError>
+    pub(crate) fn send(&mut self, buffer: &mut FixedBuffer, sent: SentLeg) -> Result<(), AllocError>
         ensures sent { OnOk result (self.new ≡ with_leg sent self.old) }
         ensures unchanged { OnErr result (self.new ≡ self.old) }
     {
@@ -136,12 +132,7 @@ impl Link {
     /// Takes bytes that came. Each reply that is whole is that of the first leg that has none. What isn't a reply, a reply that
     /// no leg awaits or that is no answer to its leg, one that says that the node doesn't know what it was asked, and want of
     /// memory break the link.
-    pub(crate) fn take_bytes(
-        &mut self,
-        alloc: Global,
-        front: &mut Front,
-        piece: &[u8],
-    ) -> LinkEnd
+    pub(crate) fn take_bytes(&mut self, alloc: Global, front: &mut Front, piece: &[u8]) -> LinkEnd
         ensures { TakesBytes piece.now self.old front.old result self.new front.new }
     {
         if !self.is_up {

@@ -47,7 +47,7 @@ IsWithdrawn client op denial old new =
     (reading : ℕ) (request : Request) (before : FrontView) → client < length before.clients → op ≡ next_op before.core
     → old ≡ after_event (Event.Does client (Issue reading request)) before
     → new ≡ after_all (tells client denial)
-        (after_all (Event.Alone (Issue reading request) ∷ Event.Alone (GiveUp (next_op before.core)) ∷ []) before)
+    (after_all (Event.Alone (Issue reading request) ∷ Event.Alone (GiveUp (next_op before.core)) ∷ []) before)
 
 -- the cause that a client is told of what the core refused
 abbrev pub cause_of : ProxyError → Cause
