@@ -1,0 +1,1 @@
+-- What a client asks, one thing after the other.
