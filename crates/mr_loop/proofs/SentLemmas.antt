@@ -3,6 +3,7 @@ use Rattle.std.proofs.Common.{◌≡◌, ℕ, suc, zero, ◌<◌, ◌+◌, ◌-�
 use Rattle.std.specs.Prelude.{slice_get}
 use Rattle.std.proofs.lemmas.List.{set-set}
 use Rattle.std.proofs.Math.Seq.{take-append_seam}
+use Rattle.std.proofs.lemmas.Option.{slice_get_within}
 use Rattle.mr_pools.specs.Routing.{RoutingView}
 use Rattle.mr_proxy.specs.declared.sheet.LegSheet.{LegSheet}
 use Rattle.mr_sessions.specs.Requesting.{text_for}
@@ -21,6 +22,9 @@ taken_back sent link =
     let legs = last_taken link.legs sent in
     ap (λ o. record (with_leg sent link) { legs = take (length (link.legs ++ sent ∷ []) - 1) (link.legs ++ sent ∷ []); out = o }) out
     ∙ ap (λ l. record link { legs = l }) legs
+
+abbrev mark_at : ℕ → ℕ → Mark
+mark_at number count = record { number = number; count = count }
 
 abbrev mark_of : ℕ → Link → Mark
 mark_of number link = record { number = number; count = length link.out }
@@ -101,3 +105,37 @@ up_after_all asker routing [] links other = refl
 up_after_all asker routing (sheet ∷ sheets) links other =
     up_after_all asker routing sheets (sent_over (link_of routing sheet) (sent_by asker sheet) links) other
     ∙ up_after links (link_of routing sheet) (sent_by asker sheet) other
+
+there_up : (o : Option Link) → is_up_in o ≡ true → (link : Link) × (o ≡ Some link) × (link.is_up ≡ true)
+there_up None e = absurd (let no : false ≡ true = e in cc)
+there_up (Some link) e = (link, refl, e)
+
+-- a link that is up is there
+pub up_within : (links : List Link) (number : ℕ) → is_up_at links number ≡ true → number < length links
+up_within links number e =
+    let there = there_up (slice_get links number) e in
+    slice_get_within links number there.0 there.1
+
+-- the link that was read is up
+pub read_up : (links : List Link) (number : ℕ) (link : Link) → slice_get links number ≡ Some link → is_up_at links number ≡ true → link.is_up ≡ true
+read_up links number link there up = sym (ap is_up_in there) ∙ up
+
+-- a leg went over a link that is up
+pub went_over : (links : List Link) (number : ℕ) (link new : Link) (sent : SentLeg) → slice_get links number ≡ Some link
+    → is_up_at links number ≡ true → new ≡ with_leg sent link → slice_set links number new ≡ sent_over number sent links
+went_over links number link new sent there up e =
+    ap (λ l. slice_set links number l) e ∙ sym (sent_up links number link sent there (read_up links number link there up))
+
+-- it is taken back by its mark
+pub went_back : (links : List Link) (number count : ℕ) (link new : Link) (sent : SentLeg) (marks marks' : List Mark)
+    → slice_get links number ≡ Some link → new ≡ with_leg sent link → count ≡ length link.out
+    → marks' ≡ marks ++ (record { number = number; count = count }) ∷ []
+    → undone marks' (slice_set links number new) ≡ undone marks links
+went_back links number count link new sent marks marks' there e same more =
+    let mark : Mark = record { number = number; count = count } in
+    let is : mark ≡ mark_of number link = ap (λ (n : ℕ). mark_at number n) same in
+    ap (λ m. undone m (slice_set links number new)) more
+    ∙ undone_more marks mark (slice_set links number new)
+    ∙ ap (λ l. undone marks (undone_one mark (slice_set links number l))) e
+    ∙ ap (λ m. undone marks (undone_one m (slice_set links number (with_leg sent link)))) is
+    ∙ ap (λ l. undone marks l) (undone_leg links number link sent there)

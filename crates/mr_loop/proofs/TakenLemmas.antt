@@ -1,13 +1,15 @@
 -- Replies that are taken, one by one.
-use Rattle.std.proofs.Common.{◌≡◌, ℕ, List, [], ◌∷◌, ◌++◌, refl, sym, ap, ◌∙◌, subst}
-use Rattle.mr_text.specs.Replies.{SpellsReply}
-use Rattle.mr_text.specs.Stream.{BeginsWith}
+use Rattle.std.proofs.Common.{◌≡◌, ℕ, ◌⊎◌, inl, inr, Bool, true, false, ◌||◌, IsTrue, List, [], ◌∷◌, ◌++◌, Err, refl, sym, ap, ◌∙◌, subst}
+use Rattle.mr_text.specs.Replies.{SpellsReply, NextReplyIs}
+use Rattle.mr_text.specs.Stream.{ReaderView, BeginsWith}
+use Rattle.mr_text.specs.declared.error.TextError.{TextError}
+use Rattle.mr_text.specs.declared.error.TextError.TheVariants.{LineTooLong, BadKey, BadNumber, WrongWords, DataTooLong, BadDataEnd, UnknownCommand, Truncated, Closed, OutOfMemory}
 use Rattle.mr_text.specs.declared.reply.Reply.{Reply}
 use Rattle.mr_join.specs.declared.leg_reply.LegReply.{LegReply}
 use Rattle.mr_sessions.specs.Answering.{IsAnswer}
 use Rattle.mr_loop.specs.declared.sent_legs.SentLeg.{SentLeg}
 use Rattle.mr_loop.specs.Events.{FrontView, Event, after_event, after_all}
-use Rattle.mr_loop.specs.Returning.{Reads, TakesAll, HasTaken, taking}
+use Rattle.mr_loop.specs.Returning.{Reads, TakesAll, HasTaken, taking, IsRefused}
 
 reads_more : (replies : List Reply) (bytes rest after : List ℕ) (reply : Reply) → Reads SpellsReply replies bytes rest → BeginsWith SpellsReply rest reply after
     → Reads SpellsReply (replies ++ reply ∷ []) bytes after
@@ -59,3 +61,27 @@ taken_more bytes legs front rest left between sent reply said after later front'
       takes = takes_more legs h.replies h.events sent later reply said (subst P e h.takes) says;
       happens = step ∙ ap (λ f. after_event (taking sent said) f) h.happens ∙ sym (after_more h.events (taking sent said) front);
     }
+
+or_left : (a b : Bool) → a ≡ true → IsTrue (a || b)
+or_left true b e = tt
+or_left false b e = absurd (let no : false ≡ true = e in cc)
+
+or_right : (a b : Bool) → b ≡ true → IsTrue (a || b)
+or_right true b e = tt
+or_right false true e = tt
+or_right false false e = absurd (let no : false ≡ true = e in cc)
+
+-- what the reader refuses
+pub refused : (old new : ReaderView) (refusal : TextError) (left : List SentLeg) → NextReplyIs old new old.kept (Err refusal)
+    → IsRefused refusal old.kept left ⊎ IsTrue (old.closed || old.ended)
+refused old new OutOfMemory left n = inl (inl refl)
+refused old new LineTooLong left n = inl (inr n.1)
+refused old new BadKey left n = inl (inr n.1)
+refused old new BadNumber left n = inl (inr n.1)
+refused old new WrongWords left n = inl (inr n.1)
+refused old new DataTooLong left n = inl (inr n.1)
+refused old new BadDataEnd left n = inl (inr n.1)
+refused old new (UnknownCommand true) left n = inl (inr n.1)
+refused old new (UnknownCommand false) left n = absurd n.2
+refused old new Truncated left n = inr (or_right old.closed old.ended n.1)
+refused old new Closed left n = inr (or_left old.closed old.ended n.0)

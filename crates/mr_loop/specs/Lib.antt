@@ -6,4 +6,5 @@ pub mod Inboxes
 pub mod Asking
 pub mod Ticking
 pub mod LoopView
+pub mod Runs
 pub mod steps

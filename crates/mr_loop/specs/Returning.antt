@@ -4,7 +4,7 @@ use Rattle.std.specs.List.{AllByRecursion}
 use Rattle.mr_text.specs.Replies.{SpellsReply, RefusesReply}
 use Rattle.mr_text.specs.Stream.{BeginsWith, IsUnfinished}
 use Rattle.mr_text.specs.declared.error.TextError.{TextError}
-use Rattle.mr_text.specs.declared.error.TextError.TheVariants.{OutOfMemory}
+use Rattle.mr_text.specs.declared.error.TextError.TheVariants.{Closed, OutOfMemory}
 use Rattle.mr_text.specs.declared.reply.Reply.{Reply}
 use Rattle.mr_text.specs.declared.reply.Reply.TheVariants.{Items, Stored, Deleted, NotFound, Error, ClientError, ServerError}
 use Rattle.mr_join.specs.declared.leg_reply.LegReply.{LegReply}
@@ -68,7 +68,7 @@ pub record Breaks (legs : List SentLeg) (front : FrontView) (new : Link) (front'
 module _ (piece : List ℕ) (old : Link) (front : FrontView) where
   -- all replies that are whole were taken
   pub record TakesWhole (new : Link) (front' : FrontView) : Type 0 where
-    pub was_up : IsTrue old.is_up
+    pub was_up : old.is_up ≡ true
     pub taken : HasTaken (old.reader.kept ++ piece) old.legs front new.reader.kept new.legs front'
     pub unfinished : IsUnfinished SpellsReply RefusesReply new.reader.kept
     pub same_out : new.out ≡ old.out
@@ -76,7 +76,7 @@ module _ (piece : List ℕ) (old : Link) (front : FrontView) where
 
   -- some replies were taken, and then the link broke; what came next, and the legs that were left
   pub record TakesSome (Next : List ℕ → List SentLeg → Type 0) (new : Link) (front' : FrontView) : Type 0 where
-    pub was_up : IsTrue old.is_up
+    pub was_up : old.is_up ≡ true
     pub rest : List ℕ
     pub left : List SentLeg
     pub between : FrontView
@@ -121,16 +121,16 @@ IsRefused refusal rest left = (refusal ≡ OutOfMemory) ⊎ RefusesReply refusal
 -- What bytes that came over a link do. They are taken reply by reply, each as that of the first leg that has none.
 module _ (piece : List ℕ) (old : Link) (front : FrontView) where
   pub record BreaksAtComplaint (new : Link) (front' : FrontView) : Type 0 where
-    pub was_up : IsTrue old.is_up
+    pub was_up : old.is_up ≡ true
     pub left : List SentLeg
     pub between : FrontView
     pub taken : TakesComplaint (old.reader.kept ++ piece) old.legs front left between
     pub breaks : Breaks left between new front'
 
-  -- the bytes themselves were refused by the reader, which takes no more: nothing of them was taken
-  pub record BreaksAtOnce (new : Link) (front' : FrontView) : Type 0 where
-    pub was_up : IsTrue old.is_up
-    pub closed : IsTrue (old.reader.closed || old.reader.ended)
+  -- the reader takes no more, or memory for the bytes was refused: nothing of them was taken
+  pub record BreaksAtOnce (refusal : TextError) (new : Link) (front' : FrontView) : Type 0 where
+    pub was_up : old.is_up ≡ true
+    pub why : (refusal ≡ OutOfMemory) ⊎ ((refusal ≡ Closed) × IsTrue (old.reader.closed || old.reader.ended))
     pub breaks : Breaks old.legs front new front'
 
   abbrev pub TakesBytes : LinkEnd → Link → FrontView → Type 0
@@ -138,5 +138,5 @@ module _ (piece : List ℕ) (old : Link) (front : FrontView) where
   TakesBytes Surplus new front' = TakesSome piece old front IsSurplus new front'
   TakesBytes Mismatch new front' = TakesSome piece old front IsMismatch new front'
   TakesBytes Complaint new front' = BreaksAtComplaint new front'
-  TakesBytes (Refused refusal) new front' = TakesSome piece old front (IsRefused refusal) new front' ⊎ BreaksAtOnce new front'
+  TakesBytes (Refused refusal) new front' = TakesSome piece old front (IsRefused refusal) new front' ⊎ BreaksAtOnce refusal new front'
   TakesBytes Down new front' = (old.is_up ≡ false) × (new ≡ old) × (front' ≡ front)

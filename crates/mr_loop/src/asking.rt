@@ -1,7 +1,7 @@
 //! What is begun of what a client sent.
 ghost use Rattle.std.specs.Prelude.{◌≡◌, ◌≢◌, true, false};
 ghost use Rattle.mr_loop.specs.Asking.{AsksOn, is_full};
-ghost use Rattle.mr_loop.specs.steps.Asking.{AnswersSo, AsksSo, RefusesSo, asking};
+ghost use Rattle.mr_loop.specs.steps.Asking.{AnswersSo, AsksSo, IsSentOff, RefusesSo, asking};
 
 use crate::asker::Asker;
 use crate::clearing::are_clear;
@@ -10,8 +10,9 @@ use crate::inbox::{Fetched, Inbox, Input};
 use crate::link::Link;
 use crate::sending::{Scratch, send_all};
 use mr_node::session::reply_to_refusal;
+use mr_proxy::Issued;
 use mr_text::laws::{requests_leave_less, skipped_lines_leave_less};
-use mr_text::{Cause, Request, TextError};
+use mr_text::{Cause, Reply, Request, TextError};
 
 /// Why no more of what a client sent is begun.
 #[derive(Clone, Copy, Debug, PartialEq, Eq)]
@@ -30,8 +31,33 @@ pub enum Pause {
     IsDone,
 }
 
-/// Issues a request, and sends its legs. Where one has no link, the request is given up at once; where memory for one is
-/// refused, none goes, and the client is told. The request comes back where there was no memory for its turn.
+/// Sends the legs of a request that was issued. Where one has no link, the request is given up at once; where memory for one
+/// is refused, none goes, and the client is told this in its turn. Whether all of them went.
+fn send_off(
+    front: &mut Front,
+    links: &mut [Link],
+    scratch: &mut Scratch,
+    asker: Asker,
+    issued: Issued,
+    denial: Option<Reply>,
+) -> bool
+    ensures { IsSentOff asker front.old.core.routing issued.op issued.legs.items denial front.old links.old front.new links.new }
+{
+    let op = issued.op;
+    match send_all(links, scratch, front.core().routing(), asker, issued.legs) {
+        Ok(true) => true,
+        Ok(false) => {
+            front.give_up(asker.client, op);
+            false
+        }
+        Err(_) => {
+            front.withdraw(asker.client, op, denial);
+            false
+        }
+    }
+}
+
+/// Issues a request, and sends its legs. The request comes back where there was no memory for its turn.
 fn ask(
     front: &mut Front,
     links: &mut [Link],
@@ -45,18 +71,13 @@ fn ask(
 {
     let refused = denial(&request, Cause::OutOfMemory);
     match front.issue(asker, request) {
-        Begun::Later(request) => return Err(request),
-        Begun::Told => {}
+        Begun::Later(request) => Err(request),
+        Begun::Told => Ok(()),
         Begun::Issued(issued) => {
-            let op = issued.op;
-            match send_all(links, scratch, front.core().routing(), asker, issued.legs) {
-                Ok(true) => {}
-                Ok(false) => front.give_up(asker.client, op),
-                Err(_) => front.withdraw(asker.client, op, refused),
-            }
+            let _ = send_off(front, links, scratch, asker, issued, refused);
+            Ok(())
         }
     }
-    Ok(())
 }
 
 /// Does what a client sent. It comes back where it is held back, with the reason.

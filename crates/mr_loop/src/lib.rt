@@ -9,6 +9,7 @@ mod clearing;
 mod client;
 mod front;
 mod inbox;
+pub mod laws;
 mod link;
 mod numbering;
 mod out_buffer;

@@ -11,7 +11,7 @@ use crate::front::Front;
 use crate::inbox::Inbox;
 use crate::link::{Link, LinkEnd};
 use crate::numbering::nodes_of;
-use crate::sending::Scratch;
+use crate::sending::{Scratch, is_up};
 use mr_proxy::ProxyCore;
 use std::alloc::{AllocError, Global};
 use std::marker::Model;
@@ -41,7 +41,7 @@ fn down_links(alloc: Global, count: usize) -> Result<Vec<Link>, AllocError>
     ensures { IfOk result (λ links. links.items ≡ replicate count down_link) }
 {
     let mut links = Vec::with_capacity(alloc, count)?;
-    for _ in 0..count {
+    while links.len() < count {
         links.push(Link::new(alloc))?;
     }
     Ok(links)
@@ -193,7 +193,7 @@ impl ProxyLoop {
     pub fn is_up(&self, node: usize) -> bool
         ensures { result ≡ is_up_at self.now.links node }
     {
-        node < self.links.len() && self.links[node].is_up
+        is_up(&self.links, node)
     }
 
     /// The bytes that are to be written to a node.

@@ -40,6 +40,13 @@ impl Scratch {
     }
 }
 
+/// Whether there is a connection to the node of a number.
+pub(crate) fn is_up(links: &[Link], number: usize) -> bool
+    ensures { result ≡ is_up_at links.now number }
+{
+    number < links.len() && links[number].is_up
+}
+
 /// A leg goes over the link of a number. Whether that is up: else nothing changes. For want of memory nothing changes.
 fn send_leg(
     links: &mut [Link],
@@ -52,7 +59,7 @@ fn send_leg(
     ensures marked { OnOk result (undone scratch.new.marks.items links.new ≡ undone scratch.old.marks.items links.old) }
     ensures unchanged { OnErr result ((links.new ≡ links.old) × (scratch.new.marks.items ≡ scratch.old.marks.items)) }
 {
-    if number >= links.len() || !links[number].is_up {
+    if !is_up(links, number) {
         return Ok(false);
     }
     scratch.marks.reserve(1)?;

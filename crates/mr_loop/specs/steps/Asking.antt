@@ -4,6 +4,8 @@ use Rattle.mr_history.specs.declared.op_id.OpId.{OpId}
 use Rattle.mr_node.specs.Output.{reply_to_refusal}
 use Rattle.mr_text.specs.declared.cause.Cause.{Cause}
 use Rattle.mr_text.specs.declared.error.TextError.{TextError}
+use Rattle.mr_pools.specs.Routing.{RoutingView}
+use Rattle.mr_proxy.specs.declared.sheet.LegSheet.{LegSheet}
 use Rattle.mr_proxy.specs.declared.error.ProxyError.{ProxyError}
 use Rattle.mr_text.specs.declared.cause.Cause.TheVariants as cause
 use Rattle.mr_text.specs.declared.request.Request.{Request}
@@ -21,8 +23,8 @@ use Rattle.mr_loop.specs.declared.inbox.Input.{Input}
 use Rattle.mr_loop.specs.declared.inbox.Input.TheVariants as input
 use Rattle.mr_loop.specs.declared.link.Link.{Link}
 use Rattle.mr_loop.specs.Events.{FrontView, Event, after_event, after_all}
-use Rattle.mr_loop.specs.Asking.{Asking, tells, denial, IsDoneFor, IsClear}
-use Rattle.mr_loop.specs.Links.{are_clear}
+use Rattle.mr_loop.specs.Asking.{Asking, tells, denial, given_up_unless, IsDoneFor, IsClear}
+use Rattle.mr_loop.specs.Links.{are_clear, all_sent, all_up}
 
 -- why what a client sent is held back: a queue is full, or memory for its turn is refused
 abbrev pub PausesFor : Asker → FrontView → List Link → Input → Pause → Type 0
@@ -34,7 +36,8 @@ PausesFor asker front links input other = ⊥
 -- what became of a request that was handed to the core
 abbrev pub IssuesSo : Asker → Request → FrontView → Begun → FrontView → Type 0
 IssuesSo asker request old (Issued issued) new =
-    (refusal_of old.core ≡ None) × (new ≡ after_event (Event.Does asker.client (Issue asker.reading request)) old)
+    (refusal_of old.core ≡ None) × (asker.client < length old.clients)
+    × (new ≡ after_event (Event.Does asker.client (Issue asker.reading request)) old)
     × (issued.op ≡ next_op old.core) × (issued.legs.items ≡ sheets_of old.core asker.reading request)
 IssuesSo asker request old Told new =
     ((refusal_of old.core ≡ Some NumbersSpent) × (new ≡ after_all (tells asker.client (denial request cause.NumbersSpent)) old))
@@ -67,6 +70,14 @@ AnswersSo asker front links input (Err (pause, back)) front' links' =
 abbrev pub AsksSo : Asker → FrontView → List Link → Request → Result (Unit {0}) Request → FrontView → List Link → Type 0
 AsksSo asker front links request (Ok _) front' links' = IsDoneFor asker front links (input.Asks request) front' links'
 AsksSo asker front links request (Err back) front' links' = (back ≡ request) × (front' ≡ front) × (links' ≡ links)
+
+-- legs of a request that was issued: each went over its link, if that is up, and where one isn't the request was given up; or
+-- none went for want of memory, and the request was withdrawn
+abbrev pub IsSentOff : Asker → RoutingView → OpId → List LegSheet → Option Reply → FrontView → List Link → FrontView → List Link → Type 0
+IsSentOff asker routing op legs denial old links new links' =
+    ((links' ≡ all_sent asker routing legs links)
+    × (new ≡ after_all (given_up_unless (all_up routing legs links) asker.client op) old))
+    ⊎ ((links' ≡ links) × IsWithdrawn asker.client op denial old new)
 
 -- a client was told why its text is refused, or nothing was done
 abbrev pub RefusesSo : Asker → TextError → FrontView → Result (Unit {0}) (Pause × Input) → FrontView → Type 0

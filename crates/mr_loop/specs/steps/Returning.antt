@@ -1,5 +1,5 @@
 -- How the replies that a link's reader holds are taken, before the link breaks.
-use Rattle.std.specs.Prelude.{◌≡◌, ℕ, ◌⊎◌, IsTrue, List, ◌∷◌}
+use Rattle.std.specs.Prelude.{◌≡◌, ℕ, ◌⊎◌, ◌||◌, IsTrue, List, ◌∷◌}
 use Rattle.mr_text.specs.Replies.{SpellsReply, RefusesReply}
 use Rattle.mr_text.specs.Stream.{IsUnfinished}
 use Rattle.mr_loop.specs.declared.link.Link.{Link}
@@ -25,11 +25,6 @@ module _ (old : Link) (front : FrontView) where
     pub next : IsMismatch rest (sent ∷ new.legs)
     pub happens : front' ≡ after_event (giving_up sent) between
 
-  -- the reader takes no more
-  pub record IsShut (new : Link) (front' : FrontView) : Type 0 where
-    pub closed : IsTrue old.reader.closed
-    pub unchanged : (new.legs ≡ old.legs) × (front' ≡ front)
-
   pub record StopsWhole (new : Link) (front' : FrontView) : Type 0 where
     pub taken : HasTaken old.reader.kept old.legs front new.reader.kept new.legs front'
     pub unfinished : IsUnfinished SpellsReply RefusesReply new.reader.kept
@@ -41,5 +36,5 @@ module _ (old : Link) (front : FrontView) where
   TakesReplies Surplus new front' = StopsAt IsSurplus new front'
   TakesReplies Mismatch new front' = StopsAtMismatch new front'
   TakesReplies Complaint new front' = TakesComplaint old.reader.kept old.legs front new.legs front'
-  TakesReplies (Refused refusal) new front' = StopsAt (IsRefused refusal) new front' ⊎ IsShut new front'
+  TakesReplies (Refused refusal) new front' = StopsAt (IsRefused refusal) new front' ⊎ IsTrue (old.reader.closed || old.reader.ended)
   TakesReplies Down new front' = ⊥

@@ -8,6 +8,8 @@ invariant-reply l = record {
   taken : HasTaken l.fn.self.reader.kept l.fn.self.legs l.fn.front l.self.reader.kept l.self.legs l.front;
   same_out : l.self.out ≡ l.fn.self.out;
   same_state : l.self.is_up ≡ l.fn.self.is_up;
+  same_closed : l.self.reader.closed ≡ l.fn.self.reader.closed;
+  same_ended : l.self.reader.ended ≡ l.fn.self.reader.ended;
 }
 
 abbrev pub decreases-reply : goal.decreases-reply
