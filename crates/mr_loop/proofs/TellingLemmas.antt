@@ -10,7 +10,7 @@ use Rattle.std.proofs.lemmas.List.Quantifiers.{position-Some}
 use Rattle.std.proofs.lemmas.Option.{slice_get-get_or, slice_get-map}
 use Rattle.mr_text.specs.declared.reply.Reply.{Reply}
 use Rattle.mr_history.specs.declared.op_id.OpId.{OpId}
-use Rattle.mr_history.proofs.TestLemmas.{same_op_true}
+use Rattle.mr_history.proofs.TestLemmas.{same_op}
 use Rattle.mr_proxy.specs.Answer.{AnswerView}
 use Rattle.mr_proxy.specs.Issue.{next_op}
 use Rattle.mr_proxy.specs.ProxyView.{ProxyView}
@@ -114,7 +114,7 @@ own_set list (first ∷ turns) zero turn h one = (one, h.1)
 own_set list (first ∷ turns) (suc at) turn h one = (h.0, own_set list turns at turn h.1 one)
 
 turn_due : (op : OpId) (turn : Turn) → is_turn_of op turn ≡ true → due_of_turn turn ≡ Due.Op op
-turn_due op (Waits own) h = ap (λ o. Due.Op o) (same_op_true own op h)
+turn_due op (Waits own) h = ap (λ o. Due.Op o) (same_op own op h)
 turn_due op (Answered answer) h = absurd (let no : false ≡ true = h in cc)
 turn_due op (Says reply) h = absurd (let no : false ≡ true = h in cc)
 
