@@ -33,7 +33,6 @@ pub and_true : (b : Bool) → b ≡ b && true
 and_true true = refl
 and_true false = refl
 
-
 -- what is left of the keys, from one on
 pub keys_split : (most : ℕ) (routing : RoutingView) (pool : ℕ) (keys : List (List ℕ)) (links : List Link) (i : ℕ) (key : List ℕ)
     → i < length keys → key ≡ get_or keys i key

@@ -1,7 +1,10 @@
 -- What is there for a first request is told.
-use Rattle.std.proofs.Common.{◌≡◌, ℕ, ◌<◌, List, [], ◌∷◌, ◌++◌, Option, Some, None, drop, length, refl, sym, ap, ◌∙◌, arith, append_assoc}
+use Rattle.std.proofs.Common.{◌≡◌, ℕ, ◌<◌, List, [], ◌∷◌, ◌++◌, Option, Some, None, drop, length, slice_set, refl, sym, ap, ◌∙◌, arith, append_assoc}
 use Rattle.std.specs.Prelude.{slice_get}
-use Rattle.std.proofs.lemmas.List.{append-nil}
+use Rattle.std.proofs.lemmas.List.{append-nil, set-set}
+use Rattle.mr_proxy.specs.ProxyView.{ProxyView}
+use Rattle.mr_loop.specs.Events.{FrontView, Event, after_event, changed}
+use Rattle.mr_loop.proofs.PlaceLemmas.{changes, set_there}
 use Rattle.mr_loop.specs.declared.client.Client.{Client}
 use Rattle.mr_loop.specs.declared.turns.Turn.{Turn}
 use Rattle.mr_loop.specs.Turns.{text_of_turn, front_text, behind_front, text_before, left_behind, flushed}
@@ -69,3 +72,30 @@ nothing c h =
 pub shorter : (turns : List Turn) (turn : Turn) → slice_get turns 0 ≡ Some turn → length (drop 1 turns) < length turns
 shorter [] turn h = absurd (let no : None ≡ Some turn = h in cc)
 shorter (first ∷ turns) turn h = grind arith
+
+-- a client that was told a part is told the rest
+pub flushed_part : (clients : List Client) (place : ℕ) (old new : Client) → slice_get clients place ≡ Some old → flushed new ≡ flushed old
+    → changed place flushed (slice_set clients place new) ≡ changed place flushed clients
+flushed_part clients place old new there same =
+    changes (slice_set clients place new) place new flushed (set_there clients place new old there)
+    ∙ set-set clients place new (flushed new)
+    ∙ ap (λ c. slice_set clients place c) same
+    ∙ sym (changes clients place old flushed there)
+
+abbrev pub front_of : ProxyView → List Client → List ℕ → FrontView
+front_of core clients touched = record { core = core; clients = clients; touched = touched }
+
+-- the same with the core
+pub front_part : (core : ProxyView) (clients : List Client) (touched : List ℕ) (place : ℕ) (old new : Client) → slice_get clients place ≡ Some old
+    → flushed new ≡ flushed old
+    → after_event (Event.Flushes place) (record { core = core; clients = slice_set clients place new; touched = touched })
+    ≡ after_event (Event.Flushes place) (record { core = core; clients = clients; touched = touched })
+front_part core clients touched place old new there same = ap (λ c. front_of core c touched) (flushed_part clients place old new there same)
+
+-- a client is told all that is there
+pub front_flushed : (core : ProxyView) (clients : List Client) (touched : List ℕ) (place : ℕ) (old new : Client) → slice_get clients place ≡ Some old
+    → new ≡ flushed old
+    → front_of core (slice_set clients place new) touched
+    ≡ after_event (Event.Flushes place) (record { core = core; clients = clients; touched = touched })
+front_flushed core clients touched place old new there is =
+    ap (λ c. front_of core c touched) (ap (λ c. slice_set clients place c) is ∙ sym (changes clients place old flushed there))

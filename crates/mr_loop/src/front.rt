@@ -233,10 +233,13 @@ impl Front {
         ensures in_part { OnErr result
             (after_event (Event.Flushes client) self.new ≡ after_event (Event.Flushes client) self.old) }
     {
-        if client < self.clients.len() {
-            self.clients[client].flush(buffer)?;
+        if client >= self.clients.len() {
+            return Ok(());
         }
-        Ok(())
+        match self.clients[client].flush(buffer) {
+            Ok(()) => Ok(()),
+            Err(error) => Err(error),
+        }
     }
 
     /// One more place, for a client that asked nothing yet. For want of memory nothing changes.

@@ -1,5 +1,5 @@
 //! How the legs of a request go over their links: all of those whose link is up, or none.
-ghost use Rattle.std.specs.Prelude.{◌≡◌, ◌++◌, [], length, true, IfOk, OnOk, OnErr};
+ghost use Rattle.std.specs.Prelude.{◌≡◌, ◌&&◌, ◌++◌, [], length, true, IfOk, OnOk, OnErr};
 ghost use Rattle.mr_loop.specs.Links.{all_sent, all_up, sent_over, is_up_at};
 ghost use Rattle.mr_loop.specs.steps.Sending.{undone, undone_one};
 
@@ -87,6 +87,13 @@ fn take_all_back(links: &mut [Link], scratch: &mut Scratch)
     }
 }
 
+/// Whether both hold.
+fn both(one: bool, other: bool) -> bool
+    ensures { result ≡ one && other }
+{
+    one && other
+}
+
 /// Each leg goes over its link, if that is up. Whether all are. For want of memory none goes.
 pub(crate) fn send_all(
     links: &mut [Link],
@@ -109,7 +116,7 @@ pub(crate) fn send_all(
             leg,
         };
         match send_leg(links, number, scratch, sent) {
-            Ok(went) => all = all && went,
+            Ok(went) => all = both(all, went),
             Err(error) => {
                 take_all_back(links, scratch);
                 return Err(error);

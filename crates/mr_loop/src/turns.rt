@@ -8,6 +8,7 @@ use mr_text::Reply;
 use std::alloc::{AllocError, Global};
 use std::collections::VecDeque;
 use std::marker::Model;
+use std::mem;
 
 /// One request of a client.
 #[derive(Debug, Drop)]
@@ -119,7 +120,7 @@ impl Turns {
         ensures { self.new ≡ noted answer self.old }
     {
         if let Some(at) = self.find(answer.op()) {
-            self.queue[at] = Turn::Answered(answer);
+            let _ = mem::replace(&mut self.queue[at], Turn::Answered(answer));
         }
     }
 

@@ -32,11 +32,11 @@ returns-in-Ok-None c =
       same_state = c.reply.invariant.same_state;
     }
 
-pub returns-in_default-pop : goal.returns-in_default-pop
-returns-in_default-pop c =
+pub returns-in_default : goal.returns-in_default
+returns-in_default c =
     let answer = rw c.in-Ok-Some.field-0-is at c.in-Ok-Some.ensures.answer in
     let n = answer c.reply.self.reader.kept refl in
-    let e = c.in_default-pop.ensures in
+    let e = c.in_default.ensures in
     let P : List SentLeg → Type 0 = λ x. HasTaken c.args.self.now.reader.kept c.args.self.now.legs c.args.front.now c.reply.self.reader.kept x c.reply.front in
     record { rest = c.reply.self.reader.kept; taken = subst P (e.0 ∙ sym e.1) c.reply.invariant.taken; next = ((c.in-Ok-Some.reply, n.1, n.2), e.1) }
 
@@ -62,7 +62,7 @@ returns-in_default-leg_reply_of c =
         next = n.2;
         other = subst N c.sheet.ensures c.in_default-leg_reply_of.ensures;
       };
-      happens = subst G c.sheet-2.ensures c.give_up.ensures;
+      happens = subst G c.sheet-in_default-leg_reply_of.ensures c.give_up.ensures;
     }
 
 pub returns-then-complains : goal.returns-then-complains
@@ -81,7 +81,7 @@ returns-then-complains c =
       taken = c.reply.invariant.taken;
       first = c.in-Some.ensures;
       next = n.2;
-      complains = sym c.is_complaint.ensures ∙ c.if-complains.true;
+      complains = sym c.is_complaint-complains.ensures ∙ c.if-complains.true;
       answers = subst A c.sheet.ensures c.in-Some-leg_reply_of.ensures;
       happens = c.take.ensures;
     }
