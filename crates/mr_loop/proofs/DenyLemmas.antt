@@ -19,7 +19,7 @@ abbrev pub told_in : Option Reply → ℕ → List Client → List Client
 told_in None client clients = clients
 told_in (Some reply) client clients = changed client (with_turn (Says reply)) clients
 
-abbrev client_of : List Turn → List ℕ → Client
+abbrev pub client_of : List Turn → List ℕ → Client
 client_of turns out = record { turns = turns; out = out }
 
 told_client : (clients : List Client) (client : ℕ) (old : Client) (denial : Option Reply) → slice_get clients client ≡ Some old

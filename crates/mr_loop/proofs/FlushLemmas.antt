@@ -1,6 +1,6 @@
 -- What is there for a first request is told.
 use Rattle.std.proofs.Common.{◌≡◌, ℕ, ◌<◌, List, [], ◌∷◌, ◌++◌, Option, Some, None, drop, length, slice_set, refl, sym, ap, ◌∙◌, arith, append_assoc}
-use Rattle.std.specs.Prelude.{slice_get}
+use Rattle.std.specs.Prelude.{slice_get, Result, Ok, Err, OnOk, OnErr}
 use Rattle.std.proofs.lemmas.List.{append-nil, set-set}
 use Rattle.mr_proxy.specs.ProxyView.{ProxyView}
 use Rattle.mr_loop.specs.Events.{FrontView, Event, after_event, changed}
@@ -99,3 +99,11 @@ pub front_flushed : (core : ProxyView) (clients : List Client) (touched : List �
     ≡ after_event (Event.Flushes place) (record { core = core; clients = clients; touched = touched })
 front_flushed core clients touched place old new there is =
     ap (λ c. front_of core c touched) (ap (λ c. slice_set clients place c) is ∙ sym (changes clients place old flushed there))
+
+pub on_ok : {T E P Q : Type 0} (r : Result T E) → OnOk r P → (P → Q) → OnOk r Q
+on_ok (Ok x) h f = f h
+on_ok (Err e) h f = h
+
+pub on_err : {T E P Q : Type 0} (r : Result T E) → OnErr r P → (P → Q) → OnErr r Q
+on_err (Ok x) h f = h
+on_err (Err e) h f = f h

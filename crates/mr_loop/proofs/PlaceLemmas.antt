@@ -1,7 +1,8 @@
 -- Elements of lists that grow and that are written to.
-use Rattle.std.proofs.Common.{◌≡◌, ◌≢◌, ℕ, ◌+◌, ◌-◌, suc, zero, List, [], ◌∷◌, ◌++◌, Option, Some, None, length, take, slice_set, refl, sym, ap, ◌∙◌, arith, length-append}
+use Rattle.std.proofs.Common.{◌≡◌, ◌≢◌, ℕ, ◌+◌, ◌<◌, ◌-◌, suc, zero, List, [], ◌∷◌, ◌++◌, Option, Some, None, length, take, get_or, slice_set, refl, sym, ap, ◌∙◌, arith, length-append}
 use Rattle.std.specs.Prelude.{slice_get}
 use Rattle.std.proofs.lemmas.List.{take_at}
+use Rattle.std.proofs.lemmas.Option.{slice_get-get_or}
 use Rattle.mr_loop.specs.declared.client.Client.{Client}
 use Rattle.mr_loop.specs.Events.{changed, changed_in}
 
@@ -40,3 +41,10 @@ changes clients place client change e = ap (λ o. changed_in o place change clie
 pub changes_none : (clients : List Client) (place : ℕ) (change : Client → Client)
     → slice_get clients place ≡ None → changed place change clients ≡ clients
 changes_none clients place change e = ap (λ o. changed_in o place change clients) e
+
+-- what stands at a place, whatever would be there past the end
+pub get_any : {X : Type 0} (xs : List X) (n : ℕ) (d e : X) → n < length xs → get_or xs n d ≡ get_or xs n e
+get_any xs n d e within =
+    let one = slice_get-get_or xs n d within in
+    let other = slice_get-get_or xs n e within in
+    cc

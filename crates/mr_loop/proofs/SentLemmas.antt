@@ -139,3 +139,28 @@ went_back links number count link new sent marks marks' there e same more =
     ∙ ap (λ l. undone marks (undone_one mark (slice_set links number l))) e
     ∙ ap (λ m. undone marks (undone_one m (slice_set links number (with_leg sent link)))) is
     ∙ ap (λ l. undone marks l) (undone_leg links number link sent there)
+
+-- what a mark tells of is taken back
+pub back_one : (links : List Link) (mark : Mark) (link new : Link) → slice_get links mark.number ≡ Some link → new ≡ without_last mark.count link
+    → slice_set links mark.number new ≡ undone_one mark links
+back_one links mark link new there e =
+    ap (λ l. slice_set links mark.number l) e ∙ sym (ap (λ o. undone_in o mark links) there)
+
+-- whether all are up that the next leg is with
+pub up_next : (asker : Asker) (routing : RoutingView) (front : List LegSheet) (sheet : LegSheet) (first links : List Link) (number : ℕ) (all went now : Bool)
+    → all ≡ all_up routing front first → links ≡ all_sent asker routing front first → number ≡ link_of routing sheet
+    → went ≡ is_up_at links number → now ≡ all && went → now ≡ all_up routing (front ++ sheet ∷ []) first
+up_next asker routing front sheet first links number all went now up sent is w n =
+    let here : went ≡ is_up_at first (link_of routing sheet) =
+    w ∙ ap (λ l. is_up_at l number) sent ∙ ap (λ k. is_up_at (all_sent asker routing front first) k) is
+    ∙ up_after_all asker routing front first (link_of routing sheet) in
+    n ∙ ap (λ b. b && went) up ∙ ap (λ b. all_up routing front first && b) here ∙ sym (all_up_more routing front sheet first)
+
+-- the next leg went behind the others
+pub sent_next : (asker : Asker) (routing : RoutingView) (front : List LegSheet) (sheet : LegSheet) (first links links' : List Link) (number : ℕ)
+    → links ≡ all_sent asker routing front first → number ≡ link_of routing sheet → links' ≡ sent_over number (sent_by asker sheet) links
+    → links' ≡ all_sent asker routing (front ++ sheet ∷ []) first
+sent_next asker routing front sheet first links links' number sent is step =
+    step ∙ ap (λ l. sent_over number (sent_by asker sheet) l) sent
+    ∙ ap (λ k. sent_over k (sent_by asker sheet) (all_sent asker routing front first)) is
+    ∙ sym (all_sent_more asker routing front sheet first)

@@ -199,13 +199,14 @@ impl Front {
             return Begun::Later(request);
         }
         let op = self.next_op();
-        if self.clients[client].turns.push(Turn::Waits(op)).is_err() {
+        if let Err(_) = self.clients[client].turns.push(Turn::Waits(op)) {
             return Begun::Later(request);
         }
         match self.core.issue(asker.reading, request) {
             Ok(issued) => Begun::Issued(issued),
             Err((refusal, request)) => {
                 let denial = denial(&request, cause_of(refusal));
+                drop(request);
                 self.clients[client].turns.deny(denial);
                 Begun::Told
             }
@@ -236,10 +237,7 @@ impl Front {
         if client >= self.clients.len() {
             return Ok(());
         }
-        match self.clients[client].flush(buffer) {
-            Ok(()) => Ok(()),
-            Err(error) => Err(error),
-        }
+        self.clients[client].flush(buffer)
     }
 
     /// One more place, for a client that asked nothing yet. For want of memory nothing changes.

@@ -73,7 +73,6 @@ impl Link {
 
     /// Takes the leg back that went last: so many bytes are to be written again.
     pub(crate) fn take_back(&mut self, count: usize)
-        requires { count ≤ length self.old.out }
         ensures { self.new ≡ without_last count self.old }
     {
         self.legs.pop_last();

@@ -99,11 +99,11 @@ impl OutBuffer {
 
     /// Only so many bytes wait any more, the first ones.
     pub(crate) fn cut(&mut self, count: usize)
-        requires { count ≤ length self.old }
         ensures { self.new ≡ take count self.old }
     {
-        let end = self.start + count;
-        self.sink.bytes.truncate(end);
+        if count < self.len() {
+            self.sink.bytes.truncate(self.start + count);
+        }
     }
 
     /// Puts the request for a command behind what waits. For want of memory nothing changes.

@@ -1,5 +1,5 @@
 //! The requests of one client, in the order in which they are answered.
-ghost use Rattle.std.specs.Prelude.{◌≡◌, ◌-◌, [], ◌∷◌, ◌++◌, length, drop, position, is_some, slice_get, OnOk, OnErr};
+ghost use Rattle.std.specs.Prelude.{◌≡◌, ◌-◌, ◌<◌, [], ◌∷◌, ◌++◌, length, drop, position, is_some, slice_get, slice_set, OnOk, OnErr};
 ghost use Rattle.std.specs.Option.{option_copied};
 
 use mr_history::{OpId, is_same_op};
@@ -8,7 +8,6 @@ use mr_text::Reply;
 use std::alloc::{AllocError, Global};
 use std::collections::VecDeque;
 use std::marker::Model;
-use std::mem;
 
 /// One request of a client.
 #[derive(Debug, Drop)]
@@ -115,12 +114,20 @@ impl Turns {
         self.queue.iter().position(|turn| turn.is_of(op))
     }
 
+    /// Another turn stands at a place.
+    fn set(&mut self, at: usize, turn: Turn)
+        requires { at < length self.old }
+        ensures { self.new ≡ slice_set self.old at turn }
+    {
+        self.queue[at] = turn;
+    }
+
     /// Notes an answer at the turn of its request.
     pub(crate) fn note(&mut self, answer: Answer)
         ensures { self.new ≡ noted answer self.old }
     {
         if let Some(at) = self.find(answer.op()) {
-            let _ = mem::replace(&mut self.queue[at], Turn::Answered(answer));
+            self.set(at, Turn::Answered(answer));
         }
     }
 
