@@ -28,7 +28,7 @@ unfed old new rest piece OutOfMemory f = inl f.0
 not_shut : (closed ended : Bool) → closed ≡ false → ended ≡ false → ¬ IsTrue (closed || ended)
 not_shut true ended c e t = let no : true ≡ false = c in cc
 not_shut false true c e t = let no : true ≡ false = e in cc
-not_shut false false c e t = t
+not_shut false false c e t = let no : false ≡ true = t in cc
 
 abbrev fed_link : Link → ReaderView → Link
 fed_link old reader = record old { reader = reader }

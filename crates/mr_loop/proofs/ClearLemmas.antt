@@ -1,12 +1,16 @@
 -- Whether links have places, leg by leg and key by key.
 use Rattle.std.proofs.Common.{◌≡◌, ℕ, ◌+◌, ◌<◌, List, [], ◌∷◌, Bool, true, false, ◌&&◌, drop, length, map, get_or, refl, sym, ap, ◌∙◌}
 use Rattle.std.proofs.lemmas.List.{drop_more}
+use Rattle.mr_text.specs.declared.request.Request.{Request}
+use Rattle.mr_text.specs.declared.request.Request.TheVariants as asked
 use Rattle.mr_history.specs.declared.op_id.OpId.{OpId}
-use Rattle.mr_node.specs.declared.command.NodeCommand.TheVariants.{Get, Set, Delete}
+use Rattle.mr_node.specs.declared.command.NodeCommand.TheVariants.{Get, Delete}
 use Rattle.mr_phases.specs.Pools.{pool_number}
+use Rattle.mr_phases.specs.Schedule.{Hop, hop_of, phase_of}
+use Rattle.mr_phases.specs.Sides.{read_side_of}
 use Rattle.mr_phases.specs.declared.side.Side.{Side}
 use Rattle.mr_pools.specs.Routing.{RoutingView}
-use Rattle.mr_proxy.specs.Sheets.{sheets_from, targets_of}
+use Rattle.mr_proxy.specs.Sheets.{sheets_by, sheets_from, targets_of}
 use Rattle.mr_loop.specs.declared.link.Link.{Link}
 use Rattle.mr_loop.specs.Links.{are_clear, has_place, link_of_key}
 use Rattle.mr_loop.specs.steps.Clearing.{keys_clear, sides_clear}
@@ -48,3 +52,14 @@ pub sides_split : (most : ℕ) (routing : RoutingView) (hop : ℕ) (sides : List
     ≡ has_place most links (link_of_key routing (pool_number hop (get_or sides i d)) key) && sides_clear most routing hop (drop (i + 1) sides) key links
 sides_split most routing hop sides key links i d within =
     ap (λ l. sides_clear most routing hop l key links) (drop_more sides i d within)
+
+-- the legs of a get that is judged by a reading
+pub get_same : (most : ℕ) (routing : RoutingView) (hops : List Hop) (op : OpId) (u : ℕ) (hop pool : ℕ) (side : Side) (keys : List (List ℕ)) (request : Request) (links : List Link)
+    → hop ≡ hop_of hops u → side ≡ read_side_of (phase_of hops u) → pool ≡ pool_number hop side → request ≡ asked.Get keys
+    → keys_clear most routing pool keys links ≡ are_clear most routing (sheets_by routing hops op u request) links
+get_same most routing hops op u hop pool side keys request links h s p r =
+    ap (λ n. keys_clear most routing n keys links) p
+    ∙ keys_same most routing hop op 0 side keys links
+    ∙ ap (λ n. are_clear most routing (sheets_from routing n op 0 (targets_of (side ∷ []) (map Get keys))) links) h
+    ∙ ap (λ (x : Side). are_clear most routing (sheets_from routing (hop_of hops u) op 0 (targets_of (x ∷ []) (map Get keys))) links) s
+    ∙ ap (λ (x : Request). are_clear most routing (sheets_by routing hops op u x) links) (sym r)

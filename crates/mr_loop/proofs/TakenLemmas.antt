@@ -63,12 +63,12 @@ taken_more bytes legs front rest left between sent reply said after later front'
     }
 
 or_left : (a b : Bool) → a ≡ true → IsTrue (a || b)
-or_left true b e = tt
+or_left true b e = refl
 or_left false b e = absurd (let no : false ≡ true = e in cc)
 
 or_right : (a b : Bool) → b ≡ true → IsTrue (a || b)
-or_right true b e = tt
-or_right false true e = tt
+or_right true b e = refl
+or_right false true e = refl
 or_right false false e = absurd (let no : false ≡ true = e in cc)
 
 -- what the reader refuses

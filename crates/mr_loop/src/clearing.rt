@@ -1,7 +1,7 @@
 //! Whether the links that a request would go over have places for its legs.
 ghost use Rattle.std.specs.Prelude.{◌≡◌, ◌+◌, ◌<◌, ◌≤◌, ◌≢◌, length, map};
 ghost use Rattle.mr_phases.specs.Pools.{pool_number};
-ghost use Rattle.mr_proxy.specs.Issue.{sheets_of};
+ghost use Rattle.mr_proxy.specs.Issue.{sheets_of, used_reading};
 ghost use Rattle.mr_proxy.specs.Sheets.{HasHop};
 ghost use Rattle.mr_loop.specs.Links.{are_clear, has_place, link_of_key};
 ghost use Rattle.mr_loop.specs.steps.Clearing.{keys_clear, sides_clear};
@@ -58,6 +58,16 @@ fn are_sides_clear(
     true
 }
 
+/// The reading by which the next request would be judged: the larger of this one and the last one.
+fn used_reading(core: &ProxyCore, reading: u64) -> u64
+    ensures { result ≡ used_reading core.now.last reading }
+{
+    match core.last() {
+        None => reading,
+        Some(last) => last.max(reading),
+    }
+}
+
 /// Whether so it is of the link of each leg that a request would have, were it issued at this reading.
 pub(crate) fn are_clear(
     links: &[Link],
@@ -69,10 +79,7 @@ pub(crate) fn are_clear(
     ensures { result ≡ are_clear most core.now.routing (sheets_of core.now reading request.now) links.now }
 {
     let _sound = core.outstanding();
-    let used = match core.last() {
-        None => reading,
-        Some(last) => last.max(reading),
-    };
+    let used = used_reading(core, reading);
     let judged = judge(core.schedule(), used);
     let hop = judged.hop();
     let routing = core.routing();

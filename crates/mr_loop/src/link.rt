@@ -137,14 +137,19 @@ impl Link {
         if !self.is_up {
             return LinkEnd::Down;
         }
-        if let Err(refusal) = self.reader.feed(piece) {
-            self.break_off(alloc, front);
-            return LinkEnd::Refused(refusal);
+        match self.reader.feed(piece) {
+            Err(refusal) => {
+                self.break_off(alloc, front);
+                return LinkEnd::Refused(refusal);
+            }
+            Ok(()) => {}
         }
-        let end = self.take_replies(front);
-        if end != LinkEnd::Whole {
-            self.break_off(alloc, front);
+        match self.take_replies(front) {
+            LinkEnd::Whole => LinkEnd::Whole,
+            end => {
+                self.break_off(alloc, front);
+                end
+            }
         }
-        end
     }
 }

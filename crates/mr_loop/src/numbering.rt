@@ -42,5 +42,6 @@ pub(crate) fn link_of_key(routing: &Routing, pool: usize, key: &Key) -> usize
     requires { pool + 1 ≤ length routing.now.pools }
     ensures { result ≡ link_of_key routing.now pool key.now }
 {
+    let _known = routing.hash();
     nodes_before(routing, pool) + routing.place(pool, key)
 }
