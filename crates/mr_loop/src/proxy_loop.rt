@@ -3,7 +3,7 @@ ghost use Rattle.std.specs.Prelude.{◌≡◌, ◌<◌, ◌≤◌, ◌&&◌, len
 ghost use Rattle.mr_loop.specs.Events.{after_all};
 ghost use Rattle.mr_loop.specs.Links.{is_up_at, down_link};
 ghost use Rattle.mr_loop.specs.LoopView.{LinkBytes, LinkBreaks, LinkWrote, LinkComesUp, ClientBytes, ClientEnds, ClientRead, fresh_loop, client_flushed, refreshed, with_place, after_tick, output_in, is_idle_in, link_output_in, is_done_in, asker_of, IsAsked};
-ghost use Rattle.mr_loop.specs.Ticking.{ticked, ticks};
+ghost use Rattle.mr_loop.specs.Ticking.{ticked, ticks, given_up_at};
 
 use crate::asker::{Asker, Limits};
 use crate::asking::{Pause, ask_on};
@@ -253,14 +253,22 @@ impl ProxyLoop {
     }
 }
 
+/// A link breaks whose first leg went longer ago than the bound allows.
+fn tick_link(alloc: Global, front: &mut Front, link: &mut Link, bound: u64, now: u64)
+    ensures front { front.new ≡ after_all (given_up_at bound now link.old) front.old }
+    ensures link { link.new ≡ ticked bound now link.old }
+{
+    if link.is_late(bound, now) {
+        link.break_off(alloc, front);
+    }
+}
+
 /// Each link whose first leg went longer ago than the bound allows breaks.
 fn tick(alloc: Global, front: &mut Front, links: &mut [Link], bound: u64, now: u64)
     ensures front { front.new ≡ after_all (ticks bound now links.old) front.old }
     ensures links { links.new ≡ map (ticked bound now) links.old }
 {
-    for link in links.iter_mut() {
-        if link.is_late(bound, now) {
-            link.break_off(alloc, front);
-        }
+    for number in 0..links.len() {
+        tick_link(alloc, front, &mut links[number], bound, now);
     }
 }

@@ -1,0 +1,52 @@
+-- What was done for a request.
+use Rattle.std.proofs.Common.{◌≡◌, ℕ, ◌<◌, ◌⊎◌, inl, inr, List, [], ◌∷◌, ◌++◌, Option, Some, None, length, refl, sym, ap, ◌∙◌}
+use Rattle.mr_text.specs.declared.cause.Cause.TheVariants as cause
+use Rattle.mr_text.specs.declared.reply.Reply.{Reply}
+use Rattle.mr_text.specs.declared.request.Request.{Request}
+use Rattle.mr_history.specs.declared.op_id.OpId.{OpId}
+use Rattle.mr_proxy.specs.Issue.{next_op, refusal_of, sheets_of}
+use Rattle.mr_proxy.specs.declared.sheet.LegSheet.{LegSheet}
+use Rattle.mr_desks.specs.declared.step.Step.TheVariants.{Issue, GiveUp}
+use Rattle.mr_loop.specs.declared.asker.Asker.{Asker}
+use Rattle.mr_loop.specs.declared.front.Begun.TheVariants.{Told}
+use Rattle.mr_loop.specs.declared.inbox.Input.TheVariants as input
+use Rattle.mr_loop.specs.declared.link.Link.{Link}
+use Rattle.mr_loop.specs.Asking.{IsDoneFor, tells, denial, fails, given_up_unless}
+use Rattle.mr_loop.specs.Events.{FrontView, Event, after_event, after_all}
+use Rattle.mr_loop.specs.Links.{all_sent, all_up}
+use Rattle.mr_loop.specs.steps.Asking.{IssuesSo, IsSentOff}
+
+-- a request was issued, and its legs were sent off
+pub begun_so : (asker : Asker) (request : Request) (front : FrontView) (links : List Link) (issued : FrontView) (op : OpId) (legs : List LegSheet) (denied : Option Reply)
+    (front' : FrontView) (links' : List Link)
+    → refusal_of front.core ≡ None → asker.client < length front.clients
+    → issued ≡ after_event (Event.Does asker.client (Issue asker.reading request)) front → op ≡ next_op front.core
+    → legs ≡ sheets_of front.core asker.reading request → denied ≡ denial request cause.OutOfMemory
+    → IsSentOff asker issued.core.routing op legs denied issued links front' links'
+    → IsDoneFor asker front links (input.Asks request) front' links'
+begun_so asker request front links issued op legs denied front' links' none within e o l d (inl sent) =
+    let now : FrontView = after_event (Event.Does asker.client (Issue asker.reading request)) front in
+    inl (record {
+      accepted = none;
+      went = sent.0 ∙ ap (λ (f : FrontView). all_sent asker f.core.routing legs links) e
+          ∙ ap (λ x. all_sent asker front.core.routing x links) l;
+      happens = sent.1
+          ∙ ap (λ (f : FrontView). after_all (given_up_unless (all_up f.core.routing legs links) asker.client op) f) e
+          ∙ ap (λ x. after_all (given_up_unless (all_up front.core.routing x links) asker.client op) now) l
+          ∙ ap (λ x. after_all (given_up_unless (all_up front.core.routing (sheets_of front.core asker.reading request) links) asker.client x) now) o;
+    })
+begun_so asker request front links issued op legs denied front' links' none within e o l d (inr kept) =
+    inr (inr (inr (record {
+      accepted = none;
+      before = fails asker request front.core;
+      either = inr refl;
+      happens = kept.1 asker.reading request front within o e
+          ∙ ap (λ x. after_all (tells asker.client x) (after_all (fails asker request front.core) front)) d;
+    }, kept.0)))
+
+-- a client was told why its request isn't issued
+pub told_done : (asker : Asker) (request : Request) (front front' : FrontView) (links : List Link) → IssuesSo asker request front Told front'
+    → IsDoneFor asker front links (input.Asks request) front' links
+told_done asker request front front' links (inl spent) = inr (inr (inl (record { spent = spent.0; happens = spent.1 }, refl)))
+told_done asker request front front' links (inr none) =
+    inr (inr (inr (record { accepted = none.0; before = []; either = inl refl; happens = none.1 }, refl)))
