@@ -43,9 +43,9 @@ ticks_more bound now n links at old d first before after within is read was e =
     let same : old ≡ get_or links n d = read ∙ ap (λ l. get_or l n d) is ∙ part_get (ticked bound now) links n d in
     let more : take (n + 1) links ≡ take n links ++ get_or links n d ∷ [] = take_more links n d within in
     let events : ticks bound now (take (n + 1) links) ≡ ticks bound now (take n links) ++ given_up_at bound now (get_or links n d) =
-        ap (λ l. ticks bound now l) more
-        ∙ flat_map-append (given_up_at bound now) (take n links) (get_or links n d ∷ [])
-        ∙ ap (λ l. ticks bound now (take n links) ++ l) (append-nil (given_up_at bound now (get_or links n d))) in
+    ap (λ l. ticks bound now l) more
+    ∙ flat_map-append (given_up_at bound now) (take n links) (get_or links n d ∷ [])
+    ∙ ap (λ l. ticks bound now (take n links) ++ l) (append-nil (given_up_at bound now (get_or links n d))) in
     e ∙ ap (λ f. after_all (given_up_at bound now old) f) was
     ∙ ap (λ x. after_all (given_up_at bound now x) (after_all (ticks bound now (take n links)) first)) same
     ∙ sym (after_both (ticks bound now (take n links)) (given_up_at bound now (get_or links n d)) first)

@@ -101,12 +101,13 @@ fn answer(
 fn answer_refusal(front: &mut Front, asker: Asker, refusal: TextError) -> Result<(), (Pause, Input)>
     ensures { RefusesSo asker refusal front.old result front.new }
 {
-    if let Some(reply) = reply_to_refusal(refusal) {
-        if front.tell(asker.client, reply).is_err() {
-            return Err((Pause::NeedsMemory, Input::Refused(refusal)));
-        }
+    let Some(reply) = reply_to_refusal(refusal) else {
+        return Ok(());
+    };
+    match front.tell(asker.client, reply) {
+        Ok(()) => Ok(()),
+        Err(_) => Err((Pause::NeedsMemory, Input::Refused(refusal))),
     }
-    Ok(())
 }
 
 /// Begins a request, unless a link that it needs has too many legs.
