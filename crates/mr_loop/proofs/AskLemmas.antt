@@ -136,3 +136,11 @@ stops_held asker old fetched (input.Refused refusal) back NeedsBytes front' link
 stops_held asker old fetched (input.Refused refusal) back NeedsRoom front' links' came a = absurd a.3
 stops_held asker old fetched (input.Refused refusal) back NeedsReader front' links' came a = absurd a.3
 stops_held asker old fetched (input.Refused refusal) back IsDone front' links' came a = absurd a.3
+
+not_full_if : (full behind : Bool) → cond full (Some NeedsRoom) (cond behind (Some NeedsReader) None) ≡ None → full ≡ false
+not_full_if true behind e = absurd (let no : Some NeedsRoom ≡ None = e in cc)
+not_full_if false behind e = refl
+
+-- there is room where nothing holds a client back
+pub not_full : (asker : Asker) (f : FrontView) → pause_before asker.limits asker.client f ≡ None → is_full f.core ≡ false
+not_full asker f e = not_full_if (is_full f.core) (is_behind asker.limits asker.client f) e
