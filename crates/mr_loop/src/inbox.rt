@@ -58,6 +58,7 @@ impl Inbox {
     /// Takes bytes. For want of memory nothing changes.
     pub(crate) fn feed(&mut self, piece: &[u8]) -> Result<(), AllocError>
         ensures taken { OnOk result (TakesPiece piece.now self.old self.new) }
+        ensures unchanged { OnErr result (self.new ≡ self.old) }
     {
         if piece.is_empty() {
             return Ok(());
