@@ -1,5 +1,6 @@
 -- What a client asks, one thing after the other.
 use Rattle.std.proofs.Common.{◌≡◌, ◌≢◌, ℕ, ◌+◌, ◌*◌, ◌<◌, ◌⊎◌, inl, inr, List, [], Bool, true, false, cond, Option, Some, None, Result, Ok, Err, length, refl, sym, ap, ◌∙◌, subst, arith}
+use Rattle.std.specs.Prelude.{not}
 use Rattle.mr_text.specs.Requests.{SpellsRequest, RefusesRequest, SkipsLine, is_quit}
 use Rattle.mr_text.specs.Stream.{ReaderView, StandsFor, NextIs, unread, skips_line}
 use Rattle.mr_text.specs.declared.error.TextError.{TextError}
@@ -64,7 +65,7 @@ less_closed old new answer r same =
     let is_open = ap open_count r.done in
     omega arith
 
-less_refused : (old new : Inbox) (refusal : TextError) → LinesLeaveLess → ReadsOne old (Err refusal) (cond (skips_line refusal) false true) new
+less_refused : (old new : Inbox) (refusal : TextError) → LinesLeaveLess → ReadsOne old (Err refusal) (not (skips_line refusal)) new
     → refusal ≢ Closed → refusal ≢ OutOfMemory → left new < left old
 less_refused old new LineTooLong law r c m = less_closed old new _ r r.next.2.stands
 less_refused old new BadKey law r c m = less_closed old new _ r r.next.2.stands

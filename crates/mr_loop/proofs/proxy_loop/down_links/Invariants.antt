@@ -3,8 +3,8 @@ use Rattle.mr_loop.specs.Links.{down_link}
 use Rattle.mr_loop.proofs.proxy_loop.down_links.Given as goal
 
 -- the links so far are down
-abbrev pub invariant-loop-links : goal.invariant-loop-links
-invariant-loop-links l = record { down : l.links.items ≡ replicate (vec_len l.links) down_link; within : vec_len l.links ≤ l.count }
+abbrev pub invariant-loop-alloc : goal.invariant-loop-alloc
+invariant-loop-alloc l = record { down : l.links.items ≡ replicate (vec_len l.links) down_link; within : vec_len l.links ≤ l.count }
 
-abbrev pub decreases-loop-links : goal.decreases-loop-links
-decreases-loop-links l = l.count - vec_len l.links
+abbrev pub decreases-loop-alloc : goal.decreases-loop-alloc
+decreases-loop-alloc l = l.count - vec_len l.links

@@ -20,12 +20,12 @@ returns c =
     let asker : Asker = record { client = c.args.client; reading = c.args.reading; now = c.args.now; limits = c.self.inside.limits } in
     let Q : List Link → Type 0 = λ links. AsksOn asker c.ask_on.result (asking c.end.new.self c.self.inside.front links) (asking c.ask_on.new.inbox c.ask_on.new.front c.ask_on.new.links) in
     rw (← c.self.view_is) (record {
-      inbox = c.index_mut.result.now;
+      inbox = c.index_mut-inbox.result.now;
       ended = c.end.new.self;
       inbox' = c.ask_on.new.inbox;
       front' = c.ask_on.new.front;
       links' = c.ask_on.new.links;
-      there = slice_get_read _ _ _ _ refl within c.index_mut.ensures.value;
+      there = slice_get_read _ _ _ _ refl within c.index_mut-inbox.ensures.value;
       ends = c.end.ensures;
       asks = subst Q c.deref_mut.ensures.value c.ask_on.ensures;
       becomes = ap (λ links. the_loop c.ask_on.new.front (slice_set c.self.inside.inboxes.items c.args.client c.ask_on.new.inbox) links c.self.inside.limits)
