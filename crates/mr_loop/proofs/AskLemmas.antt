@@ -1,5 +1,5 @@
 -- What a client asks, one thing after the other.
-use Rattle.std.proofs.Common.{◌≡◌, ◌≢◌, ℕ, ◌+◌, ◌*◌, ◌<◌, ◌⊎◌, inl, inr, List, [], Bool, true, false, cond, Option, Some, None, Result, Ok, Err, length, refl, sym, ap, ◌∙◌, subst, arith}
+use Rattle.std.proofs.Common.{◌≡◌, ◌≢◌, ℕ, ◌+◌, ◌*◌, ◌<◌, ◌⊎◌, inl, inr, List, Bool, true, false, cond, Option, Some, None, Result, Ok, Err, length, refl, ap, ◌∙◌, subst, arith}
 use Rattle.std.specs.Prelude.{not}
 use Rattle.mr_text.specs.Requests.{SpellsRequest, RefusesRequest, SkipsLine, is_quit}
 use Rattle.mr_text.specs.Stream.{ReaderView, StandsFor, NextIs, unread, skips_line}
@@ -16,7 +16,7 @@ use Rattle.mr_loop.specs.declared.inbox.Input.TheVariants as input
 use Rattle.mr_loop.specs.declared.link.Link.{Link}
 use Rattle.mr_loop.specs.Asking.{Asking, StopsFor, HoldsBack, pause_before, is_full, is_behind}
 use Rattle.mr_loop.specs.Events.{FrontView}
-use Rattle.mr_loop.specs.Inboxes.{FetchIs, ReadsOne, TakesHeld, without_held, holding}
+use Rattle.mr_loop.specs.Inboxes.{FetchIs, ReadsOne, TakesHeld, holding}
 use Rattle.mr_loop.specs.steps.Asking.{AnswersSo}
 
 abbrev held_count : Option Input → ℕ

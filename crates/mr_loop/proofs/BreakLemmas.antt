@@ -1,14 +1,13 @@
 -- A link that breaks once it has taken replies.
-use Rattle.std.proofs.Common.{◌≡◌, ◌≢◌, ℕ, ◌⊎◌, inl, inr, Bool, true, false, ◌||◌, IsTrue, List, [], ◌∷◌, ◌++◌, Err, refl, sym, ap, ◌∙◌, subst}
+use Rattle.std.proofs.Common.{◌≡◌, ◌≢◌, ℕ, ◌⊎◌, inl, inr, Bool, true, false, ◌||◌, IsTrue, List, ◌∷◌, ◌++◌, Err, refl, ap, ◌∙◌, subst}
 use Rattle.mr_text.specs.Stream.{ReaderView, FeedIs}
 use Rattle.mr_text.specs.declared.error.TextError.{TextError}
 use Rattle.mr_text.specs.declared.error.TextError.TheVariants.{LineTooLong, BadKey, BadNumber, WrongWords, DataTooLong, BadDataEnd, UnknownCommand, Truncated, Closed, OutOfMemory}
 use Rattle.mr_loop.specs.declared.link.Link.{Link}
 use Rattle.mr_loop.specs.declared.link.LinkEnd.{LinkEnd}
 use Rattle.mr_loop.specs.declared.link.LinkEnd.TheVariants.{Whole, Surplus, Mismatch, Complaint, Refused, Down}
-use Rattle.mr_loop.specs.declared.sent_legs.SentLeg.{SentLeg}
 use Rattle.mr_loop.specs.Events.{FrontView, after_all}
-use Rattle.mr_loop.specs.Returning.{HasTaken, TakesBytes, TakesComplaint, Breaks, IsSurplus, IsRefused, give_ups}
+use Rattle.mr_loop.specs.Returning.{HasTaken, TakesBytes, TakesComplaint, Breaks, give_ups}
 use Rattle.mr_loop.specs.steps.Returning.{TakesReplies}
 
 -- why bytes aren't taken

@@ -12,7 +12,6 @@ use Rattle.mr_proxy.specs.Pending.{PendingView, is_complete, with_reply}
 use Rattle.mr_proxy.specs.ProxyView.{ProxyView}
 use Rattle.mr_proxy.specs.Transitions.{place_of_op, pending_with, noted_by, settled, taken_by, taken_of, after_take, left_by, given_up_in, given_up_of, after_give_up}
 use Rattle.mr_proxy.specs.declared.sheet.LegId.{LegId}
-use Rattle.mr_proxy.specs.declared.taken.Taken.{Taken}
 use Rattle.mr_proxy.specs.declared.taken.Taken.TheVariants.{Waiting, Answered, Stranger}
 
 is_there : (o : Option PendingView) (f : PendingView → Option PendingView) (noted : PendingView)

@@ -1,15 +1,14 @@
 -- A request that isn't begun after all: its turn says so, or leaves.
-use Rattle.std.proofs.Common.{◌≡◌, ℕ, ◌<◌, List, [], ◌∷◌, ◌++◌, Option, Some, None, length, slice_set, get_or, refl, sym, ap, ◌∙◌}
+use Rattle.std.proofs.Common.{◌≡◌, ℕ, List, [], ◌∷◌, ◌++◌, Option, Some, None, slice_set, refl, sym, ap, ◌∙◌}
 use Rattle.std.specs.Prelude.{slice_get}
 use Rattle.std.proofs.lemmas.List.{append-nil, set-set}
-use Rattle.std.proofs.lemmas.Option.{slice_get-get_or}
 use Rattle.mr_text.specs.declared.reply.Reply.{Reply}
 use Rattle.mr_proxy.specs.ProxyView.{ProxyView}
 use Rattle.mr_loop.specs.declared.client.Client.{Client}
 use Rattle.mr_loop.specs.declared.turns.Turn.{Turn}
 use Rattle.mr_loop.specs.declared.turns.Turn.TheVariants.{Says}
 use Rattle.mr_loop.specs.Asking.{tells}
-use Rattle.mr_loop.specs.Events.{FrontView, after_all, changed, with_turn}
+use Rattle.mr_loop.specs.Events.{after_all, changed, with_turn}
 use Rattle.mr_loop.specs.steps.Denying.{denied}
 use Rattle.mr_loop.proofs.FlushLemmas.{front_of}
 use Rattle.mr_loop.proofs.PlaceLemmas.{changes, set_same}

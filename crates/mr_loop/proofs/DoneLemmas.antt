@@ -1,5 +1,5 @@
 -- What was done for a request.
-use Rattle.std.proofs.Common.{◌≡◌, ℕ, ◌<◌, ◌⊎◌, inl, inr, List, [], ◌∷◌, ◌++◌, Bool, Option, Some, None, Result, Ok, Err, length, refl, sym, ap, ◌∙◌, subst}
+use Rattle.std.proofs.Common.{◌≡◌, ◌<◌, inl, inr, List, [], Bool, Option, None, Result, Ok, Err, length, refl, sym, ap, ◌∙◌, subst}
 use Rattle.mr_text.specs.declared.cause.Cause.TheVariants as cause
 use Rattle.mr_text.specs.declared.reply.Reply.{Reply}
 use Rattle.mr_text.specs.declared.error.TextError.{TextError}
@@ -9,7 +9,7 @@ use Rattle.mr_pools.specs.Routing.{RoutingView}
 use Rattle.mr_history.specs.declared.op_id.OpId.{OpId}
 use Rattle.mr_proxy.specs.Issue.{next_op, refusal_of, sheets_of}
 use Rattle.mr_proxy.specs.declared.sheet.LegSheet.{LegSheet}
-use Rattle.mr_desks.specs.declared.step.Step.TheVariants.{Issue, GiveUp}
+use Rattle.mr_desks.specs.declared.step.Step.TheVariants.{Issue}
 use Rattle.mr_loop.specs.declared.asker.Asker.{Asker}
 use Rattle.mr_loop.specs.declared.front.Begun.TheVariants.{Told}
 use Rattle.mr_loop.specs.declared.asking.Pause.{Pause}

@@ -1,8 +1,7 @@
 -- Why a request isn't issued.
-use Rattle.std.proofs.Common.{◌≡◌, ◌==◌, ◌^◌, ◌-◌, nat_le, length, Bool, true, false, cond, ◌⊎◌, inl, inr, Option, Some, None, refl, sym, ap, ◌∙◌}
+use Rattle.std.proofs.Common.{◌≡◌, ◌==◌, ◌^◌, ◌-◌, nat_le, length, Bool, true, false, cond, inl, inr, Option, Some, None, refl, ap, ◌∙◌}
 use Rattle.mr_text.specs.declared.request.Request.{Request}
 use Rattle.mr_proxy.specs.Issue.{refusal_of, IsRefusal}
-use Rattle.mr_proxy.specs.ProxyView.{ProxyView}
 use Rattle.mr_proxy.specs.declared.error.ProxyError.{ProxyError}
 use Rattle.mr_proxy.specs.declared.error.ProxyError.TheVariants.{NoRoom, OutOfMemory, NumbersSpent, NoSuchOp}
 use Rattle.mr_loop.specs.declared.asker.Asker.{Asker}

@@ -1,5 +1,5 @@
 -- Replies and their legs over a whole run of a link, and the core over a run of events.
-use Rattle.std.proofs.Common.{◌≡◌, ℕ, List, [], ◌∷◌, ◌++◌, fold, refl, sym, ap, ◌∙◌, subst, append_assoc}
+use Rattle.std.proofs.Common.{◌≡◌, List, [], ◌∷◌, ◌++◌, refl, sym, ap, ◌∙◌, subst, append_assoc}
 use Rattle.std.proofs.lemmas.List.{append-nil}
 use Rattle.mr_text.specs.declared.reply.Reply.{Reply}
 use Rattle.mr_proxy.specs.ProxyView.{ProxyView}
@@ -7,7 +7,7 @@ use Rattle.mr_desks.specs.Replay.{after, replay}
 use Rattle.mr_desks.specs.declared.step.Step.{Step}
 use Rattle.mr_loop.specs.declared.sent_legs.SentLeg.{SentLeg}
 use Rattle.mr_loop.specs.Events.{FrontView, Event, after_event, after_all, step_of, steps_of}
-use Rattle.mr_loop.specs.Returning.{TakesAll, taking}
+use Rattle.mr_loop.specs.Returning.{TakesAll}
 use Rattle.mr_loop.specs.Runs.{Crossing, sent_in, replies_in, Crosses}
 
 takes_nothing : (legs left : List SentLeg) (events : List Event) → events ≡ [] → left ≡ legs → TakesAll legs [] events left

@@ -1,5 +1,5 @@
 -- What a client is told over a whole run.
-use Rattle.std.proofs.Common.{◌≡◌, ◌≢◌, ℕ, suc, zero, Bool, true, false, cond, List, [], ◌∷◌, ◌++◌, Option, Some, None, length, map, slice_set, position, refl, sym, ap, ◌∙◌, subst, append_assoc, ◌⊎◌, inl, inr, eqb, eq-eqb, arith}
+use Rattle.std.proofs.Common.{◌≡◌, ◌≢◌, ℕ, suc, zero, true, false, cond, List, [], ◌∷◌, ◌++◌, Option, Some, None, length, map, slice_set, position, refl, sym, ap, ◌∙◌, subst, append_assoc, ◌⊎◌, inl, inr, eqb, eq-eqb, arith}
 use Rattle.std.specs.List.{flat_map, AllByRecursion}
 use Rattle.std.specs.Prelude.{slice_get, option_to_list}
 use Rattle.std.specs.Option.{option_map}
@@ -8,7 +8,6 @@ use Rattle.std.proofs.lemmas.Grind.{flat_map-append}
 use Rattle.std.proofs.lemmas.List.{append-nil, map-append, map-set}
 use Rattle.std.proofs.lemmas.List.Quantifiers.{position-Some}
 use Rattle.std.proofs.lemmas.Option.{slice_get-get_or, slice_get-map}
-use Rattle.mr_text.specs.declared.reply.Reply.{Reply}
 use Rattle.mr_history.specs.declared.op_id.OpId.{OpId}
 use Rattle.mr_history.proofs.TestLemmas.{same_op}
 use Rattle.mr_proxy.specs.Answer.{AnswerView}
@@ -22,7 +21,7 @@ use Rattle.mr_loop.specs.declared.turns.Turn.{Turn}
 use Rattle.mr_loop.specs.declared.turns.Turn.TheVariants.{Waits, Answered, Says}
 use Rattle.mr_loop.specs.Events.{FrontView, Event, after_event, after_all, changed, changed_in, with_turn, with_answer, queued, answered}
 use Rattle.mr_loop.specs.Runs.{Due, due_of_turn, due_now, given_now, due, given, Has, WasGiven, told_text, IsTold}
-use Rattle.mr_loop.specs.Turns.{is_turn_of, noted, noted_in, text_of_turn, front_text, behind_front, flushed, fresh_client}
+use Rattle.mr_loop.specs.Turns.{is_turn_of, noted_in, front_text, behind_front, flushed, fresh_client}
 use Rattle.mr_loop.proofs.PlaceLemmas.{set_same, set_there}
 
 get_append : {X : Type 0} (xs ys : List X) (n : ℕ) (x : X) → slice_get xs n ≡ Some x → slice_get (xs ++ ys) n ≡ Some x

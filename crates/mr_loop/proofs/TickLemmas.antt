@@ -1,10 +1,9 @@
 -- Links that tick, one by one.
-use Rattle.std.proofs.Common.{◌≡◌, ℕ, suc, zero, ◌+◌, ◌<◌, List, [], ◌∷◌, ◌++◌, length, take, drop, map, get_or, slice_set, refl, sym, ap, ◌∙◌, arith, add-one}
-use Rattle.std.specs.List.{flat_map}
+use Rattle.std.proofs.Common.{◌≡◌, ℕ, suc, zero, ◌+◌, ◌<◌, List, [], ◌∷◌, ◌++◌, length, take, drop, map, get_or, slice_set, refl, sym, ap, ◌∙◌, arith}
 use Rattle.std.proofs.lemmas.Grind.{flat_map-append}
 use Rattle.std.proofs.lemmas.List.{append-nil, take_more}
 use Rattle.mr_loop.specs.declared.link.Link.{Link}
-use Rattle.mr_loop.specs.Events.{FrontView, Event, after_all}
+use Rattle.mr_loop.specs.Events.{FrontView, after_all}
 use Rattle.mr_loop.specs.Ticking.{ticked, ticks, given_up_at}
 use Rattle.mr_loop.proofs.TakenLemmas.{after_both}
 

@@ -1,5 +1,5 @@
 -- The turn of a request that isn't begun.
-use Rattle.std.proofs.Common.{◌≡◌, ℕ, ◌-◌, List, [], ◌∷◌, ◌++◌, Option, Some, None, length, refl, sym, ap, ◌∙◌}
+use Rattle.std.proofs.Common.{◌≡◌, List, [], ◌∷◌, ◌++◌, Option, Some, None, sym, ◌∙◌}
 use Rattle.std.proofs.lemmas.List.{append-nil}
 use Rattle.mr_text.specs.declared.reply.Reply.{Reply}
 use Rattle.mr_loop.specs.declared.turns.Turn.{Turn}

@@ -1,5 +1,5 @@
 -- What is begun of what a client sent, and why no more of it is.
-use Rattle.std.specs.Prelude.{◌≡◌, ◌≢◌, ℕ, ◌⊎◌, Bool, true, false, ◌||◌, List, [], ◌∷◌, ◌++◌, length, nat_lt, nat_le, Option, Some, None, slice_get, if◌then◌else◌}
+use Rattle.std.specs.Prelude.{◌≡◌, ℕ, ◌⊎◌, Bool, true, false, ◌||◌, List, [], ◌∷◌, ◌++◌, length, nat_lt, nat_le, Option, Some, None, slice_get, if◌then◌else◌}
 use Rattle.mr_text.specs.declared.cause.Cause.{Cause}
 use Rattle.mr_text.specs.declared.cause.Cause.TheVariants as cause
 use Rattle.mr_text.specs.declared.reply.Reply.{Reply}

@@ -1,5 +1,5 @@
 -- The core with its clients, and what happens to both.
-use Rattle.std.specs.Prelude.{◌≡◌, ℕ, List, [], ◌∷◌, ◌++◌, map, Option, Some, None, slice_get, slice_set}
+use Rattle.std.specs.Prelude.{ℕ, List, [], ◌∷◌, ◌++◌, Option, Some, None, slice_get, slice_set}
 use Rattle.mr_text.specs.declared.reply.Reply.{Reply}
 use Rattle.mr_proxy.specs.Answer.{AnswerView}
 use Rattle.mr_proxy.specs.Issue.{next_op}

@@ -1,5 +1,5 @@
 -- What a client sent that wasn't begun yet.
-use Rattle.std.specs.Prelude.{◌≡◌, ◌≢◌, ◌⊎◌, Bool, true, false, not, List, [], ◌++◌, Option, Some, None, Result, Ok, Err}
+use Rattle.std.specs.Prelude.{◌≡◌, ◌≢◌, ◌⊎◌, Bool, true, false, not, Option, Some, None, Result, Ok, Err}
 use Rattle.mr_text.specs.Requests.{SpellsRequest, RefusesRequest, SkipsLine, is_quit}
 use Rattle.mr_text.specs.Stream.{NextIs, skips_line}
 use Rattle.mr_text.specs.declared.error.TextError.{TextError}

@@ -1,5 +1,5 @@
 -- The links to the nodes, and the legs that go over them.
-use Rattle.std.specs.Prelude.{◌≡◌, ℕ, ◌+◌, Bool, true, false, ◌&&◌, List, [], ◌∷◌, ◌++◌, length, take, sum_by, nat_lt, Option, Some, None, slice_get, slice_set, if◌then◌else◌}
+use Rattle.std.specs.Prelude.{ℕ, ◌+◌, Bool, true, false, ◌&&◌, List, [], ◌∷◌, ◌++◌, length, take, sum_by, nat_lt, Option, Some, None, slice_get, slice_set, if◌then◌else◌}
 use Rattle.mr_text.specs.Stream.{ReaderView}
 use Rattle.mr_pools.specs.Routing.{RoutingView, pool_of, place_of}
 use Rattle.mr_proxy.specs.Sheets.{pool_at}

@@ -1,7 +1,6 @@
 -- The loop as contracts see it, and what each thing that happens does to it.
-use Rattle.std.specs.Prelude.{◌≡◌, ℕ, ◌<◌, Bool, true, false, ◌⊎◌, ◌||◌, IsTrue, List, [], ◌∷◌, ◌++◌, map, Option, Some, None, ◌&&◌, drop, length, slice_get, slice_set, sum_by, replicate}
-use Rattle.mr_text.specs.Stream.{ReaderView, FeedIs, Becomes}
-use Rattle.mr_text.specs.declared.error.TextError.{TextError}
+use Rattle.std.specs.Prelude.{◌≡◌, ℕ, Bool, true, false, ◌⊎◌, ◌||◌, IsTrue, List, [], ◌∷◌, ◌++◌, map, Option, Some, None, ◌&&◌, drop, length, slice_get, slice_set, sum_by, replicate}
+use Rattle.mr_text.specs.Stream.{Becomes}
 use Rattle.mr_pools.specs.Routing.{RoutingView}
 use Rattle.mr_proxy.specs.ProxyView.{ProxyView}
 use Rattle.mr_loop.specs.declared.asker.Asker.{Asker}
@@ -16,7 +15,7 @@ use Rattle.mr_loop.specs.Turns.{fresh_client}
 use Rattle.mr_loop.specs.Links.{down_link, up_link}
 use Rattle.mr_loop.specs.Inboxes.{fresh_inbox}
 use Rattle.mr_loop.specs.Returning.{TakesBytes, Breaks}
-use Rattle.mr_loop.specs.Asking.{Asking, AsksOn}
+use Rattle.mr_loop.specs.Asking.{AsksOn}
 use Rattle.mr_loop.specs.Ticking.{ticked, ticks}
 
 pub record LoopView : Type 0 where

@@ -1,6 +1,5 @@
 -- What bytes that come over a link do.
 use Rattle.std.specs.Prelude.{◌≡◌, ℕ, ◌⊎◌, Bool, true, false, ◌||◌, IsTrue, List, [], ◌∷◌, ◌++◌, map}
-use Rattle.std.specs.List.{AllByRecursion}
 use Rattle.mr_text.specs.Replies.{SpellsReply, RefusesReply}
 use Rattle.mr_text.specs.Stream.{BeginsWith, IsUnfinished}
 use Rattle.mr_text.specs.declared.error.TextError.{TextError}

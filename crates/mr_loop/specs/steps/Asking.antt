@@ -1,5 +1,5 @@
 -- What single steps of asking do.
-use Rattle.std.specs.Prelude.{◌≡◌, ℕ, ◌<◌, ◌⊎◌, List, [], ◌∷◌, length, Bool, true, false, Option, Some, None, Result, Ok, Err}
+use Rattle.std.specs.Prelude.{◌≡◌, ℕ, ◌<◌, ◌⊎◌, List, [], ◌∷◌, length, false, Option, Some, None, Result, Ok, Err}
 use Rattle.mr_history.specs.declared.op_id.OpId.{OpId}
 use Rattle.mr_node.specs.Output.{reply_to_refusal}
 use Rattle.mr_text.specs.declared.cause.Cause.{Cause}

@@ -1,5 +1,5 @@
 -- What becomes of the turn of a request that isn't begun.
-use Rattle.std.specs.Prelude.{ℕ, ◌-◌, List, [], ◌∷◌, length, take, Option, Some, None, slice_set}
+use Rattle.std.specs.Prelude.{◌-◌, List, length, take, Option, Some, None, slice_set}
 use Rattle.mr_text.specs.declared.reply.Reply.{Reply}
 use Rattle.mr_loop.specs.declared.turns.Turn.{Turn}
 use Rattle.mr_loop.specs.declared.turns.Turn.TheVariants.{Says}

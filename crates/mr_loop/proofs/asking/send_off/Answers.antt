@@ -1,4 +1,4 @@
-use Rattle.std.proofs.Common.{◌≡◌, inr, true, false, refl, sym, ap, ◌∙◌}
+use Rattle.std.proofs.Common.{inr, true, false, refl, sym, ap, ◌∙◌}
 use Rattle.mr_proxy.specs.ProxyView.{ProxyView}
 use Rattle.mr_loop.proofs.DoneLemmas.{off_all}
 use Rattle.mr_loop.proofs.asking.send_off.Goals as goal

@@ -1,8 +1,8 @@
-use Rattle.std.proofs.Common.{◌≡◌, ◌<◌, true, List, ◌∷◌, [], ◌++◌, length, get_or, ap, ◌∙◌}
+use Rattle.std.proofs.Common.{◌≡◌, true, List, ◌∷◌, [], ◌++◌, length, get_or, ap, ◌∙◌}
 use Rattle.std.proofs.lemmas.Option.{slice_get-get_or}
 use Rattle.mr_loop.specs.declared.link.Link.{Link}
 use Rattle.mr_loop.specs.declared.sending.Mark.{Mark}
-use Rattle.mr_loop.specs.Links.{is_up_at, with_leg}
+use Rattle.mr_loop.specs.Links.{is_up_at}
 use Rattle.mr_loop.proofs.PlaceLemmas.{get_any}
 use Rattle.mr_loop.proofs.SentLemmas.{up_within, went_back}
 use Rattle.mr_loop.proofs.sending.send_leg.Goals as goal

@@ -1,5 +1,4 @@
-use Rattle.std.proofs.Common.{◌≡◌, Option, Some, None, sym, ap, ◌∙◌}
-use Rattle.mr_loop.specs.declared.turns.Turn.{Turn}
+use Rattle.std.proofs.Common.{sym, ap}
 use Rattle.mr_loop.specs.Turns.{text_of_turn}
 use Rattle.mr_loop.proofs.FlushLemmas.{waits, nothing}
 use Rattle.mr_loop.proofs.client.Client.tell_first.Goals as goal

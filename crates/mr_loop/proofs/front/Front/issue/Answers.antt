@@ -1,11 +1,7 @@
-use Rattle.std.proofs.Common.{◌≡◌, ◌<◌, ℕ, List, Some, length, get_or, slice_set, refl, sym, ap, ◌∙◌, arith}
+use Rattle.std.proofs.Common.{◌≡◌, ◌<◌, ℕ, List, Some, length, slice_set, refl, ap, ◌∙◌, arith}
 use Rattle.std.specs.Prelude.{slice_get}
 use Rattle.std.proofs.lemmas.List.{get_or-set_same}
 use Rattle.std.proofs.lemmas.Option.{slice_get_read}
-use Rattle.mr_text.specs.declared.reply.Reply.{Reply}
-use Rattle.mr_text.specs.declared.cause.Cause.{Cause}
-use Rattle.mr_text.specs.declared.request.Request.{Request}
-use Rattle.mr_proxy.specs.Issue.{refusal_of, IsRefusal}
 use Rattle.mr_loop.specs.declared.client.Client.{Client}
 use Rattle.mr_loop.specs.declared.turns.Turn.{Turn}
 use Rattle.mr_loop.specs.declared.turns.Turn.TheVariants.{Waits}

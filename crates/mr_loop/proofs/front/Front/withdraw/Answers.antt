@@ -1,12 +1,10 @@
-use Rattle.std.proofs.Common.{◌≡◌, ◌<◌, ℕ, List, Some, length, get_or, slice_set, refl, sym, ap, ◌∙◌, subst, arith}
+use Rattle.std.proofs.Common.{◌≡◌, ℕ, List, Some, get_or, slice_set, ap, ◌∙◌}
 use Rattle.std.specs.Prelude.{slice_get}
 use Rattle.std.proofs.lemmas.List.{get_or-set_same}
 use Rattle.std.proofs.lemmas.Option.{slice_get-get_or}
-use Rattle.mr_text.specs.declared.request.Request.{Request}
 use Rattle.mr_history.specs.declared.op_id.OpId.{OpId}
 use Rattle.mr_proxy.specs.Issue.{next_op, after_issue}
 use Rattle.mr_proxy.specs.Transitions.{after_give_up}
-use Rattle.mr_proxy.specs.ProxyView.{ProxyView}
 use Rattle.mr_loop.specs.declared.client.Client.{Client}
 use Rattle.mr_loop.specs.declared.turns.Turn.{Turn}
 use Rattle.mr_loop.specs.declared.turns.Turn.TheVariants.{Waits}

@@ -1,4 +1,4 @@
-use Rattle.std.proofs.Common.{◌≡◌, ℕ, List, true, inr, ◌++◌, refl, subst}
+use Rattle.std.proofs.Common.{ℕ, List, inr, refl, subst}
 use Rattle.mr_loop.specs.Returning.{HasTaken}
 use Rattle.mr_loop.proofs.BreakLemmas.{unfed, breaks_so}
 use Rattle.mr_loop.proofs.link.Link.take_bytes.Goals as goal

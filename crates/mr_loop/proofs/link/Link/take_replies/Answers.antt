@@ -1,12 +1,12 @@
-use Rattle.std.proofs.Common.{◌≡◌, ℕ, ◌⊎◌, inl, inr, ◌||◌, IsTrue, Bool, List, [], ◌∷◌, refl, sym, ap, ◌∙◌, subst}
+use Rattle.std.proofs.Common.{◌≡◌, ℕ, inl, inr, ◌||◌, IsTrue, Bool, List, refl, sym, ◌∙◌, subst}
 use Rattle.mr_text.specs.Replies.{SpellsReply, RefusesReply}
 use Rattle.mr_text.specs.Stream.{BeginsWith, IsUnfinished}
 use Rattle.mr_join.specs.declared.leg_reply.LegReply.{LegReply}
 use Rattle.mr_proxy.specs.declared.sheet.LegSheet.{LegSheet}
 use Rattle.mr_sessions.specs.Answering.{IsAnswer}
 use Rattle.mr_loop.specs.declared.sent_legs.SentLeg.{SentLeg}
-use Rattle.mr_loop.specs.Events.{FrontView, after_event}
-use Rattle.mr_loop.specs.Returning.{HasTaken, taking, giving_up}
+use Rattle.mr_loop.specs.Events.{after_event}
+use Rattle.mr_loop.specs.Returning.{HasTaken, giving_up}
 use Rattle.mr_loop.proofs.TakenLemmas.{taken_none, taken_more, refused}
 use Rattle.mr_loop.proofs.link.Link.take_replies.Goals as goal
 

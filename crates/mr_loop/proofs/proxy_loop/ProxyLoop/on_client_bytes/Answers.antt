@@ -1,4 +1,4 @@
-use Rattle.std.proofs.Common.{ℕ, List, ◌<◌, length, refl, subst, ap, ◌∙◌, slice_set}
+use Rattle.std.proofs.Common.{List, ◌<◌, length, refl, subst, ap, ◌∙◌, slice_set}
 use Rattle.std.proofs.lemmas.Option.{slice_get_read}
 use Rattle.std.proofs.lemmas.List.{with_items_is}
 use Rattle.mr_loop.specs.declared.asker.Asker.{Asker}
