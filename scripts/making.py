@@ -33,6 +33,13 @@ def sources_sum():
     return printed(ROOT / "scripts/sources").strip()
 
 
+def mark_of(program, sources):
+    """What scripts/prove writes down of the proved program of these sources, and ./migctl reads: their sum, its size and its time."""
+    stands = program.stat()
+    seconds, parts = divmod(stands.st_mtime_ns, 10**9)
+    return f"{sources} {stands.st_size} {seconds}.{parts:09d}\n"
+
+
 def printed(*words):
     """What a command prints."""
     ran = subprocess.run(words, stdout=subprocess.PIPE, text=True)

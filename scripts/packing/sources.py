@@ -1,15 +1,14 @@
 """What a package is made of: the proved program of these sources, their version and moment, and the licences of what it holds."""
-import hashlib
 import os
 import pathlib
 import re
 import shutil
 import subprocess
 
-from making import OUT, ROOT, sources_sum
+from making import OUT, ROOT, mark_of, sources_sum
 
 PROVED = OUT / "migctl"
-WRITTEN = OUT / "proved"  # by scripts/prove: the sum of the sources, and that of the program
+WRITTEN = OUT / "proved"  # by scripts/prove
 
 
 class NoProgram(Exception):
@@ -21,7 +20,7 @@ def is_proved():
     sources it is, and which program."""
     if not (PROVED.is_file() and WRITTEN.is_file()):
         return False
-    return WRITTEN.read_text(encoding="utf-8").split() == [sources_sum(), hashlib.sha256(PROVED.read_bytes()).hexdigest()]
+    return WRITTEN.read_text(encoding="utf-8") == mark_of(PROVED, sources_sum())
 
 
 def program(unproved):
