@@ -64,10 +64,9 @@ class Checkout:
         self.root, self.fake, self.temporary = (self.home / name for name in ("checkout", "fake", "temporary"))
         for folder in (self.root / ".git", self.fake, self.temporary, self.home / "bin"):
             folder.mkdir(parents=True)
-        for name in COPIED:
-            (self.root / name).parent.mkdir(parents=True, exist_ok=True)
-            shutil.copy(ROOT / name, self.root / name)
-        shutil.copy(HERE / "rt", self.home / "bin/rt")
+        # (by a process of their own: what this one has open for writing can't be run while another thread starts a child)
+        subprocess.run(["cp", "--parents", *COPIED, self.root], cwd=ROOT, check=True)
+        subprocess.run(["cp", HERE / "rt", self.home / "bin/rt"], check=True)
         self.write("crates.txt", CRATES)
         self.write("scripts/prove-times.txt", TIMES)
         for number, line in enumerate(CRATES.splitlines()):
