@@ -1,0 +1,63 @@
+-- A link that breaks once it has taken replies.
+use Rattle.std.proofs.Common.{◌≡◌, ◌≢◌, ℕ, ◌⊎◌, inl, inr, Bool, true, false, ◌||◌, IsTrue, List, ◌∷◌, ◌++◌, Err, refl, ap, ◌∙◌, subst}
+use Rattle.mr_text.specs.Stream.{ReaderView, FeedIs}
+use Rattle.mr_text.specs.declared.error.TextError.{TextError}
+use Rattle.mr_text.specs.declared.error.TextError.TheVariants.{LineTooLong, BadKey, BadNumber, WrongWords, DataTooLong, BadDataEnd, UnknownCommand, Truncated, Closed, OutOfMemory}
+use Rattle.mr_loop.specs.declared.link.Link.{Link}
+use Rattle.mr_loop.specs.declared.link.LinkEnd.{LinkEnd}
+use Rattle.mr_loop.specs.declared.link.LinkEnd.TheVariants.{Whole, Surplus, Mismatch, Complaint, Refused, Down}
+use Rattle.mr_loop.specs.Events.{FrontView, after_all}
+use Rattle.mr_loop.specs.Returning.{HasTaken, TakesBytes, TakesComplaint, Breaks, give_ups}
+use Rattle.mr_loop.specs.steps.Returning.{TakesReplies}
+
+-- why bytes aren't taken
+pub unfed : (old new : ReaderView) (rest piece : List ℕ) (refusal : TextError) → FeedIs old new rest piece (Err refusal)
+    → (refusal ≡ OutOfMemory) ⊎ ((refusal ≡ Closed) × IsTrue (old.closed || old.ended))
+unfed old new rest piece Closed f = inr (refl, f.0)
+unfed old new rest piece LineTooLong f = inl f.0
+unfed old new rest piece BadKey f = inl f.0
+unfed old new rest piece BadNumber f = inl f.0
+unfed old new rest piece WrongWords f = inl f.0
+unfed old new rest piece DataTooLong f = inl f.0
+unfed old new rest piece BadDataEnd f = inl f.0
+unfed old new rest piece (UnknownCommand closes) f = inl f.0
+unfed old new rest piece Truncated f = inl f.0
+unfed old new rest piece OutOfMemory f = inl f.0
+
+not_shut : (closed ended : Bool) → closed ≡ false → ended ≡ false → ¬ IsTrue (closed || ended)
+not_shut true ended c e t = let no : true ≡ false = c in cc
+not_shut false true c e t = let no : true ≡ false = e in cc
+not_shut false false c e t = let no : false ≡ true = t in cc
+
+abbrev fed_link : Link → ReaderView → Link
+fed_link old reader = record old { reader = reader }
+
+-- what replies did, and that the link broke then
+pub breaks_so : (piece : List ℕ) (old : Link) (front : FrontView) (reader : ReaderView) (end : LinkEnd) (link : Link) (between : FrontView) (new : Link) (front' : FrontView)
+    → old.is_up ≡ true → reader.kept ≡ old.reader.kept ++ piece → reader.closed ≡ false → reader.ended ≡ false
+    → TakesReplies (fed_link old reader) front end link between → end ≢ Whole → Breaks link.legs between new front'
+    → TakesBytes piece old front end new front'
+breaks_so piece old front reader Whole link between new front' up kept closed ended t ne b = absurd (ne refl)
+breaks_so piece old front reader Surplus link between new front' up kept closed ended t ne b =
+    let P : List ℕ → Type 0 = λ x. HasTaken x old.legs front t.rest link.legs between in
+    record { was_up = up; rest = t.rest; left = link.legs; between = between; taken = subst P kept t.taken; next = t.next; breaks = b }
+breaks_so piece old front reader Mismatch link between new front' up kept closed ended t ne b =
+    let P : List ℕ → Type 0 = λ x. HasTaken x old.legs front t.rest (t.sent ∷ link.legs) t.between in
+    record {
+      was_up = up;
+      rest = t.rest;
+      left = t.sent ∷ link.legs;
+      between = t.between;
+      taken = subst P kept t.taken;
+      next = t.next;
+      breaks = record { given_up = b.given_up ∙ ap (λ f. after_all (give_ups link.legs) f) t.happens; down = b.down };
+    }
+breaks_so piece old front reader Complaint link between new front' up kept closed ended t ne b =
+    let P : List ℕ → Type 0 = λ x. TakesComplaint x old.legs front link.legs between in
+    record { was_up = up; left = link.legs; between = between; taken = subst P kept t; breaks = b }
+breaks_so piece old front reader (Refused refusal) link between new front' up kept closed ended (inl t) ne b =
+    let P : List ℕ → Type 0 = λ x. HasTaken x old.legs front t.rest link.legs between in
+    inl (record { was_up = up; rest = t.rest; left = link.legs; between = between; taken = subst P kept t.taken; next = t.next; breaks = b })
+breaks_so piece old front reader (Refused refusal) link between new front' up kept closed ended (inr shut) ne b =
+    absurd (not_shut reader.closed reader.ended closed ended shut)
+breaks_so piece old front reader Down link between new front' up kept closed ended t ne b = absurd t

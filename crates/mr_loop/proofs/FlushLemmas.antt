@@ -1,0 +1,109 @@
+-- What is there for a first request is told.
+use Rattle.std.proofs.Common.{◌≡◌, ℕ, ◌<◌, List, [], ◌∷◌, ◌++◌, Some, None, drop, length, slice_set, refl, sym, ap, ◌∙◌, arith, append_assoc}
+use Rattle.std.specs.Prelude.{slice_get, Result, Ok, Err, OnOk, OnErr}
+use Rattle.std.proofs.lemmas.List.{append-nil, set-set}
+use Rattle.mr_proxy.specs.ProxyView.{ProxyView}
+use Rattle.mr_loop.specs.Events.{FrontView, Event, after_event, changed}
+use Rattle.mr_loop.proofs.PlaceLemmas.{changes, set_there}
+use Rattle.mr_loop.specs.declared.client.Client.{Client}
+use Rattle.mr_loop.specs.declared.turns.Turn.{Turn}
+use Rattle.mr_loop.specs.Turns.{text_of_turn, front_text, behind_front, text_before, left_behind, flushed}
+
+abbrev client_of : List Turn → List ℕ → Client
+client_of turns out = record { turns = turns; out = out }
+
+same_client : (a b : List Turn) (s t : List ℕ) → a ≡ b → s ≡ t → client_of a s ≡ client_of b t
+same_client a b s t p q = ap (λ x. client_of x s) p ∙ ap (λ x. client_of b x) q
+
+behind_step : (turns : List Turn) (turn : Turn) (text : List ℕ) → slice_get turns 0 ≡ Some turn → text_of_turn turn ≡ Some text
+    → behind_front turns ≡ behind_front (drop 1 turns)
+behind_step [] turn text h e = absurd (let no : None ≡ Some turn = h in cc)
+behind_step (first ∷ turns) turn text h e =
+    let same : first ≡ turn = cc in
+    ap (λ o. left_behind o (first ∷ turns) (behind_front turns)) (ap text_of_turn same ∙ e)
+
+text_step : (turns : List Turn) (turn : Turn) (text : List ℕ) → slice_get turns 0 ≡ Some turn → text_of_turn turn ≡ Some text
+    → front_text turns ≡ text ++ front_text (drop 1 turns)
+text_step [] turn text h e = absurd (let no : None ≡ Some turn = h in cc)
+text_step (first ∷ turns) turn text h e =
+    let same : first ≡ turn = cc in
+    ap (λ o. text_before o (front_text turns)) (ap text_of_turn same ∙ e)
+
+-- the text of the first turn is told, and it leaves
+pub told : (turns : List Turn) (out : List ℕ) (turn : Turn) (text : List ℕ) → slice_get turns 0 ≡ Some turn → text_of_turn turn ≡ Some text
+    → flushed (record { turns = drop 1 turns; out = out ++ text }) ≡ flushed (record { turns = turns; out = out })
+told turns out turn text h e =
+    same_client _ _ _ _ (sym (behind_step turns turn text h e))
+    (append_assoc out text (front_text (drop 1 turns)) ∙ ap (λ t. out ++ t) (sym (text_step turns turn text h e)))
+
+-- nothing is to be told of the first turn, and it leaves
+pub left_silent : (turns : List Turn) (out : List ℕ) (turn : Turn) → slice_get turns 0 ≡ Some turn → text_of_turn turn ≡ Some []
+    → flushed (record { turns = drop 1 turns; out = out }) ≡ flushed (record { turns = turns; out = out })
+left_silent turns out turn h e =
+    same_client _ _ _ _ (sym (behind_step turns turn [] h e)) (ap (λ t. out ++ t) (sym (text_step turns turn [] h e)))
+
+behind_waits : (turns : List Turn) (turn : Turn) → slice_get turns 0 ≡ Some turn → text_of_turn turn ≡ None → behind_front turns ≡ turns
+behind_waits [] turn h e = refl
+behind_waits (first ∷ turns) turn h e =
+    let same : first ≡ turn = cc in
+    ap (λ o. left_behind o (first ∷ turns) (behind_front turns)) (ap text_of_turn same ∙ e)
+
+text_waits : (turns : List Turn) (turn : Turn) → slice_get turns 0 ≡ Some turn → text_of_turn turn ≡ None → front_text turns ≡ []
+text_waits [] turn h e = refl
+text_waits (first ∷ turns) turn h e =
+    let same : first ≡ turn = cc in
+    ap (λ o. text_before o (front_text turns)) (ap text_of_turn same ∙ e)
+
+-- the first turn waits: nothing is to be told
+pub waits : (c : Client) (turn : Turn) → slice_get c.turns 0 ≡ Some turn → text_of_turn turn ≡ None → c ≡ flushed c
+waits c turn h e =
+    same_client _ _ _ _ (sym (behind_waits c.turns turn h e)) (sym (ap (λ t. c.out ++ t) (text_waits c.turns turn h e) ∙ append-nil c.out))
+
+empty_behind : (turns : List Turn) → slice_get turns 0 ≡ None → (behind_front turns ≡ turns) × (front_text turns ≡ [])
+empty_behind [] h = (refl, refl)
+empty_behind (turn ∷ turns) h = absurd (let no : Some turn ≡ None = h in cc)
+
+-- there is no turn: nothing is to be told
+pub nothing : (c : Client) → slice_get c.turns 0 ≡ None → c ≡ flushed c
+nothing c h =
+    let e = empty_behind c.turns h in
+    same_client _ _ _ _ (sym e.0) (sym (ap (λ t. c.out ++ t) e.1 ∙ append-nil c.out))
+
+pub shorter : (turns : List Turn) (turn : Turn) → slice_get turns 0 ≡ Some turn → length (drop 1 turns) < length turns
+shorter [] turn h = absurd (let no : None ≡ Some turn = h in cc)
+shorter (first ∷ turns) turn h = grind arith
+
+-- a client that was told a part is told the rest
+pub flushed_part : (clients : List Client) (place : ℕ) (old new : Client) → slice_get clients place ≡ Some old → flushed new ≡ flushed old
+    → changed place flushed (slice_set clients place new) ≡ changed place flushed clients
+flushed_part clients place old new there same =
+    changes (slice_set clients place new) place new flushed (set_there clients place new old there)
+    ∙ set-set clients place new (flushed new)
+    ∙ ap (λ c. slice_set clients place c) same
+    ∙ sym (changes clients place old flushed there)
+
+abbrev pub front_of : ProxyView → List Client → List ℕ → FrontView
+front_of core clients touched = record { core = core; clients = clients; touched = touched }
+
+-- the same with the core
+pub front_part : (core : ProxyView) (clients : List Client) (touched : List ℕ) (place : ℕ) (old new : Client) → slice_get clients place ≡ Some old
+    → flushed new ≡ flushed old
+    → after_event (Event.Flushes place) (record { core = core; clients = slice_set clients place new; touched = touched })
+    ≡ after_event (Event.Flushes place) (record { core = core; clients = clients; touched = touched })
+front_part core clients touched place old new there same = ap (λ c. front_of core c touched) (flushed_part clients place old new there same)
+
+-- a client is told all that is there
+pub front_flushed : (core : ProxyView) (clients : List Client) (touched : List ℕ) (place : ℕ) (old new : Client) → slice_get clients place ≡ Some old
+    → new ≡ flushed old
+    → front_of core (slice_set clients place new) touched
+    ≡ after_event (Event.Flushes place) (record { core = core; clients = clients; touched = touched })
+front_flushed core clients touched place old new there is =
+    ap (λ c. front_of core c touched) (ap (λ c. slice_set clients place c) is ∙ sym (changes clients place old flushed there))
+
+pub on_ok : {T E P Q : Type 0} (r : Result T E) → OnOk r P → (P → Q) → OnOk r Q
+on_ok (Ok x) h f = f h
+on_ok (Err e) h f = h
+
+pub on_err : {T E P Q : Type 0} (r : Result T E) → OnErr r P → (P → Q) → OnErr r Q
+on_err (Ok x) h f = h
+on_err (Err e) h f = f h

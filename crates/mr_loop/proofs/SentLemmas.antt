@@ -1,0 +1,166 @@
+-- Legs that go over their links, and are taken back.
+use Rattle.std.proofs.Common.{◌≡◌, ℕ, suc, zero, ◌<◌, ◌-◌, List, [], ◌∷◌, ◌++◌, Bool, true, false, ◌&&◌, cond, Option, Some, None, length, take, slice_set, refl, sym, ap, ◌∙◌}
+use Rattle.std.specs.Prelude.{slice_get}
+use Rattle.std.proofs.lemmas.List.{set-set}
+use Rattle.std.proofs.Math.Seq.{take-append_seam}
+use Rattle.std.proofs.lemmas.Option.{slice_get_within}
+use Rattle.mr_pools.specs.Routing.{RoutingView}
+use Rattle.mr_proxy.specs.declared.sheet.LegSheet.{LegSheet}
+use Rattle.mr_sessions.specs.Requesting.{text_for}
+use Rattle.mr_loop.specs.declared.asker.Asker.{Asker}
+use Rattle.mr_loop.specs.declared.link.Link.{Link}
+use Rattle.mr_loop.specs.declared.sending.Mark.{Mark}
+use Rattle.mr_loop.specs.declared.sent_legs.SentLeg.{SentLeg}
+use Rattle.mr_loop.specs.Links.{link_of, sent_by, with_leg, is_up_in, is_up_at, sent_over, sent_over_in, all_sent, all_up}
+use Rattle.mr_loop.specs.steps.Sending.{without_last, undone, undone_one, undone_in}
+use Rattle.mr_loop.proofs.PlaceLemmas.{set_same, set_there, last_taken}
+
+-- what went last is taken back
+pub taken_back : (sent : SentLeg) (link : Link) → without_last (length link.out) (with_leg sent link) ≡ link
+taken_back sent link =
+    let out : take (length link.out) (link.out ++ text_for sent.leg.command) ≡ link.out = take-append_seam link.out (text_for sent.leg.command) in
+    let legs = last_taken link.legs sent in
+    ap (λ o. record (with_leg sent link) { legs = take (length (link.legs ++ sent ∷ []) - 1) (link.legs ++ sent ∷ []); out = o }) out
+    ∙ ap (λ l. record link { legs = l }) legs
+
+abbrev mark_at : ℕ → ℕ → Mark
+mark_at number count = record { number = number; count = count }
+
+abbrev mark_of : ℕ → Link → Mark
+mark_of number link = record { number = number; count = length link.out }
+
+-- a link that sent a leg has it taken back
+pub undone_leg : (links : List Link) (number : ℕ) (link : Link) (sent : SentLeg) → slice_get links number ≡ Some link
+    → undone_one (mark_of number link) (slice_set links number (with_leg sent link)) ≡ links
+undone_leg links number link sent e =
+    ap (λ o. undone_in o (mark_of number link) (slice_set links number (with_leg sent link))) (set_there links number (with_leg sent link) link e)
+    ∙ set-set links number (with_leg sent link) (without_last (length link.out) (with_leg sent link))
+    ∙ ap (λ l. slice_set links number l) (taken_back sent link)
+    ∙ set_same links number link e
+
+pub undone_more : (marks : List Mark) (mark : Mark) (links : List Link) → undone (marks ++ mark ∷ []) links ≡ undone marks (undone_one mark links)
+undone_more [] mark links = refl
+undone_more (first ∷ marks) mark links = ap (λ l. undone_one first l) (undone_more marks mark links)
+
+-- a leg goes over a link that is up
+pub sent_up : (links : List Link) (number : ℕ) (link : Link) (sent : SentLeg) → slice_get links number ≡ Some link → link.is_up ≡ true
+    → sent_over number sent links ≡ slice_set links number (with_leg sent link)
+sent_up links number link sent e up =
+    ap (λ o. sent_over_in o number sent links) e ∙ ap (λ b. cond b (slice_set links number (with_leg sent link)) links) up
+
+sent_down_by : (o : Option Link) (links : List Link) (number : ℕ) (sent : SentLeg) → is_up_in o ≡ false → sent_over_in o number sent links ≡ links
+sent_down_by None links number sent down = refl
+sent_down_by (Some link) links number sent down = ap (λ b. cond b (slice_set links number (with_leg sent link)) links) down
+
+pub sent_down : (links : List Link) (number : ℕ) (sent : SentLeg) → is_up_at links number ≡ false → sent_over number sent links ≡ links
+sent_down links number sent down = sent_down_by (slice_get links number) links number sent down
+
+-- one more leg goes
+pub all_sent_more : (asker : Asker) (routing : RoutingView) (sheets : List LegSheet) (sheet : LegSheet) (links : List Link)
+    → all_sent asker routing (sheets ++ sheet ∷ []) links ≡ sent_over (link_of routing sheet) (sent_by asker sheet) (all_sent asker routing sheets links)
+all_sent_more asker routing [] sheet links = refl
+all_sent_more asker routing (first ∷ sheets) sheet links =
+    all_sent_more asker routing sheets sheet (sent_over (link_of routing first) (sent_by asker first) links)
+
+and_true : (b : Bool) → b && true ≡ b
+and_true true = refl
+and_true false = refl
+
+and_assoc : (a b c : Bool) → (a && b) && c ≡ a && (b && c)
+and_assoc true b c = refl
+and_assoc false b c = refl
+
+pub all_up_more : (routing : RoutingView) (sheets : List LegSheet) (sheet : LegSheet) (links : List Link)
+    → all_up routing (sheets ++ sheet ∷ []) links ≡ all_up routing sheets links && is_up_at links (link_of routing sheet)
+all_up_more routing [] sheet links = and_true (is_up_at links (link_of routing sheet))
+all_up_more routing (first ∷ sheets) sheet links =
+    ap (λ b. is_up_at links (link_of routing first) && b) (all_up_more routing sheets sheet links)
+    ∙ sym (and_assoc (is_up_at links (link_of routing first)) (all_up routing sheets links) (is_up_at links (link_of routing sheet)))
+
+up_same : (links : List Link) (number : ℕ) (link new : Link) (other : ℕ) → slice_get links number ≡ Some link → new.is_up ≡ link.is_up
+    → is_up_at (slice_set links number new) other ≡ is_up_at links other
+up_same [] number link new other e up = refl
+up_same (first ∷ links) zero link new zero e up = let same : first ≡ link = cc in up ∙ ap (λ (l : Link). l.is_up) (sym same)
+up_same (first ∷ links) zero link new (suc other) e up = refl
+up_same (first ∷ links) (suc number) link new zero e up = refl
+up_same (first ∷ links) (suc number) link new (suc other) e up = up_same links number link new other e up
+
+up_after_if : (up : Bool) (links : List Link) (number : ℕ) (link : Link) (sent : SentLeg) (other : ℕ) → slice_get links number ≡ Some link
+    → is_up_at (cond up (slice_set links number (with_leg sent link)) links) other ≡ is_up_at links other
+up_after_if true links number link sent other e = up_same links number link (with_leg sent link) other e refl
+up_after_if false links number link sent other e = refl
+
+up_after_by : (o : Option Link) (links : List Link) (number : ℕ) (sent : SentLeg) (other : ℕ) → slice_get links number ≡ o
+    → is_up_at (sent_over_in o number sent links) other ≡ is_up_at links other
+up_after_by None links number sent other e = refl
+up_after_by (Some link) links number sent other e = up_after_if link.is_up links number link sent other e
+
+-- a leg that goes leaves each link up that was
+pub up_after : (links : List Link) (number : ℕ) (sent : SentLeg) (other : ℕ) → is_up_at (sent_over number sent links) other ≡ is_up_at links other
+up_after links number sent other = up_after_by (slice_get links number) links number sent other refl
+
+pub up_after_all : (asker : Asker) (routing : RoutingView) (sheets : List LegSheet) (links : List Link) (other : ℕ)
+    → is_up_at (all_sent asker routing sheets links) other ≡ is_up_at links other
+up_after_all asker routing [] links other = refl
+up_after_all asker routing (sheet ∷ sheets) links other =
+    up_after_all asker routing sheets (sent_over (link_of routing sheet) (sent_by asker sheet) links) other
+    ∙ up_after links (link_of routing sheet) (sent_by asker sheet) other
+
+there_up : (o : Option Link) → is_up_in o ≡ true → (link : Link) × (o ≡ Some link) × (link.is_up ≡ true)
+there_up None e = absurd (let no : false ≡ true = e in cc)
+there_up (Some link) e = (link, refl, e)
+
+-- a link that is up is there
+pub up_within : (links : List Link) (number : ℕ) → is_up_at links number ≡ true → number < length links
+up_within links number e =
+    let there = there_up (slice_get links number) e in
+    slice_get_within links number there.0 there.1
+
+-- the link that was read is up
+pub read_up : (links : List Link) (number : ℕ) (link : Link) → slice_get links number ≡ Some link → is_up_at links number ≡ true → link.is_up ≡ true
+read_up links number link there up = sym (ap is_up_in there) ∙ up
+
+-- a leg went over a link that is up
+pub went_over : (links : List Link) (number : ℕ) (link new : Link) (sent : SentLeg) → slice_get links number ≡ Some link
+    → is_up_at links number ≡ true → new ≡ with_leg sent link → slice_set links number new ≡ sent_over number sent links
+went_over links number link new sent there up e =
+    ap (λ l. slice_set links number l) e ∙ sym (sent_up links number link sent there (read_up links number link there up))
+
+-- it is taken back by its mark
+pub went_back : (links : List Link) (number count : ℕ) (link new : Link) (sent : SentLeg) (marks marks' : List Mark)
+    → slice_get links number ≡ Some link → new ≡ with_leg sent link → count ≡ length link.out
+    → marks' ≡ marks ++ (record { number = number; count = count }) ∷ []
+    → undone marks' (slice_set links number new) ≡ undone marks links
+went_back links number count link new sent marks marks' there e same more =
+    let mark : Mark = record { number = number; count = count } in
+    let is : mark ≡ mark_of number link = ap (λ (n : ℕ). mark_at number n) same in
+    ap (λ m. undone m (slice_set links number new)) more
+    ∙ undone_more marks mark (slice_set links number new)
+    ∙ ap (λ l. undone marks (undone_one mark (slice_set links number l))) e
+    ∙ ap (λ m. undone marks (undone_one m (slice_set links number (with_leg sent link)))) is
+    ∙ ap (λ l. undone marks l) (undone_leg links number link sent there)
+
+-- what a mark tells of is taken back
+pub back_one : (links : List Link) (mark : Mark) (link new : Link) → slice_get links mark.number ≡ Some link → new ≡ without_last mark.count link
+    → slice_set links mark.number new ≡ undone_one mark links
+back_one links mark link new there e =
+    ap (λ l. slice_set links mark.number l) e ∙ sym (ap (λ o. undone_in o mark links) there)
+
+-- whether all are up that the next leg is with
+pub up_next : (asker : Asker) (routing : RoutingView) (front : List LegSheet) (sheet : LegSheet) (first links : List Link) (number : ℕ) (all went now : Bool)
+    → all ≡ all_up routing front first → links ≡ all_sent asker routing front first → number ≡ link_of routing sheet
+    → went ≡ is_up_at links number → now ≡ all && went → now ≡ all_up routing (front ++ sheet ∷ []) first
+up_next asker routing front sheet first links number all went now up sent is w n =
+    let here : went ≡ is_up_at first (link_of routing sheet) =
+    w ∙ ap (λ l. is_up_at l number) sent ∙ ap (λ k. is_up_at (all_sent asker routing front first) k) is
+    ∙ up_after_all asker routing front first (link_of routing sheet) in
+    n ∙ ap (λ b. b && went) up ∙ ap (λ b. all_up routing front first && b) here ∙ sym (all_up_more routing front sheet first)
+
+-- the next leg went behind the others
+pub sent_next : (asker : Asker) (routing : RoutingView) (front : List LegSheet) (sheet : LegSheet) (first links links' : List Link) (number : ℕ)
+    → links ≡ all_sent asker routing front first → number ≡ link_of routing sheet → links' ≡ sent_over number (sent_by asker sheet) links
+    → links' ≡ all_sent asker routing (front ++ sheet ∷ []) first
+sent_next asker routing front sheet first links links' number sent is step =
+    step ∙ ap (λ l. sent_over number (sent_by asker sheet) l) sent
+    ∙ ap (λ k. sent_over k (sent_by asker sheet) (all_sent asker routing front first)) is
+    ∙ sym (all_sent_more asker routing front sheet first)

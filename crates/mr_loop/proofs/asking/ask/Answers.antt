@@ -1,0 +1,11 @@
+use Rattle.mr_loop.proofs.DoneLemmas.{begun_so, told_done}
+use Rattle.mr_loop.proofs.asking.ask.Goals as goal
+
+pub returns-in-Told : goal.returns-in-Told
+returns-in-Told c = told_done c.args.asker c.args.request c.args.front.now c.issue.new.self c.args.links.now c.in-Told.ensures
+
+pub returns-in-Issued : goal.returns-in-Issued
+returns-in-Issued c =
+    let e = c.in-Issued.ensures in
+    begun_so c.args.asker c.args.request c.args.front.now c.args.links.now c.issue.new.self c.in-Issued.issued.op c.in-Issued.issued.legs.items c.denial-refused.result
+    c.send_off.new.front c.send_off.new.links e.0 e.1 e.2 e.3 e.4 c.denial-refused.ensures c.send_off.ensures

@@ -1,0 +1,10 @@
+pub mod Turns
+pub mod Links
+pub mod Events
+pub mod Returning
+pub mod Inboxes
+pub mod Asking
+pub mod Ticking
+pub mod LoopView
+pub mod Runs
+pub mod steps

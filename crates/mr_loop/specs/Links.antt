@@ -1,0 +1,87 @@
+-- The links to the nodes, and the legs that go over them.
+use Rattle.std.specs.Prelude.{ℕ, ◌+◌, Bool, true, false, ◌&&◌, List, [], ◌∷◌, ◌++◌, length, take, sum_by, nat_lt, Option, Some, None, slice_get, slice_set, if◌then◌else◌}
+use Rattle.mr_text.specs.Stream.{ReaderView}
+use Rattle.mr_pools.specs.Routing.{RoutingView, pool_of, place_of}
+use Rattle.mr_proxy.specs.Sheets.{pool_at}
+use Rattle.mr_proxy.specs.declared.sheet.LegSheet.{LegSheet}
+use Rattle.mr_sessions.specs.Requesting.{text_for}
+use Rattle.mr_loop.specs.declared.asker.Asker.{Asker}
+use Rattle.mr_loop.specs.declared.link.Link.{Link}
+use Rattle.mr_loop.specs.declared.sent_legs.SentLeg.{SentLeg}
+
+-- how many nodes the pools before the pool of a number have
+abbrev pub nodes_before : List (List (List ℕ)) → ℕ → ℕ
+nodes_before pools number = sum_by length (take number pools)
+
+-- the number of the link to a node: the nodes are counted pool by pool
+abbrev pub link_to : RoutingView → ℕ → ℕ → ℕ
+link_to routing pool node = nodes_before routing.pools pool + node
+
+-- the number of the link to the node that keeps a key in a pool
+abbrev pub link_of_key : RoutingView → ℕ → List ℕ → ℕ
+link_of_key routing pool key = link_to routing pool (place_of routing.hash (pool_of routing pool) key)
+
+-- the number of the link that a leg goes over
+abbrev pub link_of : RoutingView → LegSheet → ℕ
+link_of routing sheet = link_to routing (pool_at sheet) sheet.node
+
+-- a reader to which nothing came
+abbrev pub fresh_reader : ReaderView
+fresh_reader = record { kept = []; begun = 0; ended = false; closed = false }
+
+-- no connection, and nothing of an earlier one
+abbrev pub down_link : Link
+down_link = record { is_up = false; reader = fresh_reader; legs = []; out = [] }
+
+-- a new connection
+abbrev pub up_link : Link
+up_link = record { is_up = true; reader = fresh_reader; legs = []; out = [] }
+
+-- a leg of a client's request, which went at this time
+abbrev pub sent_by : Asker → LegSheet → SentLeg
+sent_by asker sheet = record { client = asker.client; sent_at = asker.now; leg = sheet }
+
+-- a leg went: it awaits its reply behind the others, and the request for it is to be written behind theirs
+abbrev pub with_leg : SentLeg → Link → Link
+with_leg sent link = record link { legs = link.legs ++ sent ∷ []; out = link.out ++ text_for sent.leg.command }
+
+abbrev pub is_up_in : Option Link → Bool
+is_up_in None = false
+is_up_in (Some link) = link.is_up
+
+-- there is a connection to the node of this number
+abbrev pub is_up_at : List Link → ℕ → Bool
+is_up_at links number = is_up_in (slice_get links number)
+
+abbrev pub sent_over_in : Option Link → ℕ → SentLeg → List Link → List Link
+sent_over_in None number sent links = links
+sent_over_in (Some link) number sent links = if link.is_up then slice_set links number (with_leg sent link) else links
+
+-- a leg goes over its link where that is up; else nothing changes
+abbrev pub sent_over : ℕ → SentLeg → List Link → List Link
+sent_over number sent links = sent_over_in (slice_get links number) number sent links
+
+-- each leg goes over its link, in order
+abbrev pub all_sent : Asker → RoutingView → List LegSheet → List Link → List Link
+all_sent asker routing [] links = links
+all_sent asker routing (sheet ∷ sheets) links =
+    all_sent asker routing sheets (sent_over (link_of routing sheet) (sent_by asker sheet) links)
+
+-- each leg has a link that is up
+abbrev pub all_up : RoutingView → List LegSheet → List Link → Bool
+all_up routing [] links = true
+all_up routing (sheet ∷ sheets) links = is_up_at links (link_of routing sheet) && all_up routing sheets links
+
+abbrev pub has_place_in : ℕ → Option Link → Bool
+has_place_in most None = true
+has_place_in most (Some link) = nat_lt (length link.legs) most
+
+-- fewer legs than the bound await a reply over the link of this number
+abbrev pub has_place : ℕ → List Link → ℕ → Bool
+has_place most links number = has_place_in most (slice_get links number)
+
+-- so it is of the link of each leg
+abbrev pub are_clear : ℕ → RoutingView → List LegSheet → List Link → Bool
+are_clear most routing [] links = true
+are_clear most routing (sheet ∷ sheets) links =
+    has_place most links (link_of routing sheet) && are_clear most routing sheets links

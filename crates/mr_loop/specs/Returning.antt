@@ -1,0 +1,141 @@
+-- What bytes that come over a link do.
+use Rattle.std.specs.Prelude.{◌≡◌, ℕ, ◌⊎◌, Bool, true, false, ◌||◌, IsTrue, List, [], ◌∷◌, ◌++◌, map}
+use Rattle.mr_text.specs.Replies.{SpellsReply, RefusesReply}
+use Rattle.mr_text.specs.Stream.{BeginsWith, IsUnfinished}
+use Rattle.mr_text.specs.declared.error.TextError.{TextError}
+use Rattle.mr_text.specs.declared.error.TextError.TheVariants.{Closed, OutOfMemory}
+use Rattle.mr_text.specs.declared.reply.Reply.{Reply}
+use Rattle.mr_text.specs.declared.reply.Reply.TheVariants.{Items, Stored, Deleted, NotFound, Error, ClientError, ServerError}
+use Rattle.mr_join.specs.declared.leg_reply.LegReply.{LegReply}
+use Rattle.mr_desks.specs.declared.step.Step.TheVariants.{Take, GiveUp}
+use Rattle.mr_sessions.specs.Answering.{IsAnswer}
+use Rattle.mr_loop.specs.declared.link.Link.{Link}
+use Rattle.mr_loop.specs.declared.link.LinkEnd.{LinkEnd}
+use Rattle.mr_loop.specs.declared.link.LinkEnd.TheVariants.{Whole, Surplus, Mismatch, Complaint, Refused, Down}
+use Rattle.mr_loop.specs.declared.sent_legs.SentLeg.{SentLeg}
+use Rattle.mr_loop.specs.Events.{FrontView, Event, after_all}
+use Rattle.mr_loop.specs.Links.{down_link}
+
+-- the bytes are these items, one after the other, and then the rest
+abbrev pub Reads : {Item : Type 0} → (List ℕ → Item → Type 0) → List Item → List ℕ → List ℕ → Type 0
+Reads Spells [] bytes rest = rest ≡ bytes
+Reads Spells (item ∷ items) bytes rest = (after : List ℕ) × BeginsWith Spells bytes item after × Reads Spells items after rest
+
+-- the core takes what a node said of a leg
+abbrev pub taking : SentLeg → LegReply → Event
+taking sent said = Event.Does sent.client (Take (record { sheet = sent.leg; reply = said }))
+
+-- the core gives the request of a leg up
+abbrev pub giving_up : SentLeg → Event
+giving_up sent = Event.Does sent.client (GiveUp sent.leg.id.op)
+
+-- the node doesn't know what it was asked, so that nobody knows what it takes for the next request
+abbrev pub is_complaint : Reply → Bool
+is_complaint (Items items) = false
+is_complaint Stored = false
+is_complaint Deleted = false
+is_complaint NotFound = false
+is_complaint Error = true
+is_complaint (ClientError cause) = true
+is_complaint (ServerError cause) = false
+
+-- The k-th reply is that of the k-th leg: what happens by them, and the legs that are left.
+abbrev pub TakesAll : List SentLeg → List Reply → List Event → List SentLeg → Type 0
+TakesAll legs [] events left = (events ≡ []) × (left ≡ legs)
+TakesAll [] (reply ∷ replies) events left = ⊥
+TakesAll (sent ∷ legs) (reply ∷ replies) events left =
+    (said : LegReply) × (others : List Event)
+    × IsAnswer sent.leg.command reply said × (events ≡ taking sent said ∷ others) × TakesAll legs replies others left
+
+-- So many replies were read from the front of these bytes, and each was the reply of the leg of its place.
+pub record HasTaken (bytes : List ℕ) (legs : List SentLeg) (front : FrontView) (rest : List ℕ) (left : List SentLeg) (front' : FrontView) : Type 0 where
+  pub replies : List Reply
+  pub events : List Event
+  pub reads : Reads SpellsReply replies bytes rest
+  pub takes : TakesAll legs replies events left
+  pub happens : front' ≡ after_all events front
+
+-- what happens when a link breaks: the request of each leg that has no reply is given up, in order
+abbrev pub give_ups : List SentLeg → List Event
+give_ups legs = map giving_up legs
+
+-- the link breaks, and nothing of it survives
+pub record Breaks (legs : List SentLeg) (front : FrontView) (new : Link) (front' : FrontView) : Type 0 where
+  pub given_up : front' ≡ after_all (give_ups legs) front
+  pub down : new ≡ down_link
+
+module _ (piece : List ℕ) (old : Link) (front : FrontView) where
+  -- all replies that are whole were taken
+  pub record TakesWhole (new : Link) (front' : FrontView) : Type 0 where
+    pub was_up : old.is_up ≡ true
+    pub taken : HasTaken (old.reader.kept ++ piece) old.legs front new.reader.kept new.legs front'
+    pub unfinished : IsUnfinished SpellsReply RefusesReply new.reader.kept
+    pub same_out : new.out ≡ old.out
+    pub same_state : new.is_up ≡ old.is_up
+
+  -- some replies were taken, and then the link broke; what came next, and the legs that were left
+  pub record TakesSome (Next : List ℕ → List SentLeg → Type 0) (new : Link) (front' : FrontView) : Type 0 where
+    pub was_up : old.is_up ≡ true
+    pub rest : List ℕ
+    pub left : List SentLeg
+    pub between : FrontView
+    pub taken : HasTaken (old.reader.kept ++ piece) old.legs front rest left between
+    pub next : Next rest left
+    pub breaks : Breaks left between new front'
+
+-- a reply comes next that no leg awaits
+abbrev pub IsSurplus : List ℕ → List SentLeg → Type 0
+IsSurplus rest left = ((reply : Reply) × (after : List ℕ) × BeginsWith SpellsReply rest reply after) × (left ≡ [])
+
+-- a reply comes next that is no answer to the first leg
+pub record IsMismatch (rest : List ℕ) (left : List SentLeg) : Type 0 where
+  pub sent : SentLeg
+  pub later : List SentLeg
+  pub reply : Reply
+  pub after : List ℕ
+  pub first : left ≡ sent ∷ later
+  pub next : BeginsWith SpellsReply rest reply after
+  pub other : (said : LegReply) → ¬ IsAnswer sent.leg.command reply said
+
+-- the reply that was taken last is a complaint
+pub record TakesComplaint (bytes : List ℕ) (legs : List SentLeg) (front : FrontView) (left : List SentLeg) (front' : FrontView) : Type 0 where
+  pub rest : List ℕ
+  pub before : List SentLeg
+  pub between : FrontView
+  pub sent : SentLeg
+  pub reply : Reply
+  pub said : LegReply
+  pub after : List ℕ
+  pub taken : HasTaken bytes legs front rest before between
+  pub first : before ≡ sent ∷ left
+  pub next : BeginsWith SpellsReply rest reply after
+  pub complains : is_complaint reply ≡ true
+  pub answers : IsAnswer sent.leg.command reply said
+  pub happens : front' ≡ after_all (taking sent said ∷ []) between
+
+-- what comes next is refused, or memory for it was
+abbrev pub IsRefused : TextError → List ℕ → List SentLeg → Type 0
+IsRefused refusal rest left = (refusal ≡ OutOfMemory) ⊎ RefusesReply refusal rest
+
+-- What bytes that came over a link do. They are taken reply by reply, each as that of the first leg that has none.
+module _ (piece : List ℕ) (old : Link) (front : FrontView) where
+  pub record BreaksAtComplaint (new : Link) (front' : FrontView) : Type 0 where
+    pub was_up : old.is_up ≡ true
+    pub left : List SentLeg
+    pub between : FrontView
+    pub taken : TakesComplaint (old.reader.kept ++ piece) old.legs front left between
+    pub breaks : Breaks left between new front'
+
+  -- the reader takes no more, or memory for the bytes was refused: nothing of them was taken
+  pub record BreaksAtOnce (refusal : TextError) (new : Link) (front' : FrontView) : Type 0 where
+    pub was_up : old.is_up ≡ true
+    pub why : (refusal ≡ OutOfMemory) ⊎ ((refusal ≡ Closed) × IsTrue (old.reader.closed || old.reader.ended))
+    pub breaks : Breaks old.legs front new front'
+
+  abbrev pub TakesBytes : LinkEnd → Link → FrontView → Type 0
+  TakesBytes Whole new front' = TakesWhole piece old front new front'
+  TakesBytes Surplus new front' = TakesSome piece old front IsSurplus new front'
+  TakesBytes Mismatch new front' = TakesSome piece old front IsMismatch new front'
+  TakesBytes Complaint new front' = BreaksAtComplaint new front'
+  TakesBytes (Refused refusal) new front' = TakesSome piece old front (IsRefused refusal) new front' ⊎ BreaksAtOnce refusal new front'
+  TakesBytes Down new front' = (old.is_up ≡ false) × (new ≡ old) × (front' ≡ front)

@@ -1,0 +1,40 @@
+-- How the replies that a link's reader holds are taken, before the link breaks.
+use Rattle.std.specs.Prelude.{◌≡◌, ℕ, ◌⊎◌, ◌||◌, IsTrue, List, ◌∷◌}
+use Rattle.mr_text.specs.Replies.{SpellsReply, RefusesReply}
+use Rattle.mr_text.specs.Stream.{IsUnfinished}
+use Rattle.mr_loop.specs.declared.link.Link.{Link}
+use Rattle.mr_loop.specs.declared.link.LinkEnd.{LinkEnd}
+use Rattle.mr_loop.specs.declared.link.LinkEnd.TheVariants.{Whole, Surplus, Mismatch, Complaint, Refused, Down}
+use Rattle.mr_loop.specs.declared.sent_legs.SentLeg.{SentLeg}
+use Rattle.mr_loop.specs.Events.{FrontView, after_event}
+use Rattle.mr_loop.specs.Returning.{giving_up, HasTaken, TakesComplaint, IsSurplus, IsMismatch, IsRefused}
+
+module _ (old : Link) (front : FrontView) where
+  -- some replies were taken; what came next, and the legs that were left
+  pub record StopsAt (Next : List ℕ → List SentLeg → Type 0) (new : Link) (front' : FrontView) : Type 0 where
+    pub rest : List ℕ
+    pub taken : HasTaken old.reader.kept old.legs front rest new.legs front'
+    pub next : Next rest new.legs
+
+  -- the first leg has a reply that is no answer to it, and its request is given up
+  pub record StopsAtMismatch (new : Link) (front' : FrontView) : Type 0 where
+    pub rest : List ℕ
+    pub sent : SentLeg
+    pub between : FrontView
+    pub taken : HasTaken old.reader.kept old.legs front rest (sent ∷ new.legs) between
+    pub next : IsMismatch rest (sent ∷ new.legs)
+    pub happens : front' ≡ after_event (giving_up sent) between
+
+  pub record StopsWhole (new : Link) (front' : FrontView) : Type 0 where
+    pub taken : HasTaken old.reader.kept old.legs front new.reader.kept new.legs front'
+    pub unfinished : IsUnfinished SpellsReply RefusesReply new.reader.kept
+    pub same_out : new.out ≡ old.out
+    pub same_state : new.is_up ≡ old.is_up
+
+  abbrev pub TakesReplies : LinkEnd → Link → FrontView → Type 0
+  TakesReplies Whole new front' = StopsWhole new front'
+  TakesReplies Surplus new front' = StopsAt IsSurplus new front'
+  TakesReplies Mismatch new front' = StopsAtMismatch new front'
+  TakesReplies Complaint new front' = TakesComplaint old.reader.kept old.legs front new.legs front'
+  TakesReplies (Refused refusal) new front' = StopsAt (IsRefused refusal) new front' ⊎ IsTrue (old.reader.closed || old.reader.ended)
+  TakesReplies Down new front' = ⊥

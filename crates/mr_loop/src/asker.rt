@@ -1,0 +1,25 @@
+//! Who asks, and when.
+
+/// What a loop may hold of one client and of one link.
+#[derive(Clone, Copy, Debug, Drop)]
+pub struct Limits {
+    /// With as many legs in the queue of a link no request is begun that has a leg over it.
+    pub most_legs: usize,
+    /// With more bytes of its answers unread no further request of a client is begun.
+    pub most_unread: usize,
+    /// How long the first leg of a link may be without a reply, in the unit of the times that the loop is told.
+    pub leg_timeout: u64,
+}
+
+/// A client that may ask now.
+#[derive(Clone, Copy, Debug, Drop)]
+pub struct Asker {
+    /// Its place.
+    pub client: usize,
+    /// What the clock reads, in seconds since the epoch.
+    pub reading: u64,
+    /// The time by which legs are timed, which never goes back.
+    pub now: u64,
+    /// What the loop may hold.
+    pub limits: Limits,
+}

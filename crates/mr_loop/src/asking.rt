@@ -1,0 +1,170 @@
+//! What is begun of what a client sent.
+ghost use Rattle.std.specs.Prelude.{◌≡◌, ◌≢◌, true, false};
+ghost use Rattle.mr_loop.specs.Asking.{AsksOn, is_full};
+ghost use Rattle.mr_loop.specs.steps.Asking.{AnswersSo, AsksSo, IsSentOff, RefusesSo, asking};
+
+use crate::asker::Asker;
+use crate::clearing::are_clear;
+use crate::front::{Begun, Front, denial};
+use crate::inbox::{Fetched, Inbox, Input};
+use crate::link::Link;
+use crate::sending::{Scratch, send_all};
+use mr_node::session::reply_to_refusal;
+use mr_proxy::Issued;
+use mr_text::laws::{requests_leave_less, skipped_lines_leave_less};
+use mr_text::{Cause, Reply, Request, TextError};
+
+/// Why no more of what a client sent is begun.
+#[derive(Clone, Copy, Debug, PartialEq, Eq)]
+pub enum Pause {
+    /// All that is whole is begun: more bytes are needed.
+    NeedsBytes,
+    /// As many requests are under way as there is room for.
+    NeedsRoom,
+    /// The client has too much of its answers unread, or too many of its requests wait.
+    NeedsReader,
+    /// As many legs as the bound await replies over a link that its next request needs.
+    NeedsQueue,
+    /// Memory is refused.
+    NeedsMemory,
+    /// Nothing more is read of the client: it may be closed once all is written to it.
+    IsDone,
+}
+
+/// Sends the legs of a request that was issued. Where one has no link, the request is given up at once; where memory for one
+/// is refused, none goes, and the client is told this in its turn. Whether all of them went.
+fn send_off(
+    front: &mut Front,
+    links: &mut [Link],
+    scratch: &mut Scratch,
+    asker: Asker,
+    issued: Issued,
+    denial: Option<Reply>,
+) -> bool
+    ensures { IsSentOff asker front.old.core.routing issued.op issued.legs.items denial front.old links.old front.new links.new }
+{
+    let op = issued.op;
+    match send_all(links, scratch, front.core().routing(), asker, issued.legs) {
+        Ok(true) => true,
+        Ok(false) => {
+            front.give_up(asker.client, op);
+            false
+        }
+        Err(_) => {
+            front.withdraw(asker.client, op, denial);
+            false
+        }
+    }
+}
+
+/// Issues a request, and sends its legs. The request comes back where there was no memory for its turn.
+fn ask(
+    front: &mut Front,
+    links: &mut [Link],
+    scratch: &mut Scratch,
+    asker: Asker,
+    request: Request,
+) -> Result<(), Request>
+    requires asks { request ≢ Request.Quit }
+    requires room { is_full front.old.core ≡ false }
+    ensures { AsksSo asker front.old links.old request result front.new links.new }
+{
+    let refused = denial(&request, Cause::OutOfMemory);
+    match front.issue(asker, request) {
+        Begun::Later(request) => Err(request),
+        Begun::Told => Ok(()),
+        Begun::Issued(issued) => {
+            let _ = send_off(front, links, scratch, asker, issued, refused);
+            Ok(())
+        }
+    }
+}
+
+/// Does what a client sent. It comes back where it is held back, with the reason.
+fn answer(
+    front: &mut Front,
+    links: &mut [Link],
+    scratch: &mut Scratch,
+    asker: Asker,
+    input: Input,
+) -> Result<(), (Pause, Input)>
+    requires { is_full front.old.core ≡ false }
+    ensures { AnswersSo asker front.old links.old input result front.new links.new }
+{
+    match input {
+        Input::Refused(refusal) => answer_refusal(front, asker, refusal),
+        Input::Asks(request) => answer_request(front, links, scratch, asker, request),
+    }
+}
+
+/// Tells a client why its text is refused, if it is told.
+fn answer_refusal(front: &mut Front, asker: Asker, refusal: TextError) -> Result<(), (Pause, Input)>
+    ensures { RefusesSo asker refusal front.old result front.new }
+{
+    let Some(reply) = reply_to_refusal(refusal) else {
+        return Ok(());
+    };
+    match front.tell(asker.client, reply) {
+        Ok(()) => Ok(()),
+        Err(_) => Err((Pause::NeedsMemory, Input::Refused(refusal))),
+    }
+}
+
+/// Begins a request, unless a link that it needs has too many legs.
+fn answer_request(
+    front: &mut Front,
+    links: &mut [Link],
+    scratch: &mut Scratch,
+    asker: Asker,
+    request: Request,
+) -> Result<(), (Pause, Input)>
+    requires { is_full front.old.core ≡ false }
+    ensures { AnswersSo asker front.old links.old (Input.Asks request) result front.new links.new }
+{
+    if let Request::Quit = &request {
+        return Ok(());
+    }
+    if !are_clear(
+        links,
+        asker.limits.most_legs,
+        front.core(),
+        asker.reading,
+        &request,
+    ) {
+        return Err((Pause::NeedsQueue, Input::Asks(request)));
+    }
+    match ask(front, links, scratch, asker, request) {
+        Ok(()) => Ok(()),
+        Err(request) => Err((Pause::NeedsMemory, Input::Asks(request))),
+    }
+}
+
+/// Does what a client sent, as far as it may be done now.
+pub(crate) fn ask_on(
+    front: &mut Front,
+    links: &mut [Link],
+    scratch: &mut Scratch,
+    inbox: &mut Inbox,
+    asker: Asker,
+) -> Pause
+    ensures { AsksOn asker result (asking inbox.old front.old links.old) (asking inbox.new front.new links.new) }
+{
+    requests_leave_less();
+    skipped_lines_leave_less();
+    'input: loop {
+        if let Some(pause) = front.pause_before(asker.limits, asker.client) {
+            return pause;
+        }
+        match inbox.fetch() {
+            Fetched::Nothing => return Pause::NeedsBytes,
+            Fetched::NoMemory => return Pause::NeedsMemory,
+            Fetched::Done => return Pause::IsDone,
+            Fetched::Came(input) => {
+                if let Err((pause, input)) = answer(front, links, scratch, asker, input) {
+                    inbox.hold(input);
+                    return pause;
+                }
+            }
+        }
+    }
+}

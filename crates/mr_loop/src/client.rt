@@ -1,0 +1,66 @@
+//! One client.
+ghost use Rattle.std.specs.Prelude.{◌≡◌, ◌<◌, true, false, [], ◌++◌, length, IfOk, OnOk, OnErr};
+ghost use Rattle.mr_loop.specs.Turns.{flushed, fresh_client};
+
+use crate::out_buffer::OutBuffer;
+use crate::turns::{Turn, Turns};
+use mr_node::session::is_silent;
+use mr_text::FixedBuffer;
+use std::alloc::{AllocError, Global};
+
+/// One client: what it asked, and what it is to be told.
+#[derive(Drop)]
+pub struct Client {
+    /// The requests of which it wasn't told yet, in order.
+    pub turns: Turns,
+    /// The bytes that it is to be told.
+    pub out: OutBuffer,
+}
+
+impl Client {
+    /// A client that asked nothing yet.
+    pub fn new(alloc: Global) -> Client
+        ensures { result ≡ fresh_client }
+    {
+        Client {
+            turns: Turns::new(alloc),
+            out: OutBuffer::new(alloc),
+        }
+    }
+
+    /// Tells what is there for the first request, which leaves then. False where it isn't there. For want of memory nothing
+    /// changes.
+    fn tell_first(&mut self, buffer: &mut FixedBuffer) -> Result<bool, AllocError>
+        ensures same { flushed self.new ≡ flushed self.old }
+        ensures more { IfOk result (λ more. more ≡ true → length self.new.turns < length self.old.turns) }
+        ensures none { IfOk result (λ more. more ≡ false → self.new ≡ flushed self.old) }
+    {
+        let Some(turn) = self.turns.front() else {
+            return Ok(false);
+        };
+        match turn {
+            Turn::Waits(_) => return Ok(false),
+            Turn::Answered(answer) => {
+                if !is_silent(answer.request()) {
+                    self.out.put_answer(answer, buffer)?;
+                }
+            }
+            Turn::Says(reply) => self.out.put_reply(reply, buffer)?,
+        }
+        self.turns.pop();
+        Ok(true)
+    }
+
+    /// Puts what is there for the first requests behind what the client is to be told. For want of memory it stops before
+    /// one of them.
+    pub(crate) fn flush(&mut self, buffer: &mut FixedBuffer) -> Result<(), AllocError>
+        ensures flushed { OnOk result (self.new ≡ flushed self.old) }
+        ensures in_part { OnErr result (flushed self.new ≡ flushed self.old) }
+    {
+        'turn: loop {
+            if !self.tell_first(buffer)? {
+                return Ok(());
+            }
+        }
+    }
+}

@@ -1,0 +1,292 @@
+//! The core, with the clients whose requests it has.
+ghost use Rattle.std.specs.Prelude.{◌≡◌, ◌≢◌, ◌<◌, ◌≤◌, true, false, [], ◌∷◌, ◌++◌, length, slice_get, slice_set, IfOk, OnOk, OnErr};
+ghost use Rattle.mr_proxy.specs.Issue.{next_op};
+ghost use Rattle.mr_desks.specs.declared.step.Step.TheVariants.{GiveUp};
+ghost use Rattle.mr_loop.specs.Asking.{denial, pause_before, is_behind, is_full};
+ghost use Rattle.mr_loop.specs.Events.{Event, after_event, changed, with_answer};
+ghost use Rattle.mr_loop.specs.LoopView.{output_in, is_idle_in};
+ghost use Rattle.mr_loop.specs.Returning.{taking};
+ghost use Rattle.mr_loop.specs.Turns.{fresh_client};
+ghost use Rattle.mr_loop.specs.steps.Asking.{IssuesSo, IsWithdrawn, cause_of};
+ghost use Rattle.mr_loop.specs.steps.Telling.{ReadsSo, TouchedIs};
+
+use crate::asker::{Asker, Limits};
+use crate::asking::Pause;
+use crate::client::Client;
+use crate::sent_legs::SentLeg;
+use crate::turns::Turn;
+use mr_history::OpId;
+use mr_join::LegReply;
+use mr_node::session::is_silent;
+use mr_proxy::{Answer, Issued, ProxyCore, ProxyError, Taken};
+use mr_text::{Cause, FixedBuffer, Reply, Request};
+use std::alloc::{AllocError, Global};
+use std::marker::Model;
+
+/// The core, with the clients whose requests it has.
+#[derive(Drop)]
+pub struct Front {
+    core: ProxyCore,
+    clients: Vec<Client>,
+    touched: Vec<usize>,
+}
+
+/// What became of a request that was handed to the core.
+#[derive(Debug, Drop)]
+pub(crate) enum Begun {
+    /// It was issued.
+    Issued(Issued),
+    /// It wasn't, and its client is told why, unless it wants no answer.
+    Told,
+    /// For want of memory nothing was done: here it is back.
+    Later(Request),
+}
+
+impl Model for Front {
+    ghost use Rattle.std.specs.Prelude.{◌+◌, ◌≤◌, length, vec_capacity};
+    ghost use Rattle.mr_loop.specs.Events.{FrontView};
+
+    ghost Value = { FrontView };
+
+    ghost view = { λ f. record { core = f.core; clients = f.clients.items; touched = f.touched.items } };
+
+    ghost invariant = { λ f. length f.touched.items + length f.core.outstanding ≤ vec_capacity f.touched };
+}
+
+/// The cause that a client is told of what the core refused.
+fn cause_of(refusal: ProxyError) -> Cause
+    ensures { result ≡ cause_of refusal }
+{
+    match refusal {
+        ProxyError::NumbersSpent => Cause::NumbersSpent,
+        ProxyError::OutOfMemory => Cause::OutOfMemory,
+        ProxyError::NoRoom => Cause::Busy,
+        ProxyError::NoSuchOp => Cause::LegLost,
+    }
+}
+
+/// What a client is told whose request isn't begun for this cause.
+pub(crate) fn denial(request: &Request, cause: Cause) -> Option<Reply>
+    ensures { result ≡ denial request.now cause }
+{
+    if is_silent(request) {
+        None
+    } else {
+        Some(Reply::ServerError(cause))
+    }
+}
+
+impl Front {
+    /// A core without clients.
+    pub fn new(alloc: Global, core: ProxyCore) -> Result<Front, AllocError>
+        ensures { IfOk result (λ front. front ≡ (record { core = core; clients = []; touched = [] })) }
+    {
+        let touched = Vec::with_capacity(alloc, core.outstanding())?;
+        Ok(Front {
+            core,
+            clients: Vec::new(alloc),
+            touched,
+        })
+    }
+
+    /// The core.
+    pub fn core(&self) -> &ProxyCore
+        ensures { result.now ≡ self.now.core }
+    {
+        &self.core
+    }
+
+    /// How many places for clients there are.
+    pub fn places(&self) -> usize
+        ensures { result ≡ length self.now.clients }
+    {
+        self.clients.len()
+    }
+
+    /// Notes an answer at the client who waits for it.
+    fn note(&mut self, client: usize, answer: Answer)
+        ensures { self.new ≡ record self.old { clients = changed client (with_answer answer) self.old.clients } }
+    {
+        if client < self.clients.len() {
+            self.clients[client].turns.note(answer);
+        }
+    }
+
+    /// Takes the reply of a leg.
+    pub(crate) fn take(&mut self, sent: SentLeg, said: LegReply)
+        ensures { self.new ≡ after_event (taking sent said) self.old }
+    {
+        let client = sent.client;
+        if let Taken::Answered(answer) = self.core.take_reply(sent.leg.sheet().id, said) {
+            self.touched.push_reserved(client);
+            self.note(client, answer);
+        }
+    }
+
+    /// Gives a request up, unless it has left.
+    pub(crate) fn give_up(&mut self, client: usize, op: OpId)
+        ensures { self.new ≡ after_event (Event.Does client (GiveUp op)) self.old }
+    {
+        if let Ok(answer) = self.core.give_up(op) {
+            self.touched.push_reserved(client);
+            self.note(client, answer);
+        }
+    }
+
+    /// Why nothing of a client is begun now, whatever it asks.
+    pub(crate) fn pause_before(&self, limits: Limits, client: usize) -> Option<Pause>
+        ensures { result ≡ pause_before limits client self.now }
+    {
+        if let Some(ProxyError::NoRoom) = self.core.refusal() {
+            return Some(Pause::NeedsRoom);
+        }
+        if self.is_behind(limits, client) {
+            Some(Pause::NeedsReader)
+        } else {
+            None
+        }
+    }
+
+    /// Whether the client has read less of its answers than it may leave unread, or as many of its requests wait as there is
+    /// room for.
+    fn is_behind(&self, limits: Limits, client: usize) -> bool
+        ensures { result ≡ is_behind limits client self.now }
+    {
+        if client >= self.clients.len() {
+            return false;
+        }
+        let client = &self.clients[client];
+        client.out.len() > limits.most_unread || self.core.room() <= client.turns.len() as u64
+    }
+
+    /// The client is told this in its turn. For want of memory nothing changes.
+    pub(crate) fn tell(&mut self, client: usize, reply: Reply) -> Result<(), AllocError>
+        ensures told { OnOk result (self.new ≡ after_event (Event.Tells client reply) self.old) }
+        ensures unchanged { OnErr result (self.new ≡ self.old) }
+    {
+        if client < self.clients.len() {
+            self.clients[client].turns.push(Turn::Says(reply))?;
+        }
+        Ok(())
+    }
+
+    /// The name that the next request gets.
+    fn next_op(&self) -> OpId
+        ensures { result ≡ next_op self.now.core }
+    {
+        OpId {
+            proxy: self.core.number(),
+            incarnation: self.core.incarnation(),
+            number: self.core.next(),
+        }
+    }
+
+    /// Issues a request of a client, who waits its turn. For want of memory for the turn nothing changes; else a client whose
+    /// request the core refuses is told why.
+    pub(crate) fn issue(&mut self, asker: Asker, request: Request) -> Begun
+        requires asks { request ≢ Request.Quit }
+        requires room { is_full self.old.core ≡ false }
+        ensures { IssuesSo asker request self.old result self.new }
+    {
+        let client = asker.client;
+        if client >= self.clients.len() {
+            return Begun::Later(request);
+        }
+        let Some(wanted) = self.core.outstanding().checked_add(1) else {
+            return Begun::Later(request);
+        };
+        if self.touched.reserve(wanted).is_err() {
+            return Begun::Later(request);
+        }
+        let op = self.next_op();
+        if let Err(_) = self.clients[client].turns.push(Turn::Waits(op)) {
+            return Begun::Later(request);
+        }
+        match self.core.issue(asker.reading, request) {
+            Ok(issued) => Begun::Issued(issued),
+            Err((refusal, request)) => {
+                let denial = denial(&request, cause_of(refusal));
+                drop(request);
+                self.clients[client].turns.deny(denial);
+                Begun::Told
+            }
+        }
+    }
+
+    /// The request that was issued last is given up before any of its legs went: its client is told this in its turn.
+    pub(crate) fn withdraw(&mut self, client: usize, op: OpId, denial: Option<Reply>)
+        ensures { IsWithdrawn client op denial self.old self.new }
+    {
+        let _ = self.core.give_up(op);
+        if client < self.clients.len() {
+            self.clients[client].turns.deny(denial);
+        }
+    }
+
+    /// Puts what is there for a client's first requests behind what it is to be told. For want of memory it stops before one
+    /// of them.
+    pub(crate) fn flush(
+        &mut self,
+        client: usize,
+        buffer: &mut FixedBuffer,
+    ) -> Result<(), AllocError>
+        ensures flushed { OnOk result (self.new ≡ after_event (Event.Flushes client) self.old) }
+        ensures in_part { OnErr result
+            (after_event (Event.Flushes client) self.new ≡ after_event (Event.Flushes client) self.old) }
+    {
+        if client >= self.clients.len() {
+            return Ok(());
+        }
+        self.clients[client].flush(buffer)
+    }
+
+    /// One more place, for a client that asked nothing yet. For want of memory nothing changes.
+    pub(crate) fn add_place(&mut self, alloc: Global) -> Result<(), AllocError>
+        ensures added { OnOk result (self.new ≡ record self.old { clients = self.old.clients ++ fresh_client ∷ [] }) }
+        ensures unchanged { OnErr result (self.new ≡ self.old) }
+    {
+        self.clients.push(Client::new(alloc))?;
+        Ok(())
+    }
+
+    /// A place is as new: what was asked there is told to nobody. The requests stay under way until their legs are in.
+    pub(crate) fn refresh(&mut self, alloc: Global, client: usize)
+        requires { client < length self.old.clients }
+        ensures { self.new ≡ record self.old { clients = slice_set self.old.clients client fresh_client } }
+    {
+        self.clients[client] = Client::new(alloc);
+    }
+
+    /// The bytes that a client is to be told.
+    pub(crate) fn output(&self, client: usize) -> &[u8]
+        requires { client < length self.now.clients }
+        ensures { result.now ≡ output_in (slice_get self.now.clients client) }
+    {
+        self.clients[client].out.as_slice()
+    }
+
+    /// Whether all that a client asked was told it, and written.
+    pub(crate) fn is_idle(&self, client: usize) -> bool
+        requires { client < length self.now.clients }
+        ensures { result ≡ is_idle_in (slice_get self.now.clients client) }
+    {
+        let client = &self.clients[client];
+        client.turns.len() == 0 && client.out.len() == 0
+    }
+
+    /// So many bytes were written to a client.
+    pub(crate) fn written(&mut self, client: usize, count: usize)
+        requires client { client < length self.old.clients }
+        requires count { count ≤ length (output_in (slice_get self.old.clients client)) }
+        ensures { ReadsSo client count self.old self.new }
+    {
+        self.clients[client].out.advance(count);
+    }
+
+    /// The place of a client to whose request the core gave an answer, each as often as it did.
+    pub(crate) fn next_touched(&mut self) -> Option<usize>
+        ensures { TouchedIs self.old result self.new }
+    {
+        self.touched.pop()
+    }
+}

@@ -1,0 +1,33 @@
+//! A proxy as a machine that an event loop drives: its core, its clients, and one link to each node, over which the legs of
+//! all clients go. It owns no socket and reads no clock; what it is told of bytes and time decides all that it does.
+#![tactic(auto)]
+
+mod answering;
+mod asker;
+mod asking;
+mod clearing;
+mod client;
+mod front;
+mod inbox;
+pub mod laws;
+mod link;
+mod numbering;
+mod out_buffer;
+mod out_sink;
+mod proxy_loop;
+mod requesting;
+mod sending;
+mod sent_legs;
+mod turns;
+
+pub use asker::{Asker, Limits};
+pub use asking::Pause;
+pub use client::Client;
+pub use front::Front;
+pub use inbox::{Fetched, Inbox, Input};
+pub use link::{Link, LinkEnd};
+pub use out_buffer::OutBuffer;
+pub use proxy_loop::ProxyLoop;
+pub use sending::Mark;
+pub use sent_legs::{SentLeg, SentLegs};
+pub use turns::{Turn, Turns};

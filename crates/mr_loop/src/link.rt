@@ -1,0 +1,155 @@
+//! The link to one node: the legs that went over it, and what comes back.
+ghost use Rattle.std.specs.Prelude.{◌≡◌, ◌≢◌, ◌-◌, ◌≤◌, true, false, [], ◌∷◌, ◌++◌, length, take, IsTrue, OnOk, OnErr};
+ghost use Rattle.mr_loop.specs.Events.{after_all};
+ghost use Rattle.mr_loop.specs.Links.{up_link, down_link, with_leg};
+ghost use Rattle.mr_loop.specs.Returning.{TakesBytes, Breaks, give_ups};
+ghost use Rattle.mr_loop.specs.Ticking.{is_late};
+ghost use Rattle.mr_loop.specs.steps.Returning.{TakesReplies};
+ghost use Rattle.mr_loop.specs.steps.Sending.{without_last};
+
+use crate::answering::{is_complaint, leg_reply_of};
+use crate::front::Front;
+use crate::out_buffer::OutBuffer;
+use crate::sent_legs::{SentLeg, SentLegs};
+use mr_text::{FixedBuffer, ReplyReader, TextError};
+use std::alloc::{AllocError, Global};
+
+/// How a link stands once it has taken bytes. All but the first and the last have broken it.
+#[derive(Clone, Copy, Debug, PartialEq, Eq)]
+pub enum LinkEnd {
+    /// All replies that are whole were taken.
+    Whole,
+    /// A reply came that no leg awaits.
+    Surplus,
+    /// A reply is no answer to its leg.
+    Mismatch,
+    /// The node doesn't know what it was asked.
+    Complaint,
+    /// What came is no reply, or memory for it was refused.
+    Refused(TextError),
+    /// The link wasn't up: nothing was taken.
+    Down,
+}
+
+/// The link to one node.
+#[derive(Drop)]
+pub struct Link {
+    /// Whether there is a connection.
+    pub is_up: bool,
+    /// The bytes that came and that no reply has taken.
+    pub reader: ReplyReader,
+    /// The legs that went and that no reply came for.
+    pub legs: SentLegs,
+    /// The bytes that are to be written.
+    pub out: OutBuffer,
+}
+
+impl Link {
+    /// A link that isn't up yet.
+    pub fn new(alloc: Global) -> Link
+        ensures { result ≡ down_link }
+    {
+        Link {
+            is_up: false,
+            reader: ReplyReader::new(alloc),
+            legs: SentLegs::new(alloc),
+            out: OutBuffer::new(alloc),
+        }
+    }
+
+    /// Puts a leg behind those that went, and the request for it behind theirs. For want of memory nothing changes.
+    pub(crate) fn send(&mut self, buffer: &mut FixedBuffer, sent: SentLeg) -> Result<(), AllocError>
+        ensures sent { OnOk result (self.new ≡ with_leg sent self.old) }
+        ensures unchanged { OnErr result (self.new ≡ self.old) }
+    {
+        let before = self.out.len();
+        self.out.put_command(&sent.leg.sheet().command, buffer)?;
+        if self.legs.push(sent).is_err() {
+            self.out.cut(before);
+            return Err(AllocError);
+        }
+        Ok(())
+    }
+
+    /// Takes the leg back that went last: so many bytes are to be written again.
+    pub(crate) fn take_back(&mut self, count: usize)
+        ensures { self.new ≡ without_last count self.old }
+    {
+        self.legs.pop_last();
+        self.out.cut(count);
+    }
+
+    /// Whether the first leg went longer ago than the bound allows.
+    pub(crate) fn is_late(&self, bound: u64, now: u64) -> bool
+        ensures { result ≡ is_late bound now self.now }
+    {
+        match self.legs.first() {
+            None => false,
+            Some(sent) => now.saturating_sub(sent.sent_at) > bound,
+        }
+    }
+
+    /// The link broke: the request of each leg in its queue is given up, in order, and what came of a reply or is to be
+    /// written is gone.
+    pub(crate) fn break_off(&mut self, alloc: Global, front: &mut Front)
+        ensures { Breaks self.old.legs front.old self.new front.new }
+    {
+        while let Some(sent) = self.legs.pop() {
+            front.give_up(sent.client, sent.leg.sheet().id.op);
+        }
+        self.is_up = false;
+        self.reader = ReplyReader::new(alloc);
+        self.out.clear();
+    }
+
+    /// Takes the replies that are whole, each as that of the first leg that has none.
+    fn take_replies(&mut self, front: &mut Front) -> LinkEnd
+        ensures { TakesReplies self.old front.old result self.new front.new }
+    {
+        'reply: loop {
+            match self.reader.next() {
+                Ok(Some(reply)) => {
+                    let complains = is_complaint(&reply);
+                    let Some(sent) = self.legs.pop() else {
+                        return LinkEnd::Surplus;
+                    };
+                    let Some(said) = leg_reply_of(&sent.leg.sheet().command, reply) else {
+                        front.give_up(sent.client, sent.leg.sheet().id.op);
+                        return LinkEnd::Mismatch;
+                    };
+                    front.take(sent, said);
+                    if complains {
+                        return LinkEnd::Complaint;
+                    }
+                }
+                Ok(None) => return LinkEnd::Whole,
+                Err(refusal) => return LinkEnd::Refused(refusal),
+            }
+        }
+    }
+
+    /// Takes bytes that came. Each reply that is whole is that of the first leg that has none. What isn't a reply, a reply that
+    /// no leg awaits or that is no answer to its leg, one that says that the node doesn't know what it was asked, and want of
+    /// memory break the link.
+    pub(crate) fn take_bytes(&mut self, alloc: Global, front: &mut Front, piece: &[u8]) -> LinkEnd
+        ensures { TakesBytes piece.now self.old front.old result self.new front.new }
+    {
+        if !self.is_up {
+            return LinkEnd::Down;
+        }
+        match self.reader.feed(piece) {
+            Err(refusal) => {
+                self.break_off(alloc, front);
+                return LinkEnd::Refused(refusal);
+            }
+            Ok(()) => {}
+        }
+        match self.take_replies(front) {
+            LinkEnd::Whole => LinkEnd::Whole,
+            end => {
+                self.break_off(alloc, front);
+                end
+            }
+        }
+    }
+}

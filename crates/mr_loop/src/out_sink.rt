@@ -1,0 +1,50 @@
+//! Memory that is written to as to a device.
+ghost use Rattle.std.specs.Prelude.{◌≡◌, ◌≤◌, [], false, None, length, take, drop};
+
+use mr_text::{GhostBytes, GhostCount, Sink, WriteFault};
+use std::alloc::Global;
+
+/// Bytes that are gathered in memory. A write fails where memory for it is refused, and then nothing is added.
+#[derive(Drop)]
+pub(crate) struct OutSink {
+    pub(crate) bytes: Vec<u8>,
+    handed: GhostBytes,
+    calls: GhostCount,
+    failures: GhostCount,
+    last_failed: bool,
+}
+
+impl OutSink {
+    /// No bytes.
+    pub(crate) fn new(alloc: Global) -> OutSink
+        ensures { result.bytes.items ≡ [] }
+    {
+        OutSink {
+            bytes: Vec::new(alloc),
+            handed: GhostBytes::new(),
+            calls: GhostCount::new(),
+            failures: GhostCount::new(),
+            last_failed: false,
+        }
+    }
+}
+
+impl Sink for OutSink {
+    ghost told = { λ s. record { written = s.bytes.items; handed = s.handed; calls = s.calls; failures = s.failures; last_failed = s.last_failed; contents = None } };
+
+    fn write_all(&mut self, bytes: &[u8]) -> Result<(), WriteFault> {
+        self.calls.add_one();
+        self.handed.extend(bytes);
+        match self.bytes.extend_from_slice(bytes) {
+            Ok(()) => {
+                self.last_failed = false;
+                Ok(())
+            }
+            Err(_) => {
+                self.failures.add_one();
+                self.last_failed = true;
+                Err(WriteFault)
+            }
+        }
+    }
+}

@@ -1,0 +1,274 @@
+//! The loop: what each thing that happens does to the core, its clients and its links.
+ghost use Rattle.std.specs.Prelude.{◌≡◌, ◌<◌, ◌≤◌, ◌&&◌, length, map, replicate, slice_get, IfOk, OnOk, OnErr};
+ghost use Rattle.mr_loop.specs.Events.{after_all};
+ghost use Rattle.mr_loop.specs.Links.{is_up_at, down_link};
+ghost use Rattle.mr_loop.specs.LoopView.{LinkBytes, LinkBreaks, LinkWrote, LinkComesUp, ClientBytes, ClientEnds, ClientRead, fresh_loop, client_flushed, refreshed, with_place, after_tick, output_in, is_idle_in, link_output_in, is_done_in, asker_of, IsAsked};
+ghost use Rattle.mr_loop.specs.Ticking.{ticked, ticks, given_up_at};
+
+use crate::asker::{Asker, Limits};
+use crate::asking::{Pause, ask_on};
+use crate::front::Front;
+use crate::inbox::Inbox;
+use crate::link::{Link, LinkEnd};
+use crate::numbering::nodes_of;
+use crate::sending::{Scratch, is_up};
+use mr_proxy::ProxyCore;
+use std::alloc::{AllocError, Global};
+use std::marker::Model;
+
+/// A proxy's loop: its core, its clients, and a link to each node. Its nodes are numbered pool by pool, in the order of each
+/// pool. All that a call does is decided by the bytes and the time that it is told.
+#[derive(Drop)]
+pub struct ProxyLoop {
+    alloc: Global,
+    front: Front,
+    inboxes: Vec<Inbox>,
+    links: Vec<Link>,
+    limits: Limits,
+    scratch: Scratch,
+}
+
+impl Model for ProxyLoop {
+    ghost use Rattle.mr_loop.specs.LoopView.{LoopView};
+
+    ghost Value = { LoopView };
+
+    ghost view = { λ l. record { front = l.front; inboxes = l.inboxes.items; links = l.links.items; limits = l.limits } };
+}
+
+/// So many links that are down.
+fn down_links(alloc: Global, count: usize) -> Result<Vec<Link>, AllocError>
+    ensures { IfOk result (λ links. links.items ≡ replicate count down_link) }
+{
+    let mut links = Vec::with_capacity(alloc, count)?;
+    while links.len() < count {
+        links.push(Link::new(alloc))?;
+    }
+    Ok(links)
+}
+
+impl ProxyLoop {
+    /// A loop over a core, without clients, whose links are down.
+    pub fn new(alloc: Global, core: ProxyCore, limits: Limits) -> Result<ProxyLoop, AllocError>
+        ensures { IfOk result (λ l. l ≡ fresh_loop core limits) }
+    {
+        let links = down_links(alloc, nodes_of(core.routing()))?;
+        let scratch = Scratch::new(alloc)?;
+        Ok(ProxyLoop {
+            alloc,
+            front: Front::new(alloc, core)?,
+            inboxes: Vec::new(alloc),
+            links,
+            limits,
+            scratch,
+        })
+    }
+
+    /// The core.
+    pub fn core(&self) -> &ProxyCore
+        ensures { result.now ≡ self.now.front.core }
+    {
+        self.front.core()
+    }
+
+    /// One more place for a client, which is the last. For want of memory nothing changes.
+    pub fn add_place(&mut self) -> Result<(), AllocError>
+        ensures added { OnOk result (self.new ≡ with_place self.old) }
+        ensures unchanged { OnErr result (self.new ≡ self.old) }
+    {
+        self.inboxes.reserve(1)?;
+        self.front.add_place(self.alloc)?;
+        self.inboxes.push_reserved(Inbox::new(self.alloc));
+        Ok(())
+    }
+
+    /// A client came to a place, or left it: what was sent and asked there is gone. Its requests stay under way until their
+    /// legs are in, and are told to nobody.
+    pub fn refresh(&mut self, client: usize)
+        requires inbox { client < length self.old.inboxes }
+        requires client { client < length self.old.front.clients }
+        ensures { self.new ≡ refreshed client self.old }
+    {
+        self.inboxes[client] = Inbox::new(self.alloc);
+        self.front.refresh(self.alloc, client);
+    }
+
+    /// Bytes of a client came, at a reading of the clock of phases, in seconds since the epoch, and at a time by which legs
+    /// are timed. What is whole of them is begun as far as it may be; the rest is kept, and the answer says what it needs:
+    /// where that is there, the call may be made again without bytes. For want of memory for the bytes nothing changes.
+    pub fn on_client_bytes(
+        &mut self,
+        client: usize,
+        reading: u64,
+        now: u64,
+        piece: &[u8],
+    ) -> Result<Pause, AllocError>
+        requires { client < length self.old.inboxes }
+        ensures asked { IfOk result
+            (λ pause. ClientBytes (asker_of self.old client reading now) piece.now self.old pause self.new) }
+    {
+        let asker = Asker {
+            client,
+            reading,
+            now,
+            limits: self.limits,
+        };
+        let inbox = &mut self.inboxes[client];
+        inbox.feed(piece)?;
+        Ok(ask_on(
+            &mut self.front,
+            &mut self.links,
+            &mut self.scratch,
+            inbox,
+            asker,
+        ))
+    }
+
+    /// A client sends no more. What is whole of what it sent is begun, as by `on_client_bytes`.
+    pub fn on_client_ended(&mut self, client: usize, reading: u64, now: u64) -> Pause
+        requires { client < length self.old.inboxes }
+        ensures { ClientEnds (asker_of self.old client reading now) self.old result self.new }
+    {
+        let asker = Asker {
+            client,
+            reading,
+            now,
+            limits: self.limits,
+        };
+        let inbox = &mut self.inboxes[client];
+        inbox.end();
+        ask_on(
+            &mut self.front,
+            &mut self.links,
+            &mut self.scratch,
+            inbox,
+            asker,
+        )
+    }
+
+    /// Puts what is there for a client's first requests behind what it is to be told. For want of memory some is left.
+    pub fn flush(&mut self, client: usize) -> Result<(), AllocError>
+        ensures flushed { OnOk result (self.new ≡ client_flushed client self.old) }
+        ensures in_part { OnErr result (client_flushed client self.new ≡ client_flushed client self.old) }
+    {
+        self.front.flush(client, &mut self.scratch.buffer)
+    }
+
+    /// The bytes that a client is to be told.
+    pub fn client_output(&self, client: usize) -> &[u8]
+        requires { client < length self.now.front.clients }
+        ensures { result.now ≡ output_in (slice_get self.now.front.clients client) }
+    {
+        self.front.output(client)
+    }
+
+    /// So many bytes were written to a client.
+    pub fn on_client_written(&mut self, client: usize, count: usize)
+        requires client { client < length self.old.front.clients }
+        requires count { count ≤ length (output_in (slice_get self.old.front.clients client)) }
+        ensures { ClientRead client count self.old self.new }
+    {
+        self.front.written(client, count);
+    }
+
+    /// Whether nothing more is read of a client, and all that it asked is told it and written.
+    pub fn is_finished(&self, client: usize) -> bool
+        requires inbox { client < length self.now.inboxes }
+        requires client { client < length self.now.front.clients }
+        ensures { result ≡ (is_done_in (slice_get self.now.inboxes client)
+            && is_idle_in (slice_get self.now.front.clients client)) }
+    {
+        self.inboxes[client].is_done && self.front.is_idle(client)
+    }
+
+    /// The place of a client for whom there is an answer that wasn't asked for yet, each as often as there is one; None
+    /// where there is none. It may be flushed, and what it sent may be gone on with.
+    pub fn next_touched(&mut self) -> Option<usize>
+        ensures { IsAsked self.old result self.new }
+    {
+        self.front.next_touched()
+    }
+
+    /// Whether the link to a node is up.
+    pub fn is_up(&self, node: usize) -> bool
+        ensures { result ≡ is_up_at self.now.links node }
+    {
+        is_up(&self.links, node)
+    }
+
+    /// The bytes that are to be written to a node.
+    pub fn link_output(&self, node: usize) -> &[u8]
+        requires { node < length self.now.links }
+        ensures { result.now ≡ link_output_in (slice_get self.now.links node) }
+    {
+        self.links[node].out.as_slice()
+    }
+
+    /// A connection to a node was made.
+    pub fn on_link_up(&mut self, node: usize)
+        requires { node < length self.old.links }
+        ensures { LinkComesUp node self.old self.new }
+    {
+        let link = &mut self.links[node];
+        link.break_off(self.alloc, &mut self.front);
+        link.is_up = true;
+    }
+
+    /// Bytes came over the link to a node.
+    pub fn on_link_bytes(&mut self, node: usize, piece: &[u8]) -> LinkEnd
+        requires { node < length self.old.links }
+        ensures { LinkBytes node piece.now self.old result self.new }
+    {
+        self.links[node].take_bytes(self.alloc, &mut self.front, piece)
+    }
+
+    /// The link to a node broke.
+    pub fn on_link_broken(&mut self, node: usize)
+        requires { node < length self.old.links }
+        ensures { LinkBreaks node self.old self.new }
+    {
+        self.links[node].break_off(self.alloc, &mut self.front);
+    }
+
+    /// So many bytes were written to a node.
+    pub fn on_link_written(&mut self, node: usize, count: usize)
+        requires node { node < length self.old.links }
+        requires count { count ≤ length (link_output_in (slice_get self.old.links node)) }
+        ensures { LinkWrote node count self.old self.new }
+    {
+        self.links[node].out.advance(count);
+    }
+
+    /// Time passed: a link whose first leg went longer ago than the bound allows breaks.
+    pub fn on_tick(&mut self, now: u64)
+        ensures { self.new ≡ after_tick now self.old }
+    {
+        tick(
+            self.alloc,
+            &mut self.front,
+            &mut self.links,
+            self.limits.leg_timeout,
+            now,
+        );
+    }
+}
+
+/// A link breaks whose first leg went longer ago than the bound allows.
+fn tick_link(alloc: Global, front: &mut Front, link: &mut Link, bound: u64, now: u64)
+    ensures front { front.new ≡ after_all (given_up_at bound now link.old) front.old }
+    ensures link { link.new ≡ ticked bound now link.old }
+{
+    if link.is_late(bound, now) {
+        link.break_off(alloc, front);
+    }
+}
+
+/// Each link whose first leg went longer ago than the bound allows breaks.
+fn tick(alloc: Global, front: &mut Front, links: &mut [Link], bound: u64, now: u64)
+    ensures front { front.new ≡ after_all (ticks bound now links.old) front.old }
+    ensures links { links.new ≡ map (ticked bound now) links.old }
+{
+    for number in 0..links.len() {
+        tick_link(alloc, front, &mut links[number], bound, now);
+    }
+}

@@ -1,0 +1,127 @@
+//! How the legs of a request go over their links: all of those whose link is up, or none.
+ghost use Rattle.std.specs.Prelude.{◌≡◌, ◌&&◌, ◌++◌, [], length, true, IfOk, OnOk, OnErr};
+ghost use Rattle.mr_loop.specs.Links.{all_sent, all_up, sent_over, is_up_at};
+ghost use Rattle.mr_loop.specs.steps.Sending.{undone, undone_one};
+
+use crate::asker::Asker;
+use crate::link::Link;
+use crate::numbering::link_of;
+use crate::sent_legs::SentLeg;
+use mr_pools::Routing;
+use mr_proxy::Leg;
+use mr_text::FixedBuffer;
+use std::alloc::{AllocError, Global};
+
+/// By what a leg is taken back: over which link it went, and how many bytes were to be written there before.
+#[derive(Clone, Copy, Debug, Drop)]
+pub struct Mark {
+    /// The number of the link.
+    pub number: usize,
+    /// How many bytes were to be written.
+    pub count: usize,
+}
+
+/// What a loop works with, and what holds nothing between its calls.
+#[derive(Drop)]
+pub(crate) struct Scratch {
+    /// What texts are gathered in.
+    pub(crate) buffer: Box<FixedBuffer>,
+    /// What went over which link.
+    pub(crate) marks: Vec<Mark>,
+}
+
+impl Scratch {
+    /// The buffer, and no marks.
+    pub(crate) fn new(alloc: Global) -> Result<Scratch, AllocError> {
+        Ok(Scratch {
+            buffer: Box::new(alloc, FixedBuffer::new())?,
+            marks: Vec::new(alloc),
+        })
+    }
+}
+
+/// Whether there is a connection to the node of a number.
+pub(crate) fn is_up(links: &[Link], number: usize) -> bool
+    ensures { result ≡ is_up_at links.now number }
+{
+    number < links.len() && links[number].is_up
+}
+
+/// A leg goes over the link of a number. Whether that is up: else nothing changes. For want of memory nothing changes.
+fn send_leg(
+    links: &mut [Link],
+    number: usize,
+    scratch: &mut Scratch,
+    sent: SentLeg,
+) -> Result<bool, AllocError>
+    ensures went { IfOk result (λ went. went ≡ is_up_at links.old number) }
+    ensures sent { OnOk result (links.new ≡ sent_over number sent links.old) }
+    ensures marked { OnOk result (undone scratch.new.marks.items links.new ≡ undone scratch.old.marks.items links.old) }
+    ensures unchanged { OnErr result ((links.new ≡ links.old) × (scratch.new.marks.items ≡ scratch.old.marks.items)) }
+{
+    if !is_up(links, number) {
+        return Ok(false);
+    }
+    scratch.marks.reserve(1)?;
+    let count = links[number].out.len();
+    links[number].send(&mut scratch.buffer, sent)?;
+    scratch.marks.push_reserved(Mark { number, count });
+    Ok(true)
+}
+
+/// The leg that a mark tells of is taken back.
+fn take_back(links: &mut [Link], mark: Mark)
+    ensures { links.new ≡ undone_one mark links.old }
+{
+    if mark.number < links.len() {
+        links[mark.number].take_back(mark.count);
+    }
+}
+
+/// All legs that the marks tell of are taken back, the last one first.
+fn take_all_back(links: &mut [Link], scratch: &mut Scratch)
+    ensures { links.new ≡ undone scratch.old.marks.items links.old }
+{
+    while let Some(mark) = scratch.marks.pop() {
+        take_back(links, mark);
+    }
+}
+
+/// Whether both hold.
+fn both(one: bool, other: bool) -> bool
+    ensures { result ≡ one && other }
+{
+    one && other
+}
+
+/// Each leg goes over its link, if that is up. Whether all are. For want of memory none goes.
+pub(crate) fn send_all(
+    links: &mut [Link],
+    scratch: &mut Scratch,
+    routing: &Routing,
+    asker: Asker,
+    legs: Vec<Leg>,
+) -> Result<bool, AllocError>
+    ensures up { IfOk result (λ all. all ≡ all_up routing.now legs.items links.old) }
+    ensures sent { OnOk result (links.new ≡ all_sent asker routing.now legs.items links.old) }
+    ensures unchanged { OnErr result (links.new ≡ links.old) }
+{
+    scratch.marks.clear();
+    let mut all = true;
+    for leg in legs {
+        let number = link_of(routing, leg.sheet());
+        let sent = SentLeg {
+            client: asker.client,
+            sent_at: asker.now,
+            leg,
+        };
+        match send_leg(links, number, scratch, sent) {
+            Ok(went) => all = both(all, went),
+            Err(error) => {
+                take_all_back(links, scratch);
+                return Err(error);
+            }
+        }
+    }
+    Ok(all)
+}

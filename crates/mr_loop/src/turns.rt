@@ -1,0 +1,147 @@
+//! The requests of one client, in the order in which they are answered.
+ghost use Rattle.std.specs.Prelude.{◌≡◌, ◌-◌, ◌<◌, [], ◌∷◌, ◌++◌, length, drop, position, is_some, slice_get, slice_set, OnOk, OnErr};
+ghost use Rattle.std.specs.Option.{option_copied};
+
+use mr_history::{OpId, is_same_op};
+use mr_proxy::Answer;
+use mr_text::Reply;
+use std::alloc::{AllocError, Global};
+use std::collections::VecDeque;
+use std::marker::Model;
+
+/// One request of a client.
+#[derive(Debug, Drop)]
+pub enum Turn {
+    /// It is under way, under this name.
+    Waits(OpId),
+    /// It is answered.
+    Answered(Answer),
+    /// It wasn't begun, and the client is told why.
+    Says(Reply),
+}
+
+impl Turn {
+    ghost use Rattle.mr_loop.specs.Turns.{is_turn_of, text_of_turn};
+
+    /// Whether it is that of the request of this name, which is under way.
+    fn is_of(&self, op: OpId) -> bool
+        ensures { result ≡ is_turn_of op self.now }
+    {
+        match self {
+            Turn::Waits(own) => is_same_op(*own, op),
+            Turn::Answered(_) => false,
+            Turn::Says(_) => false,
+        }
+    }
+
+    /// Whether what the client is told of it is there.
+    pub fn is_ready(&self) -> bool
+        ensures { result ≡ is_some (text_of_turn self.now) }
+    {
+        match self {
+            Turn::Waits(_) => false,
+            Turn::Answered(_) => true,
+            Turn::Says(_) => true,
+        }
+    }
+}
+
+/// The requests of a client of which it wasn't told yet, in the client's order.
+#[derive(Drop)]
+pub struct Turns {
+    queue: VecDeque<Turn>,
+}
+
+impl Model for Turns {
+    ghost use Rattle.std.specs.Prelude.{List};
+    ghost use Rattle.mr_loop.specs.declared.turns.Turn.{Turn};
+
+    ghost Value = { List Turn };
+
+    ghost view = { λ t. t.queue.items };
+}
+
+impl Turns {
+    ghost use Rattle.mr_loop.specs.Turns.{noted, is_turn_of};
+    ghost use Rattle.mr_loop.specs.steps.Denying.{denied};
+
+    /// No request.
+    pub fn new(alloc: Global) -> Turns
+        ensures { result ≡ [] }
+    {
+        Turns {
+            queue: VecDeque::new(alloc),
+        }
+    }
+
+    /// How many requests wait.
+    pub fn len(&self) -> usize
+        ensures { result ≡ length self.now }
+    {
+        self.queue.len()
+    }
+
+    /// One more request. For want of memory nothing changes.
+    pub(crate) fn push(&mut self, turn: Turn) -> Result<(), AllocError>
+        ensures pushed { OnOk result (self.new ≡ self.old ++ turn ∷ []) }
+        ensures unchanged { OnErr result (self.new ≡ self.old) }
+    {
+        self.queue.push_back(turn)?;
+        Ok(())
+    }
+
+    /// The request that was pushed last isn't begun: its turn says this, or leaves where there is nothing to say.
+    pub(crate) fn deny(&mut self, denial: Option<Reply>)
+        ensures { self.new ≡ denied denial self.old }
+    {
+        match denial {
+            None => {
+                let _ = self.queue.pop_back();
+            }
+            Some(reply) => {
+                let count = self.queue.len();
+                if count > 0 {
+                    self.queue[count - 1] = Turn::Says(reply);
+                }
+            }
+        }
+    }
+
+    /// Where the turn of the request of this name stands.
+    fn find(&self, op: OpId) -> Option<usize>
+        ensures { result ≡ position (is_turn_of op) self.now }
+    {
+        self.queue.iter().position(|turn| turn.is_of(op))
+    }
+
+    /// Another turn stands at a place.
+    fn set(&mut self, at: usize, turn: Turn)
+        requires { at < length self.old }
+        ensures { self.new ≡ slice_set self.old at turn }
+    {
+        self.queue[at] = turn;
+    }
+
+    /// Notes an answer at the turn of its request.
+    pub(crate) fn note(&mut self, answer: Answer)
+        ensures { self.new ≡ noted answer self.old }
+    {
+        if let Some(at) = self.find(answer.op()) {
+            self.set(at, Turn::Answered(answer));
+        }
+    }
+
+    /// Lends the first request.
+    pub fn front(&self) -> Option<&Turn>
+        ensures { option_copied result ≡ slice_get self.now 0 }
+    {
+        self.queue.front()
+    }
+
+    /// The first request leaves.
+    pub(crate) fn pop(&mut self)
+        ensures { self.new ≡ drop 1 self.old }
+    {
+        let _ = self.queue.pop_front();
+    }
+}
