@@ -1,6 +1,5 @@
 //! What breaks a link, which carries nothing more then.
 use super::{AMPLE, BY_BYTES, Came, DELETE, GET, Row, SET, Told, are_rows};
-use crate::tests::is_at;
 use crate::tests::threaded::devices::Given;
 use mr_desks::WorkerError;
 
@@ -236,24 +235,5 @@ fn each_read_of_a_reply_fails(rt: HostRuntime) {
             ..GET
         };
         are_rows(&rt, rt.alloc(), &[row]);
-    }
-}
-
-/// Each error of a link or a session, with its number; 3 is that of a desk's full book.
-static NUMBERS: [(WorkerError, u8); 8] = [
-    (WorkerError::LinkBroken, 1),
-    (WorkerError::Mismatch, 2),
-    (WorkerError::BookDiffers, 4),
-    (WorkerError::ReadFault, 5),
-    (WorkerError::WriteFault, 6),
-    (WorkerError::TurnsSpent, 7),
-    (WorkerError::OutOfMemory, 8),
-    (WorkerError::NoThread, 9),
-];
-
-#[test]
-fn worker_errors_have_numbers(rt: HostRuntime) {
-    for (row, (error, number)) in NUMBERS.iter().enumerate() {
-        is_at(&rt, row, "number", &WorkerError::number(*error), number);
     }
 }
