@@ -4,6 +4,7 @@ use Rattle.mr_lines.specs.declared.blocks.BlockEnd.{BlockEnd}
 use Rattle.mr_lines.specs.declared.blocks.BlockEnd.TheVariants.{Awaited, Found, Wrong}
 
 -- what stands behind the block of this length at the front of the bytes: both bytes of a line end, as far as they are there
+-- (from: protocol.txt, "Storage commands")
 unfoldable pub block_end : ℕ → List ℕ → BlockEnd
 block_end block_length bytes =
     if nat_le (length bytes) block_length then Awaited

@@ -7,5 +7,6 @@ byte_place wanted [] = None
 byte_place wanted (byte ∷ bytes) = if byte == wanted then Some 0 else option_map (λ place. place + 1) (byte_place wanted bytes)
 
 -- the bytes without the one carriage return at their end, if there is one
+-- (from: protocol.txt, "Commands"; the bare line feed own)
 abbrev pub without_carriage_return : List ℕ → List ℕ
 without_carriage_return bytes = if slice_index bytes (length bytes - 1) == 13 then take (length bytes - 1) bytes else bytes

@@ -7,6 +7,7 @@ use Rattle.std.specs.Char.{IsAsciiDigit, is_ascii_digit}
 abbrev pub number_of_digits : List ℕ → ℕ
 number_of_digits digits = fold (λ number digit. 10 * number + (digit - 48)) 0 digits
 
+-- one byte or more, each a decimal digit
 pub record IsDigits (word : List ℕ) : Type 0 where
   pub not_empty : 1 ≤ length word
   pub digits : All IsAsciiDigit word

@@ -11,11 +11,12 @@ abbrev pub pieces_of : List ℕ → List (List ℕ)
 pieces_of [] = [] ∷ []
 pieces_of (byte ∷ bytes) = if byte == 32 then [] ∷ pieces_of bytes else begun_with byte (pieces_of bytes)
 
+-- no byte is there
 abbrev pub is_empty : List ℕ → Bool
 is_empty [] = true
 is_empty (byte ∷ bytes) = false
 
--- the words: the pieces between the spaces that aren't empty
+-- the words: the pieces between the spaces that aren't empty (from: protocol.txt, "Commands"; several spaces own)
 abbrev pub words_of : List ℕ → List (List ℕ)
 words_of line = filter (λ piece. not (is_empty piece)) (pieces_of line)
 
