@@ -17,10 +17,12 @@ line_end = 13 ∷ 10 ∷ []
 abbrev pub spaced : List ℕ → List ℕ
 spaced word = 32 ∷ word
 
+-- the word `noreply` behind its space, where the request has it
 abbrev pub noreply_text : Bool → List ℕ
 noreply_text true = codes " noreply"
 noreply_text false = []
 
+-- the line before the block of a set, with its end
 abbrev pub set_line_text : List ℕ → ℕ → ℤ → ℕ → Bool → List ℕ
 set_line_text key flags exptime block_length noreply =
     codes "set" ++ spaced key ++ spaced (decimal flags) ++ spaced (signed_decimal exptime) ++ spaced (decimal block_length) ++ noreply_text noreply ++ line_end
@@ -32,12 +34,15 @@ canonical_request (Set key flags exptime block noreply) = set_line_text key flag
 canonical_request (Delete key noreply) = codes "delete" ++ spaced key ++ noreply_text noreply ++ line_end
 canonical_request Quit = codes "quit" ++ line_end
 
+-- the line before the block of an item, with its end
 abbrev pub value_line_text : List ℕ → ℕ → ℕ → List ℕ
 value_line_text key flags block_length = codes "VALUE" ++ spaced key ++ spaced (decimal flags) ++ spaced (decimal block_length) ++ line_end
 
+-- an item: its line, its block, and the end of line behind that
 abbrev pub item_text : Item → List ℕ
 item_text item = value_line_text item.key item.flags (length item.block) ++ item.block ++ line_end
 
+-- the items, one behind the other
 abbrev pub items_text : List Item → List ℕ
 items_text items = flat_map item_text items
 

@@ -4,6 +4,7 @@ use Rattle.std.specs.Str.{bytes_eq}
 use Rattle.mr_text.specs.declared.cause.Cause.{Cause}
 use Rattle.mr_text.specs.declared.cause.Cause.TheVariants.{LineTooLong, BadKey, BadNumber, WrongWords, DataTooLong, BadDataEnd, LegLost, Busy, OutOfMemory, ClockFault, BookFull, NumbersSpent, NodeRefused, Other}
 
+-- the text of each named cause
 abbrev pub text_of_cause : Cause → List ℕ
 text_of_cause LineTooLong = codes "line too long"
 text_of_cause BadKey = codes "bad key"

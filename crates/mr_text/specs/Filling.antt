@@ -20,6 +20,7 @@ pub record HasFailed (piece : List ℕ) (old new : SourceView) : Type 0 where
   pub keeps : Keeps old.left new.left
   pub failed : new.failures ≡ old.failures + 1
 
+-- what a filling has done, by its result: bytes were brought, or the read failed
 abbrev pub FillsSo : List ℕ → SourceView → Result (Unit {0}) ReadFault → SourceView → Type 0
 FillsSo piece old (Ok _) new = HasBrought piece old new
 FillsSo piece old (Err _) new = HasFailed piece old new

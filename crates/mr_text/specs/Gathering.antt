@@ -15,6 +15,7 @@ parts_of_request (Set key flags exptime block noreply) = 1
 parts_of_request (Delete key noreply) = 1
 parts_of_request Quit = 1
 
+-- of a reply: one for each of its items, and one for any other reply
 abbrev pub parts_of_reply : Reply → ℕ
 parts_of_reply (Items items) = length items
 parts_of_reply Stored = 1

@@ -5,10 +5,11 @@ use Rattle.mr_text.specs.Limits.{MAX_KEY, MAX_LINE, MAX_ITEMS}
 use Rattle.mr_text.specs.declared.error.TextError.{TextError}
 use Rattle.mr_text.specs.declared.error.TextError.TheVariants.{WrongWords, LineTooLong}
 
--- a byte of a key is neither a control character nor a space
+-- a byte of a key is neither a control character nor a space (from: protocol.txt, "Keys")
 abbrev pub IsKeyByte : ℕ → Type 0
 IsKeyByte byte = (32 < byte) × (byte ≢ 127)
 
+-- a key: 1 to 250 bytes, each of which may stand in one (from: protocol.txt, "Keys")
 pub record IsKey (bytes : List ℕ) : Type 0 where
   pub not_empty : 1 ≤ length bytes
   pub not_long : length bytes ≤ MAX_KEY
@@ -18,6 +19,7 @@ pub record IsKey (bytes : List ℕ) : Type 0 where
 abbrev pub key_byte_test : ℕ → Bool
 key_byte_test byte = nat_lt 32 byte && not (byte == 127)
 
+-- a test for keys
 unfoldable pub key_test : List ℕ → Bool
 key_test bytes = nat_le 1 (length bytes) && nat_le (length bytes) MAX_KEY && list_all key_byte_test bytes
 

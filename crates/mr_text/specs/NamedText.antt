@@ -10,5 +10,6 @@ named_texts =
     codes "bad data end" ∷ codes "leg lost" ∷ codes "busy" ∷ codes "out of memory" ∷ codes "clock fault" ∷
     codes "book full" ∷ codes "numbers spent" ∷ codes "node refused" ∷ []
 
+-- the text is the name of a cause
 abbrev pub IsNamedText : List ℕ → Type 0
 IsNamedText text = IsTrue (list_any (bytes_eq text) named_texts)

@@ -36,7 +36,7 @@ pub record IsItemLine (bytes key : List ℕ) (flags block_length : ℕ) : Type 0
   pub is_key : IsKey key
   pub numbers : ItemNumbers flags_word length_word flags block_length
 
--- the bytes are an item: its line, the block and the line end behind it
+-- the bytes are an item: its line, the block and the line end behind it (from: protocol.txt, "Retrieval command")
 pub record SpellsItem (bytes : List ℕ) (item : Item) : Type 0 where
   pub line : List ℕ
   pub is_line : IsItemLine line item.key item.flags (length item.block)
@@ -64,10 +64,12 @@ pub record IsErrorLine (bytes word text : List ℕ) : Type 0 where
 abbrev pub cause_of : List ℕ → Cause
 cause_of text = unwrap_or (cause_named text) (Other text)
 
+-- the bytes begin with the line of an error of this word, whose text tells the cause
 abbrev pub TellsCause : List ℕ → List ℕ → Cause → Type 0
 TellsCause bytes word cause = (text : List ℕ) × IsErrorLine bytes word text × (cause ≡ cause_of text)
 
 -- the bytes, all of them, are this reply
+-- (from: protocol.txt, "Retrieval command", "Storage commands", "Deletion", "Error strings")
 abbrev pub SpellsReply : List ℕ → Reply → Type 0
 SpellsReply bytes (Items items) =
     (rest : List ℕ) × BeginsWithItems bytes items rest × IsLineOfWords rest (codes "END" ∷ []) × (length items ≤ MAX_ITEMS)
@@ -121,6 +123,7 @@ pub record BeginsWithItemLine (count : ℕ) (bytes : List ℕ) (block_length : �
   pub is_line : IsItemLine line key flags block_length
   pub room : HasRoom count
 
+-- a VALUE line is there whose key is no key
 pub record HasBadItemKey (count : ℕ) (bytes : List ℕ) : Type 0 where
   pub key : List ℕ
   pub flags_word : List ℕ
@@ -129,6 +132,7 @@ pub record HasBadItemKey (count : ℕ) (bytes : List ℕ) : Type 0 where
   pub begins : BeginsWithItemWords count bytes key flags_word length_word after
   pub bad : ¬ IsKey key
 
+-- a VALUE line is there whose key is one, but whose two numbers are none that fit
 pub record HasBadItemNumber (count : ℕ) (bytes : List ℕ) : Type 0 where
   pub key : List ℕ
   pub flags_word : List ℕ
@@ -161,6 +165,7 @@ RefusesReply refusal bytes = (items : List Item) × (rest : List ℕ) × BeginsW
 abbrev pub is_no_last : Reply → Bool
 is_no_last reply = false
 
+-- a reader of replies skips no line
 abbrev pub SkipsNone : List ℕ → List ℕ → Type 0
 SkipsNone bytes after = ⊥
 

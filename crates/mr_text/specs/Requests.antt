@@ -46,7 +46,7 @@ pub record SpellsSet (bytes key : List ℕ) (flags : ℕ) (exptime : ℤ) (block
   pub is_block : IsBlock block
   pub follows : bytes ≡ line ++ (block ++ block_end)
 
--- the bytes, all of them, are this request
+-- the bytes, all of them, are this request (from: protocol.txt, "Retrieval command", "Storage commands", "Deletion")
 abbrev pub SpellsRequest : List ℕ → Request → Type 0
 SpellsRequest bytes (Get keys) = IsLineOfShape bytes (GetShape keys)
 SpellsRequest bytes (Set key flags exptime block noreply) = SpellsSet bytes key flags exptime block noreply

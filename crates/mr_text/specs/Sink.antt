@@ -3,6 +3,7 @@ use Rattle.std.specs.Prelude.{◌≡◌, ℕ, ◌+◌, List, ◌++◌, Bool, tru
 use Rattle.std.specs.Io.KnownBytes.{Appends}
 use Rattle.mr_text.specs.declared.error.WriteFault.{WriteFault}
 
+-- what a sink tells of itself
 pub record SinkView : Type 0 where
   -- the bytes of the calls that succeeded
   pub written : List ℕ

@@ -3,6 +3,7 @@ use Rattle.std.specs.Prelude.{◌≡◌, ℕ, ◌+◌, ◌≤◌, min, List, ◌
 use Rattle.std.specs.Io.KnownBytes.{ReadConsumes}
 use Rattle.mr_text.specs.declared.error.ReadFault.{ReadFault}
 
+-- what a source tells of itself
 pub record SourceView : Type 0 where
   -- the bytes given so far
   pub taken : List ℕ
@@ -30,6 +31,7 @@ abbrev pub HasGiven : List ℕ → SourceView → Result ℕ ReadFault → Sourc
 HasGiven buffer old (Ok count) new = (count ≤ length buffer) × (new.taken ≡ old.taken ++ take count buffer) × (new.failures ≡ old.failures)
 HasGiven buffer old (Err _) new = (new.taken ≡ old.taken) × (new.failures ≡ old.failures + 1)
 
+-- one read: what it gives, what it takes from what was left, and that it is counted with its room
 pub record IsOneRead (buffer : List ℕ) (old : SourceView) (result : Result ℕ ReadFault) (new : SourceView) : Type 0 where
   pub gives : HasGiven buffer old result new
   pub consumes : ReadConsumes old.left new.left result buffer
