@@ -6,9 +6,11 @@ use Rattle.mr_phases.specs.Schedule.{Hop, most_hops}
 use Rattle.mr_phases.specs.Filled.{IsFilled, no_hop}
 use Rattle.mr_phases.specs.declared.schedule.Schedule.TheInside.{Inside}
 
+-- the fields of a schedule of these hops: behind them come hops that don't count, up to four
 abbrev pub fields_of : List Hop → Inside
 fields_of hops = record { hops = hops ++ replicate (most_hops - length hops) no_hop; count = length hops }
 
+-- fields that are filled are those of the hops that count
 pub fields_back : (s : Inside) → IsFilled s.hops s.count → fields_of (take s.count s.hops) ≡ s
 fields_back s h =
     let counted : length (take s.count s.hops) ≡ s.count = length-take s.count s.hops ∙ h.within in

@@ -7,6 +7,7 @@ use Rattle.mr_phases.specs.declared.judged.Judged.TheVariants as judged
 use Rattle.mr_phases.specs.Schedule.{Hop, phase_of}
 use Rattle.mr_phases.specs.Reading.{Reading}
 
+-- the phase that the variant names
 abbrev pub name_of : Judged → PhaseName
 name_of (judged.OldOnly r) = OldOnly
 name_of (judged.BothReadOld r) = BothReadOld
@@ -20,9 +21,11 @@ held_reading (judged.BothReadOld r) = r
 held_reading (judged.BothReadNew r) = r
 held_reading (judged.NewOnly r) = r
 
+-- the reading that was judged
 abbrev pub reading_of : Judged → ℕ
 reading_of j = (held_reading j).reading
 
+-- the schedule by which it was judged
 abbrev pub hops_of : Judged → List Hop
 hops_of j = (held_reading j).hops
 

@@ -5,6 +5,7 @@ use Rattle.mr_phases.specs.declared.side.Side.TheVariants.{Old, New}
 use Rattle.mr_phases.specs.Schedule.{Hop, hop_of, phase_of}
 use Rattle.mr_phases.specs.Sides.{read_side_of, delete_sides_of}
 
+-- the pool of a side of a hop, counted from 0
 abbrev pub pool_number : ℕ → Side → ℕ
 pool_number hop Old = hop
 pool_number hop New = hop + 1

@@ -5,6 +5,7 @@ use Rattle.mr_phases.specs.declared.phase_name.PhaseName.TheVariants.{OldOnly, B
 use Rattle.mr_phases.specs.declared.hop.Hop as declared
 
 -- one migration: its start, the first second, and its interval, how long each of its two middle phases lasts
+-- (from: MigrateRoute)
 abbrev pub Hop : Type 0
 Hop = declared.Hop
 
@@ -12,10 +13,11 @@ Hop = declared.Hop
 abbrev pub most_hops : ℕ
 most_hops = 4
 
+-- a schedule of one migration
 abbrev pub one_hop : ℕ → ℕ → List Hop
 one_hop start interval = record { start = start; interval = interval } ∷ []
 
--- where a reading stands in a hop: each bound belongs to the later phase
+-- where a reading stands in a hop: each bound belongs to the later phase (from: MigrateRoute; bounds own)
 abbrev pub phase_in : Hop → ℕ → PhaseName
 phase_in h t =
     if nat_lt t h.start then OldOnly
@@ -23,7 +25,7 @@ phase_in h t =
     else if nat_lt t (h.start + 2 * h.interval) then BothReadNew
     else NewOnly
 
--- the range of readings of each phase, half open
+-- the range of readings of each phase, half open (from: MigrateRoute; bounds own)
 abbrev pub StandsIn : PhaseName → Hop → ℕ → Type 0
 StandsIn OldOnly h t = t < h.start
 StandsIn BothReadOld h t = (h.start ≤ t) × (t < h.start + h.interval)
@@ -47,9 +49,11 @@ abbrev pub standing_of : List Hop → ℕ → Standing
 standing_of [] t = record { hop = 0; phase = OldOnly }
 standing_of (h ∷ hs) t = standing_from 0 h hs t
 
+-- the number of the hop in force at a reading
 abbrev pub hop_of : List Hop → ℕ → ℕ
 hop_of hops t = (standing_of hops t).hop
 
+-- the phase of the hop in force at a reading
 abbrev pub phase_of : List Hop → ℕ → PhaseName
 phase_of hops t = (standing_of hops t).phase
 
@@ -58,6 +62,7 @@ abbrev pub start_in : Option Hop → ℕ
 start_in None = 0
 start_in (Some h) = h.start
 
+-- the interval of the hop that is there, or 0
 abbrev pub interval_in : Option Hop → ℕ
 interval_in None = 0
 interval_in (Some h) = h.interval
@@ -66,17 +71,21 @@ interval_in (Some h) = h.interval
 abbrev pub start_at : List Hop → ℕ → ℕ
 start_at hops number = start_in (slice_get hops number)
 
+-- the interval of the hop of this number
 abbrev pub interval_at : List Hop → ℕ → ℕ
 interval_at hops number = interval_in (slice_get hops number)
 
+-- the start of the first hop, or 0 without one
 abbrev pub first_start : List Hop → ℕ
 first_start [] = 0
 first_start (h ∷ hs) = h.start
 
+-- the interval of the first hop, or 0 without one
 abbrev pub first_interval : List Hop → ℕ
 first_interval [] = 0
 first_interval (h ∷ hs) = h.interval
 
+-- the least interval of this hop and those behind it
 abbrev pub least_from : Hop → List Hop → ℕ
 least_from h [] = h.interval
 least_from h (g ∷ gs) = min h.interval (least_from g gs)
@@ -86,6 +95,7 @@ abbrev pub least_interval : List Hop → ℕ
 least_interval [] = 0
 least_interval (h ∷ hs) = least_from h hs
 
+-- the end of the last of this hop and those behind it
 abbrev pub end_from : Hop → List Hop → ℕ
 end_from h [] = h.start + 2 * h.interval
 end_from h (g ∷ gs) = end_from g gs
@@ -95,6 +105,7 @@ abbrev pub chain_end : List Hop → ℕ
 chain_end [] = 0
 chain_end (h ∷ hs) = end_from h hs
 
+-- each hop behind this one starts no earlier than the one before it has ended
 abbrev pub IsChainFrom : Hop → List Hop → Type 0
 IsChainFrom h [] = Unit {0}
 IsChainFrom h (g ∷ gs) = (h.start + 2 * h.interval ≤ g.start) × IsChainFrom g gs
@@ -105,6 +116,7 @@ IsChain [] = Unit {0}
 IsChain (h ∷ hs) = IsChainFrom h hs
 
 -- what every schedule keeps: one to four hops, one after the other, each of a second or more, all ended within a u64
+-- (from: MigrateRoute; bounds and several in a row own)
 pub record IsSchedule (hops : List Hop) : Type 0 where
   pub begins : 0 < length hops
   pub few : length hops ≤ most_hops
