@@ -16,6 +16,7 @@ abbrev pub fnv_prime : ℕ
 fnv_prime = 16777619
 
 -- FNV-1a of 32 bits: each byte is taken in by exclusive-or, and then the hash is multiplied by the prime
+-- (from: the published definition of FNV-1a)
 abbrev pub fnv1a32_of : List ℕ → ℕ
 fnv1a32_of key = fold (λ hash byte. bit_xor hash byte * fnv_prime % 2 ^ 32) fnv_offset_basis key
 

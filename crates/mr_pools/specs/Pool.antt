@@ -12,6 +12,7 @@ AreDistinct names = AllPairs (λ name later. name ≢ later) names
 abbrev pub AreApart : List (List ℕ) → List (List ℕ) → Type 0
 AreApart old new = All (λ name. ¬ Contains new name) old
 
+-- the names of a pool's nodes: 1 to 1,024 of them, no two equal
 pub record IsPool (names : List (List ℕ)) : Type 0 where
   pub not_empty : 1 ≤ length names
   pub not_many : length names ≤ most_nodes

@@ -3,6 +3,7 @@ use Rattle.std.specs.Prelude.{ℕ}
 use Rattle.mr_pools.specs.declared.error.PoolError.{PoolError}
 use Rattle.mr_pools.specs.declared.error.PoolError.TheVariants.{EmptyPool, TooManyNodes, BadName, RepeatedName, SharedName, OutOfMemory, TooManyPools}
 
+-- the number of each refusal
 abbrev pub number_of_refusal : PoolError → ℕ
 number_of_refusal EmptyPool = 1
 number_of_refusal TooManyNodes = 2

@@ -7,6 +7,7 @@ use Rattle.mr_pools.specs.declared.hash.NamedHash.{NamedHash}
 use Rattle.mr_pools.specs.declared.error.PoolError.{PoolError}
 use Rattle.mr_pools.specs.declared.error.PoolError.TheVariants.{EmptyPool, TooManyNodes, BadName, RepeatedName, SharedName, OutOfMemory, TooManyPools}
 
+-- pools in the order of the hops between them, each as its nodes' names, and the hash that spreads keys
 pub record RoutingView : Type 0 where
   pub pools : List (List (List ℕ))
   pub hash : NamedHash
@@ -28,6 +29,7 @@ abbrev pub routing_onto : RoutingView → List (List ℕ) → RoutingView
 routing_onto routing pool = record { pools = routing.pools ++ pool ∷ []; hash = routing.hash }
 
 -- what holds of each routing: two to five pools, and no node that stands in two of them
+-- (from: MigrateRoute; several in a row, the hash, and their bounds own)
 pub record IsRouting (routing : RoutingView) : Type 0 where
   pub migrates : 2 ≤ length routing.pools
   pub few : length routing.pools ≤ most_pools
