@@ -1,6 +1,7 @@
 -- What a clock of listed readings still has to give.
 use Rattle.std.specs.Prelude.{◌≡◌, ℕ, ◌+◌, List, [], ◌∷◌, Option, Some, None}
 
+-- a clock of listed readings: each in order, none as a fault
 pub record ClockList : Type 0 where
   -- the readings still to come; the last stays for good
   pub left : List (Option ℕ)

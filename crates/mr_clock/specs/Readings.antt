@@ -10,6 +10,7 @@ abbrev pub spread_of : List ℕ → ℕ
 spread_of [] = 0
 spread_of (first ∷ rest) = fold max first rest - fold min first rest
 
+-- the readings of a fleet, one for each proxy
 pub record ReadingsView : Type 0 where
   -- the readings that stand, by the numbers of the proxies
   pub standing : List ℕ
@@ -18,6 +19,7 @@ pub record ReadingsView : Type 0 where
   -- a reading was lowered
   pub went_back : Bool
 
+-- a fleet's readings before its first tick
 abbrev pub readings_at_first : List ℕ → ReadingsView
 readings_at_first readings = record { standing = readings; spread = spread_of readings; went_back = false }
 
@@ -26,12 +28,15 @@ pub record Tick : Type 0 where
   pub proxy : ℕ
   pub reading : ℕ
 
+-- the readings once the proxy of a tick has its new one
 abbrev pub standing_after : List ℕ → Tick → List ℕ
 standing_after readings tick = slice_set readings tick.proxy tick.reading
 
+-- the tick gives its proxy a smaller reading than it has
 abbrev pub is_lower : List ℕ → Tick → Bool
 is_lower readings tick = nat_lt tick.reading (get_or readings tick.proxy 0)
 
+-- what a tick changes
 abbrev pub readings_after : ReadingsView → Tick → ReadingsView
 readings_after view tick = record {
   standing = standing_after view.standing tick;
