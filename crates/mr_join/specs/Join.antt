@@ -11,6 +11,7 @@ use Rattle.mr_join.specs.declared.leg_reply.LegReply.{LegReply}
 use Rattle.mr_join.specs.declared.leg_reply.LegReply.TheVariants.{Hit, Miss, Stored, Deleted, NotFound, Failed}
 
 -- 0 where the leg did what was asked, 1 where there was nothing to delete, 2 where it failed
+-- (from: MigrateRoute, "worst"; the order own)
 abbrev pub badness_of : LegReply → ℕ
 badness_of (Hit flags block) = 0
 badness_of Miss = 0
@@ -19,11 +20,11 @@ badness_of Deleted = 0
 badness_of NotFound = 1
 badness_of (Failed cause) = 2
 
--- the one of greater badness, the first on a tie
+-- the one of greater badness, the first on a tie (from: MigrateRoute; ties own)
 abbrev pub worse_of : LegReply → LegReply → LegReply
 worse_of a b = if nat_lt (badness_of a) (badness_of b) then b else a
 
--- in order of place, the first reply whose badness is greatest; none of no replies
+-- in order of place, the first reply whose badness is greatest; none of no replies (from: MigrateRoute; ties own)
 abbrev pub worst_of : List LegReply → Option LegReply
 worst_of [] = None
 worst_of (first ∷ rest) = Some (fold worse_of first rest)

@@ -9,6 +9,7 @@ pub record SideReplies : Type 0 where
   pub old : Option LegReply
   pub new : Option LegReply
 
+-- neither side has answered
 abbrev pub no_replies : SideReplies
 no_replies = record { old = None; new = None }
 
@@ -21,6 +22,7 @@ with_side_reply replies New reply = record { old = replies.old; new = Some reply
 abbrev pub in_order : SideReplies → List LegReply
 in_order replies = option_to_list replies.old ++ option_to_list replies.new
 
+-- the side across
 abbrev pub other_side : Side → Side
 other_side Old = New
 other_side New = Old
