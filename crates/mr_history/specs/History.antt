@@ -46,7 +46,7 @@ Fits history (Answered op reply) = WasIssued history op × (¬ WasAnswered histo
 pub record IsWellFormed (history : List Entry) : Type 0 where
   pub fits : (place : ℕ) (entry : Entry) → At history place entry → Fits (take place history) entry
 
--- the place acknowledges this delete of the key, which was issued at issue
+-- the place acknowledges this delete of the key, which was issued at issue (from: protocol.txt, "Deletion")
 pub record IsAcknowledged (history : List Entry) (delete : OpId) (key : List ℕ) (issue place : ℕ) : Type 0 where
   pub noreply : Bool
   pub reply : Reply
@@ -55,6 +55,7 @@ pub record IsAcknowledged (history : List Entry) (delete : OpId) (key : List ℕ
   pub acknowledges : Acknowledges reply
 
 -- the place answers this get, which was issued at issue, with this item as the reply's item of that index
+-- (from: protocol.txt, "Retrieval command")
 pub record IsHit (history : List Entry) (get : OpId) (item : Item) (issue place index : ℕ) : Type 0 where
   pub keys : List (List ℕ)
   pub items : List Item

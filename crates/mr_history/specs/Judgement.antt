@@ -66,6 +66,7 @@ pub record ShowsStale (history : List Entry) (get : OpId) (key : List ℕ) (dele
   pub last : IsLastStored history item answer stored
   pub convicted : IsFirstConvict history key stored issue delete
 
+-- what each verdict says of a history: all hits are fresh, or which is the first that isn't, and why
 abbrev pub Judges : List Entry → Verdict → Type 0
 Judges history Safe = IsSafe history
 Judges history (Invented get key) = ShowsInvented history get key.now
