@@ -16,6 +16,7 @@ pub record Datum : Type 0 where
 abbrev pub Contents : Type 0
 Contents = List ℕ → Option Datum
 
+-- under the key are these flags and data
 abbrev pub Holds : Contents → List ℕ → Datum → Type 0
 Holds contents key datum = contents key ≡ Some datum
 

@@ -9,9 +9,11 @@ use Rattle.mr_node.specs.declared.cached_item.CachedItem.{CachedItem}
 abbrev pub NamedItem : Type 0
 NamedItem = List ℕ × CachedItem
 
+-- the item has this key
 abbrev pub is_named : List ℕ → NamedItem → Bool
 is_named key named = bytes_eq named.0 key
 
+-- the first item under this key, with its key
 abbrev pub named_item_of : List ℕ → List NamedItem → Option NamedItem
 named_item_of key items = find (is_named key) items
 

@@ -21,6 +21,7 @@ reply-IsOfKind now (Get key) items = found-IsOfKind key (live_item now key items
 reply-IsOfKind now (Set key flags exptime block) items = tt
 reply-IsOfKind now (Delete key) items = deleted-IsOfKind key (is_some (live_item now key items))
 
+-- a cache's step gives a reply of its command's kind
 pub step-IsOfKind : (old : CacheView) (now : ℕ) (command : NodeCommand) (reply : LegReply) (new : CacheView)
     → RecencyStep old now command reply new → IsOfKind command reply
 step-IsOfKind old now command reply new step =

@@ -3,6 +3,7 @@ use Rattle.std.specs.Prelude.{ℕ}
 use Rattle.mr_node.specs.declared.error.NodeError.{NodeError}
 use Rattle.mr_node.specs.declared.error.NodeError.TheVariants.{ZeroCapacity, OutOfMemory, ReadFault, WriteFault, TurnsSpent}
 
+-- the number of each error
 abbrev pub number_of_refusal : NodeError → ℕ
 number_of_refusal ZeroCapacity = 1
 number_of_refusal OutOfMemory = 2

@@ -50,7 +50,7 @@ abbrev pub text_of_answer : Option Reply → List ℕ
 text_of_answer None = []
 text_of_answer (Some reply) = canonical_reply reply
 
--- what an exchange is answered, where it is
+-- what an exchange is answered, where it is (from: protocol.txt, "Error strings"; the rest own)
 abbrev pub answer_to : Exchange → Option Reply
 answer_to (Asked request outcome) = if is_silent request then None else Some outcome
 answer_to Unknown = Some Error

@@ -10,12 +10,14 @@ use Rattle.mr_node.specs.declared.error.NodeError.TheVariants.{ZeroCapacity, Out
 use Rattle.mr_node.specs.Expiry.{expiry_of, is_alive}
 use Rattle.mr_node.specs.Items.{NamedItem, named_item_of, item_of, without}
 
+-- what a cache holds, and the most that it may
 pub record CacheView : Type 0 where
   -- the most items that it keeps
   pub capacity : ℕ
   -- the item used last in front
   pub items : List NamedItem
 
+-- the item, if it is still alive
 abbrev pub unless_expired : ℕ → Option NamedItem → Option NamedItem
 unless_expired now None = None
 unless_expired now (Some named) = if is_alive now named.1.expires_at then Some named else None
@@ -40,16 +42,19 @@ items_after capacity now (Set key flags exptime block) items =
     after_set capacity now (key, record { flags = flags; block = block; expires_at = expiry_of now exptime }) items
 items_after capacity now (Delete key) items = without key items
 
+-- a get's reply: the item that was found, or that none was
 abbrev pub hit_or_miss : Option NamedItem → LegReply
 hit_or_miss None = Miss
 hit_or_miss (Some named) = Hit named.1.flags named.1.block
 
+-- the reply to each command (from: protocol.txt, "Retrieval command", "Storage commands", "Deletion")
 abbrev pub reply_to : ℕ → NodeCommand → List NamedItem → LegReply
 reply_to now (Get key) items = hit_or_miss (live_item now key items)
 reply_to now (Set key flags exptime block) items = Stored
 reply_to now (Delete key) items = if is_some (live_item now key items) then Deleted else NotFound
 
 -- the command is performed now
+-- (from: protocol.txt, "Storage commands", "Retrieval command", "Deletion"; order of use and what is dropped own)
 pub record RecencyStep (old : CacheView) (now : ℕ) (command : NodeCommand) (reply : LegReply) (new : CacheView) : Type 0 where
   pub answers : reply ≡ reply_to now command old.items
   pub leaves : new ≡ record old { items = items_after old.capacity now command old.items }

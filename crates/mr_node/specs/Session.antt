@@ -33,6 +33,7 @@ pub record Station (C P : Type 0) : Type 0 where
   pub node : P
   pub writer : SinkView
 
+-- a station of these three
 abbrev pub station : {C P : Type 0} → C → P → SinkView → Station C P
 station clock node writer = record { clock = clock; node = node; writer = writer }
 
@@ -143,9 +144,11 @@ pub record SpendsTurns (turns : ℕ) (old new : SourceView) : Type 0 where
   pub all : new.reads ≡ old.reads + turns
   pub brought : length old.taken + turns ≤ length new.taken
 
+-- one read failed
 abbrev pub OneReadFailed : SourceView → SourceView → Type 0
 OneReadFailed old new = new.failures ≡ old.failures + 1
 
+-- no read failed
 abbrev pub NoReadFailed : SourceView → SourceView → Type 0
 NoReadFailed old new = new.failures ≡ old.failures
 
@@ -153,6 +156,7 @@ NoReadFailed old new = new.failures ≡ old.failures
 abbrev pub LastWriteFailed : SinkView → SinkView → Type 0
 LastWriteFailed old new = (new.failures ≡ old.failures + 1) × (new.last_failed ≡ true)
 
+-- no write failed
 abbrev pub NoWriteFailed : SinkView → SinkView → Type 0
 NoWriteFailed old new = new.failures ≡ old.failures
 
