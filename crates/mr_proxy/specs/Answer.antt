@@ -8,6 +8,7 @@ use Rattle.mr_proxy.specs.declared.slot.Slot.{Slot}
 use Rattle.mr_proxy.specs.Slots.{reply_of_slot}
 use Rattle.mr_proxy.specs.Pending.{PendingView}
 
+-- an answer: the request's name and text, the reading that judged it, its legs, and whether it was given up
 pub record AnswerView : Type 0 where
   pub op : OpId
   pub request : Request

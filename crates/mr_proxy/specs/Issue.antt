@@ -15,10 +15,11 @@ abbrev pub used_reading : Option ℕ → ℕ → ℕ
 used_reading None t = t
 used_reading (Some last) t = max last t
 
+-- the name of the request that is issued next
 abbrev pub next_op : ProxyView → OpId
 next_op p = record { proxy = p.number; incarnation = p.incarnation; number = p.next }
 
--- the sheets of the next request
+-- the sheets of the next request (from: MigrateRoute for the sides; the rest own)
 abbrev pub sheets_of : ProxyView → ℕ → Request → List LegSheet
 sheets_of p t request = sheets_by p.routing p.schedule (next_op p) (used_reading p.last t) request
 

@@ -22,6 +22,7 @@ is_complete pending = not (list_any is_open pending.slots)
 abbrev pub outcomes_of : PendingView → List LegReply
 outcomes_of pending = map reply_of_slot pending.slots
 
+-- the request with this reply noted for this leg, where there is one and it awaits the reply
 abbrev pub with_reply_in : PendingView → ℕ → LegReply → Option Slot → Option PendingView
 with_reply_in pending place reply None = None
 with_reply_in pending place reply (Some slot) =

@@ -6,6 +6,7 @@ use Rattle.mr_phases.specs.Schedule.{Hop}
 use Rattle.mr_pools.specs.Routing.{RoutingView}
 use Rattle.mr_proxy.specs.Pending.{PendingView}
 
+-- a proxy: which it is, what is under way at it, and by which routing and schedule it sends
 pub record ProxyView : Type 0 where
   pub number : ℕ
   pub incarnation : ℕ

@@ -34,6 +34,7 @@ is_of_kind command reply = false
 abbrev pub is_awaiting : Slot → LegReply → Bool
 is_awaiting slot reply = is_open slot && is_of_kind slot.sheet.command reply
 
+-- the leg failed
 abbrev pub is_failed : LegReply → Bool
 is_failed (Failed cause) = true
 is_failed reply = false

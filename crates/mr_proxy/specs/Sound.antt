@@ -34,6 +34,7 @@ pub data ProxyStep (old : ProxyView) : ProxyView → Type 0 where
   gives_up : (op : OpId) → ProxyStep old (after_give_up old op)
   restarts : ProxyStep old (after_restart old)
 
+-- the sheet of a leg
 abbrev pub sheet_of : Slot → LegSheet
 sheet_of slot = slot.sheet
 

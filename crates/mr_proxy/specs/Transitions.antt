@@ -19,6 +19,7 @@ use Rattle.mr_proxy.specs.ProxyView.{ProxyView}
 abbrev pub place_of_op : List PendingView → OpId → ℕ
 place_of_op list op = position_or_len (λ pending. is_same_op pending.op op) list
 
+-- the request of an op, where it is under way
 abbrev pub pending_with : List PendingView → OpId → Option PendingView
 pending_with list op = slice_get list (place_of_op list op)
 
@@ -31,6 +32,7 @@ abbrev pub open_sheet_in : Option Slot → Option LegSheet
 open_sheet_in None = None
 open_sheet_in (Some slot) = if is_open slot then Some slot.sheet else None
 
+-- the sheet of the leg of an id, where that may answer yet
 abbrev pub open_sheet : ProxyView → LegId → Option LegSheet
 open_sheet p id = open_sheet_in (slot_with p.outstanding id)
 
@@ -53,6 +55,7 @@ settled p place (Some pending) =
 abbrev pub after_take : ProxyView → LegId → LegReply → ProxyView
 after_take p id reply = settled p (place_of_op p.outstanding id.op) (noted_by p id reply)
 
+-- what becomes of a reply, by the request in which it was noted: none, one that waits on, or one that is answered
 abbrev pub taken_by : LegReply → Option PendingView → Taken
 taken_by reply None = Stranger reply
 taken_by reply (Some pending) = if is_complete pending then Answered (answer_of pending false) else Waiting
@@ -61,6 +64,7 @@ taken_by reply (Some pending) = if is_complete pending then Answered (answer_of 
 abbrev pub taken_of : ProxyView → LegId → LegReply → Taken
 taken_of p id reply = taken_by reply (noted_by p id reply)
 
+-- the request at this place leaves, where there is one
 abbrev pub left_by : ProxyView → ℕ → Option PendingView → ProxyView
 left_by p place None = p
 left_by p place (Some pending) = record p { outstanding = remove p.outstanding place }
@@ -69,6 +73,7 @@ left_by p place (Some pending) = record p { outstanding = remove p.outstanding p
 abbrev pub after_give_up : ProxyView → OpId → ProxyView
 after_give_up p op = left_by p (place_of_op p.outstanding op) (pending_with p.outstanding op)
 
+-- the answer to a request that is given up, where there is one
 abbrev pub given_up_in : Option PendingView → Option AnswerView
 given_up_in None = None
 given_up_in (Some pending) = Some (answer_of pending true)
