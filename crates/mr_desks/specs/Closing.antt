@@ -54,6 +54,7 @@ ClosesSo opening shares sessions (Ok book) = StandsWith opening book.core book.s
 ClosesSo opening shares sessions (Err (BookDiffers book)) = ¬ StandsWith opening book.core book.steps.items shares sessions
 ClosesSo opening shares sessions (Err (OutOfMemory proxy)) = (proxy ≡ opening) × (have_different_ops sessions ≡ true)
 
+-- the number of each refusal to close: that of a worker's error of the same name
 abbrev pub number_of_close_error : {C : Type 0} → CloseError C → ℕ
 number_of_close_error (BookDiffers book) = 4
 number_of_close_error (OutOfMemory proxy) = 8

@@ -21,6 +21,7 @@ pub record ClockCall (K : Type 0) : Type 1 where
   pub before : K
   pub after : K
 
+-- a clock's call, of these four
 abbrev pub clock_call : {K : Type 0} → ClockRelation K → (K → ℕ) → K → K → ClockCall K
 clock_call reads failures before after = record { reads = reads; failures = failures; before = before; after = after }
 
@@ -34,6 +35,7 @@ pub record WithShare (P : Type 0) : Type 0 where
   pub proxy : P
   pub share : ℕ
 
+-- a proxy with this share
 abbrev pub with_share : {P : Type 0} → P → ℕ → WithShare P
 with_share proxy share = record { proxy = proxy; share = share }
 

@@ -20,6 +20,7 @@ pub record Recorded : Type 0 where
 abbrev pub Gave : Type 1
 Gave = LegSheet → LegReply → Type 0
 
+-- the reply, if there is one, may be given for the sheet
 abbrev pub Stands : Gave → LegSheet → Option LegReply → Type 0
 Stands gave sheet None = Unit {0}
 Stands gave sheet (Some reply) = ∥ gave sheet reply ∥₁
@@ -28,6 +29,7 @@ Stands gave sheet (Some reply) = ∥ gave sheet reply ∥₁
 abbrev pub SlotStands : Gave → Slot → Type 0
 SlotStands gave slot = Stands gave slot.sheet slot.reply
 
+-- each reply of a request under way is one that a carrier may give for its sheet
 abbrev pub PendingStands : Gave → PendingView → Type 0
 PendingStands gave pending = All (SlotStands gave) pending.slots
 

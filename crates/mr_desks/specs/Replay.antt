@@ -26,6 +26,7 @@ is_issue (Issue reading request) = true
 is_issue (Take back) = false
 is_issue (GiveUp op) = false
 
+-- the answer that a taken reply completes, if it completes one
 abbrev pub answered_in : Taken → Option AnswerView
 answered_in Waiting = None
 answered_in (Answered answer) = Some answer
@@ -37,6 +38,7 @@ answer_at p (Issue reading request) = None
 answer_at p (Take back) = answered_in (taken_of p back.sheet.id back.reply)
 answer_at p (GiveUp op) = given_up_of p op
 
+-- the answers behind one more, where there is one
 abbrev pub with_answer : Option AnswerView → List AnswerView → List AnswerView
 with_answer None answers = answers
 with_answer (Some answer) answers = answer ∷ answers

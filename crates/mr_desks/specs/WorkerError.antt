@@ -3,6 +3,7 @@ use Rattle.std.specs.Prelude.{ℕ}
 use Rattle.mr_desks.specs.declared.error.WorkerError.{WorkerError}
 use Rattle.mr_desks.specs.declared.error.WorkerError.TheVariants.{LinkBroken, Mismatch, BookDiffers, ReadFault, WriteFault, TurnsSpent, OutOfMemory, NoThread}
 
+-- the number of each error
 abbrev pub number_of_refusal : WorkerError → ℕ
 number_of_refusal LinkBroken = 1
 number_of_refusal Mismatch = 2
