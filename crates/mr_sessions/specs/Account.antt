@@ -12,6 +12,7 @@ pub record Account : Type 0 where
   pub answers : List AnswerView
   pub carriers : CarriersView
 
+-- an account of these three
 abbrev pub account : ℕ → List AnswerView → CarriersView → Account
 account share answers carriers = record { share = share; answers = answers; carriers = carriers }
 

@@ -42,6 +42,7 @@ unanswered_count (Err TurnsSpent) = 0
 unanswered_count (Err OutOfMemory) = 0
 unanswered_count (Err NoThread) = 0
 
+-- the request was given up
 abbrev pub is_given_up : AnswerView → Bool
 is_given_up answer = answer.given_up
 

@@ -22,6 +22,7 @@ pub record Wire : Type 0 where
   -- the bytes that came and that no reply has taken
   pub kept : List ℕ
 
+-- a wire of these three
 abbrev pub wire : SourceView → SinkView → List ℕ → Wire
 wire reader writer kept = record { reader = reader; writer = writer; kept = kept }
 

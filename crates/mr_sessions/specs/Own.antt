@@ -17,6 +17,7 @@ pub record IssuedView : Type 0 where
   pub request : Request
   pub legs : List LegSheet
 
+-- an issued request of these three
 abbrev pub issued_of : OpId → Request → List LegSheet → IssuedView
 issued_of op request legs = record { op = op; request = request; legs = legs }
 
