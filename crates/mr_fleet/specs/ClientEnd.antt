@@ -20,6 +20,7 @@ pub record ClientEndView : Type 0 where
   pub took : List AnswerView
   pub result : Result Ended WorkerError
 
+-- a client's end of these five
 abbrev pub client_end : SourceView → SinkView → ℕ → List AnswerView → Result Ended WorkerError → ClientEndView
 client_end reader writer issued took result = record { reader = reader; writer = writer; issued = issued; took = took; result = result }
 
