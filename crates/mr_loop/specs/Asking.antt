@@ -27,6 +27,7 @@ use Rattle.mr_loop.specs.Events.{FrontView, Event, after_all}
 use Rattle.mr_loop.specs.Inboxes.{FetchIs, holding}
 use Rattle.mr_loop.specs.Links.{all_sent, all_up, are_clear}
 
+-- the core refuses for want of room
 abbrev pub is_no_room : Option ProxyError → Bool
 is_no_room None = false
 is_no_room (Some NoRoom) = true
@@ -38,6 +39,7 @@ is_no_room (Some NoSuchOp) = false
 abbrev pub is_full : ProxyView → Bool
 is_full core = is_no_room (refusal_of core)
 
+-- a client is behind: it left too much unread, or as many of its requests wait as there is room for
 abbrev pub is_behind_in : Limits → ℕ → Option Client → Bool
 is_behind_in limits room None = false
 is_behind_in limits room (Some client) = nat_lt limits.most_unread (length client.out) || nat_le room (length client.turns)
@@ -53,6 +55,7 @@ pause_before limits place f =
     else if is_behind limits place f then Some NeedsReader
     else None
 
+-- the client is told this reply, where there is one
 abbrev pub tells : ℕ → Option Reply → List Event
 tells client None = []
 tells client (Some reply) = Event.Tells client reply ∷ []

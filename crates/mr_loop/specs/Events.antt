@@ -12,6 +12,7 @@ use Rattle.mr_loop.specs.declared.turns.Turn.{Turn}
 use Rattle.mr_loop.specs.declared.turns.Turn.TheVariants.{Waits, Says}
 use Rattle.mr_loop.specs.Turns.{noted, flushed}
 
+-- the core and its clients
 pub record FrontView : Type 0 where
   pub core : ProxyView
   -- by their places
@@ -27,6 +28,7 @@ pub data Event : Type 0 where
   Tells : (client : ℕ) (reply : Reply) → Event
   Flushes : (client : ℕ) → Event
 
+-- the client changes so at its place, if there is one
 abbrev pub changed_in : Option Client → ℕ → (Client → Client) → List Client → List Client
 changed_in None place change clients = clients
 changed_in (Some client) place change clients = slice_set clients place (change client)
@@ -54,10 +56,12 @@ abbrev pub answered : ℕ → Option AnswerView → List Client → List Client
 answered place None clients = clients
 answered place (Some answer) clients = changed place (with_answer answer) clients
 
+-- the client is among those touched, where there is an answer
 abbrev pub touched_by : ℕ → Option AnswerView → List ℕ → List ℕ
 touched_by place None touched = touched
 touched_by place (Some answer) touched = touched ++ place ∷ []
 
+-- what an event leaves
 abbrev pub after_event : Event → FrontView → FrontView
 after_event (Event.Does client step) f = record {
   core = after f.core step;
@@ -73,6 +77,7 @@ abbrev pub after_all : List Event → FrontView → FrontView
 after_all [] f = f
 after_all (event ∷ events) f = after_all events (after_event event f)
 
+-- the step that the core makes at an event, if it makes one
 abbrev pub step_of : Event → List Step
 step_of (Event.Does client step) = step ∷ []
 step_of (Event.Alone step) = step ∷ []

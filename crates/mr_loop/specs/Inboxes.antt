@@ -21,6 +21,7 @@ fresh_inbox = record { reader = fresh_reader; held = None; has_ended = false; is
 abbrev pub without_held : Inbox → Inbox
 without_held inbox = record inbox { held = None }
 
+-- this is held back
 abbrev pub holding : Input → Inbox → Inbox
 holding input inbox = record inbox { held = Some input }
 

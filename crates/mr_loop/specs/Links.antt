@@ -45,6 +45,7 @@ sent_by asker sheet = record { client = asker.client; sent_at = asker.now; leg =
 abbrev pub with_leg : SentLeg → Link → Link
 with_leg sent link = record link { legs = link.legs ++ sent ∷ []; out = link.out ++ text_for sent.leg.command }
 
+-- the link is there, and up
 abbrev pub is_up_in : Option Link → Bool
 is_up_in None = false
 is_up_in (Some link) = link.is_up
@@ -53,6 +54,7 @@ is_up_in (Some link) = link.is_up
 abbrev pub is_up_at : List Link → ℕ → Bool
 is_up_at links number = is_up_in (slice_get links number)
 
+-- a leg goes over a link that is there and up; else nothing changes
 abbrev pub sent_over_in : Option Link → ℕ → SentLeg → List Link → List Link
 sent_over_in None number sent links = links
 sent_over_in (Some link) number sent links = if link.is_up then slice_set links number (with_leg sent link) else links
@@ -72,6 +74,7 @@ abbrev pub all_up : RoutingView → List LegSheet → List Link → Bool
 all_up routing [] links = true
 all_up routing (sheet ∷ sheets) links = is_up_at links (link_of routing sheet) && all_up routing sheets links
 
+-- the link has fewer legs than the most that it may, or there is none
 abbrev pub has_place_in : ℕ → Option Link → Bool
 has_place_in most None = true
 has_place_in most (Some link) = nat_lt (length link.legs) most

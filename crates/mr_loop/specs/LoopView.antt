@@ -18,6 +18,7 @@ use Rattle.mr_loop.specs.Returning.{TakesBytes, Breaks}
 use Rattle.mr_loop.specs.Asking.{AsksOn}
 use Rattle.mr_loop.specs.Ticking.{ticked, ticks}
 
+-- the event loop of a proxy
 pub record LoopView : Type 0 where
   pub front : FrontView
   -- what the clients sent that wasn't begun yet, by their places
@@ -124,6 +125,7 @@ abbrev pub output_in : Option Client → List ℕ
 output_in None = []
 output_in (Some client) = client.out
 
+-- the list is empty
 abbrev pub is_nothing : {X : Type 0} → List X → Bool
 is_nothing [] = true
 is_nothing (x ∷ xs) = false
@@ -166,6 +168,7 @@ after_tick now l = record l {
 abbrev pub asker_of : LoopView → ℕ → ℕ → ℕ → Asker
 asker_of l client reading now = record { client = client; reading = reading; now = now; limits = l.limits }
 
+-- what is to be written to a link's node, if there is a link
 abbrev pub link_output_in : Option Link → List ℕ
 link_output_in None = []
 link_output_in (Some link) = link.out

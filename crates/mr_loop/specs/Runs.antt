@@ -21,11 +21,13 @@ pub data Crossing : Type 0 where
   Went : SentLeg → Crossing
   Came : List Reply → Crossing
 
+-- the legs that went
 abbrev pub sent_in : List Crossing → List SentLeg
 sent_in [] = []
 sent_in (Crossing.Went sent ∷ crossings) = sent ∷ sent_in crossings
 sent_in (Crossing.Came replies ∷ crossings) = sent_in crossings
 
+-- the replies that came
 abbrev pub replies_in : List Crossing → List Reply
 replies_in [] = []
 replies_in (Crossing.Went sent ∷ crossings) = replies_in crossings
@@ -53,6 +55,7 @@ pub data Due : Type 0 where
   Op : OpId → Due
   Line : Reply → Due
 
+-- what a client is to be told at a turn
 abbrev pub due_of_turn : Turn → Due
 due_of_turn (Waits op) = Due.Op op
 due_of_turn (Answered answer) = Due.Op answer.op
@@ -74,14 +77,17 @@ given_now (Event.Alone step) core = []
 given_now (Event.Tells client reply) core = []
 given_now (Event.Flushes client) core = []
 
+-- all that becomes due to the client of a place, in order
 abbrev pub due : ℕ → List Event → FrontView → List Due
 due place [] f = []
 due place (event ∷ events) f = due_now place event f.core ++ due place events (after_event event f)
 
+-- all answers that the core gives, in order
 abbrev pub given : List Event → FrontView → List AnswerView
 given [] f = []
 given (event ∷ events) f = given_now event f.core ++ given events (after_event event f)
 
+-- the element stands in the list
 pub record Has {X : Type 0} (list : List X) (element : X) : Type 0 where
   pub place : ℕ
   pub there : slice_get list place ≡ Some element
@@ -92,6 +98,7 @@ WasGiven answers (Waits op) = ⊥
 WasGiven answers (Answered answer) = Has answers answer
 WasGiven answers (Says reply) = Unit {0}
 
+-- the text of a turn, or no text while its request is under way
 abbrev pub told_text : Turn → List ℕ
 told_text turn = unwrap_or (text_of_turn turn) []
 

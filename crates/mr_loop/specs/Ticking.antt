@@ -7,6 +7,7 @@ use Rattle.mr_loop.specs.Events.{Event}
 use Rattle.mr_loop.specs.Links.{down_link}
 use Rattle.mr_loop.specs.Returning.{give_ups}
 
+-- the first of these legs went longer ago than the bound allows
 abbrev pub is_late_in : ℕ → ℕ → List SentLeg → Bool
 is_late_in bound now [] = false
 is_late_in bound now (sent ∷ later) = nat_lt bound (now - sent.sent_at)
@@ -15,9 +16,11 @@ is_late_in bound now (sent ∷ later) = nat_lt bound (now - sent.sent_at)
 abbrev pub is_late : ℕ → ℕ → Link → Bool
 is_late bound now link = is_late_in bound now link.legs
 
+-- a link at a tick: it goes down where it is late
 abbrev pub ticked : ℕ → ℕ → Link → Link
 ticked bound now link = if is_late bound now link then down_link else link
 
+-- the requests of a late link's legs are given up
 abbrev pub given_up_at : ℕ → ℕ → Link → List Event
 given_up_at bound now link = if is_late bound now link then give_ups link.legs else []
 

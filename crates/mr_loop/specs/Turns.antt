@@ -25,6 +25,7 @@ is_turn_of op (Waits own) = is_same_op own op
 is_turn_of op (Answered answer) = false
 is_turn_of op (Says reply) = false
 
+-- the answer stands at this turn, if there is one
 abbrev pub noted_in : List Turn → Option ℕ → AnswerView → List Turn
 noted_in turns None answer = turns
 noted_in turns (Some at) answer = slice_set turns at (Answered answer)
@@ -33,6 +34,7 @@ noted_in turns (Some at) answer = slice_set turns at (Answered answer)
 abbrev pub noted : AnswerView → List Turn → List Turn
 noted answer turns = noted_in turns (position (is_turn_of answer.op) turns) answer
 
+-- a turn's text before that of the later ones; none of them where this one has none
 abbrev pub text_before : Option (List ℕ) → List ℕ → List ℕ
 text_before None later = []
 text_before (Some text) later = text ++ later
@@ -42,6 +44,7 @@ abbrev pub front_text : List Turn → List ℕ
 front_text [] = []
 front_text (turn ∷ turns) = text_before (text_of_turn turn) (front_text turns)
 
+-- the later turns where this one has its text, else all from here on
 abbrev pub left_behind : Option (List ℕ) → List Turn → List Turn → List Turn
 left_behind None here later = here
 left_behind (Some text) here later = later
