@@ -37,6 +37,7 @@ request_sample name row =
     name ++ (codes "{" ++ (shown_pair (codes "command") (command_text row.command) ++ (codes "," ++
     (shown_pair (codes "phase") (phase_text row.phase) ++ (codes "} " ++ (shown_number (Whole row.count) ++ codes "\n"))))))
 
+-- the samples of requests, row by row
 abbrev pub request_samples : List ℕ → List RequestCount → List ℕ
 request_samples name [] = []
 request_samples name (row ∷ rows) = request_sample name row ++ request_samples name rows
@@ -47,6 +48,7 @@ requests_family rows =
     family_head (codes "migctl_proxy_requests_total") (codes "Requests that came to an answer, by command and by the phase of their reading.") Counter
     ++ request_samples (codes "migctl_proxy_requests_total") rows
 
+-- the samples of answers, row by row
 abbrev pub answer_samples : List ℕ → List AnswerCount → List ℕ
 answer_samples name [] = []
 answer_samples name (row ∷ rows) = labelled_sample name (codes "kind") (answer_text row.kind) (Whole row.count) ++ answer_samples name rows
@@ -65,6 +67,7 @@ leg_sample name row outcome count =
     (shown_pair (codes "node") row.node.now ++ (codes "," ++
     (shown_pair (codes "outcome") outcome ++ (codes "} " ++ (shown_number (Whole count) ++ codes "\n"))))))))
 
+-- the samples of legs, row by row: how many were carried, and how many were lost
 abbrev pub leg_samples : List ℕ → List LegCount → List ℕ
 leg_samples name [] = []
 leg_samples name (row ∷ rows) =

@@ -20,7 +20,7 @@ help_line name help = codes "# HELP " ++ (name ++ (codes " " ++ (help ++ codes "
 abbrev pub type_line : List ℕ → Kind → List ℕ
 type_line name kind = codes "# TYPE " ++ (name ++ (codes " " ++ (kind_text kind ++ codes "\n")))
 
--- what a family begins with
+-- what a family begins with (from: Prometheus's text exposition format 0.0.4)
 abbrev pub family_head : List ℕ → List ℕ → Kind → List ℕ
 family_head name help kind = help_line name help ++ type_line name kind
 
@@ -32,7 +32,7 @@ escaped_byte byte =
     if byte == 10 then codes "\\n" else
     byte ∷ []
 
--- the value of a label
+-- the value of a label (from: Prometheus's text exposition format 0.0.4)
 abbrev pub escaped : List ℕ → List ℕ
 escaped [] = []
 escaped (byte ∷ bytes) = escaped_byte byte ++ escaped bytes
@@ -50,7 +50,7 @@ abbrev pub more_labels : List Label → List ℕ
 more_labels [] = []
 more_labels (label ∷ labels) = codes "," ++ (shown_label label ++ more_labels labels)
 
--- the labels of a sample, in braces; nothing where it has none
+-- the labels of a sample, in braces; nothing where it has none (from: Prometheus's text exposition format 0.0.4)
 abbrev pub shown_labels : List Label → List ℕ
 shown_labels [] = []
 shown_labels (label ∷ labels) = codes "{" ++ (shown_label label ++ (more_labels labels ++ codes "}"))
@@ -59,7 +59,7 @@ shown_labels (label ∷ labels) = codes "{" ++ (shown_label label ++ (more_label
 abbrev pub six_digits : ℕ → List ℕ
 six_digits micros = drop 1 (decimal (1000000 + micros))
 
--- a number; of a time the seconds
+-- a number; of a time the seconds (from: Prometheus's text exposition format 0.0.4; six decimals own)
 abbrev pub shown_number : Number → List ℕ
 shown_number (Whole count) = decimal count
 shown_number (Micros micros) = decimal (micros / 1000000) ++ (codes "." ++ six_digits (micros % 1000000))
@@ -68,7 +68,7 @@ shown_number (Micros micros) = decimal (micros / 1000000) ++ (codes "." ++ six_d
 abbrev pub rest_of_sample : List Label → Number → List ℕ
 rest_of_sample labels number = shown_labels labels ++ (codes " " ++ (shown_number number ++ codes "\n"))
 
--- a sample: its name, its labels and its number, in a line
+-- a sample: its name, its labels and its number, in a line (from: Prometheus's text exposition format 0.0.4)
 abbrev pub shown_sample : List ℕ → List Label → Number → List ℕ
 shown_sample name labels number = name ++ rest_of_sample labels number
 

@@ -55,6 +55,7 @@ state_of BothReadNew BothReadNew = 1
 state_of NewOnly NewOnly = 1
 state_of in_force phase = 0
 
+-- the sample of a phase: whether it is the one in force
 abbrev pub phase_state : List ℕ → PhaseName → PhaseName → List ℕ
 phase_state name in_force phase = labelled_sample name (codes "phase") (phase_text phase) (Whole (state_of in_force phase))
 

@@ -10,6 +10,7 @@ abbrev pub with_first : ℕ → List ℕ × List ℕ → List ℕ × List ℕ
 with_first byte read = (byte ∷ read.0, read.1)
 
 -- What stands up to the closing quote, and the bytes behind it. A line end ends the line before the value has ended.
+-- (from: Prometheus's text exposition format 0.0.4)
 abbrev pub read_value : Bool → List ℕ → Option (List ℕ × List ℕ)
 read_value escaped [] = None
 read_value true (byte ∷ bytes) = option_and_then (λ meant. option_map (with_first meant) (read_value false bytes)) (behind_backslash byte)

@@ -15,6 +15,7 @@ abbrev pub bucket_sample : List ℕ → List ℕ → ℕ → List ℕ
 bucket_sample name bound count = labelled_sample (name ++ codes "_bucket") (codes "le") bound (Whole count)
 
 -- the sample of each bound, by rising bounds, where it took no longer than the bounds before so often
+-- (from: Prometheus's text exposition format 0.0.4)
 abbrev pub bucket_samples : List ℕ → ℕ → List Bucket → List ℕ
 bucket_samples name so_far [] = []
 bucket_samples name so_far (bucket ∷ buckets) =
@@ -26,6 +27,7 @@ counted so_far [] = so_far
 counted so_far (bucket ∷ buckets) = counted (with_count so_far bucket.count) buckets
 
 -- the histogram: how often it took no longer than each bound, how long it took in all, and how often it was
+-- (from: Prometheus's text exposition format 0.0.4)
 abbrev pub histogram : List ℕ → List ℕ → Times → List ℕ
 histogram name help times =
     family_head name help Histogram
