@@ -10,11 +10,11 @@ use Rattle.mr_http.specs.declared.error.FetchFault.TheVariants.{WriteFault, NoRe
 use Rattle.mr_http.specs.declared.pieces.Until.{Until}
 use Rattle.mr_http.specs.declared.pieces.Until.TheVariants.{EndOfInput}
 
--- the request for the metrics of this host
+-- the request for the metrics of this host (from: RFC 9112)
 abbrev pub metrics_request : List ℕ → List ℕ
 metrics_request host = codes "GET /metrics HTTP/1.1\r\nHost: " ++ (host ++ codes "\r\nConnection: close\r\n\r\n")
 
--- the request for a memcached's statistics
+-- the request for a memcached's statistics (from: protocol.txt, "Statistics")
 abbrev pub stats_request : List ℕ
 stats_request = codes "stats\r\n"
 

@@ -11,6 +11,7 @@ abbrev pub MAX_FIELDS : ℕ
 MAX_FIELDS = 64
 
 -- what a head asks for, by its method and its target: another path is found before another method
+-- (from: RFC 9112, as `httparse` reads it; the bound of 64 fields own)
 abbrev pub heard_of : List ℕ → List ℕ → Heard
 heard_of method target =
     if not (bytes_eq target (codes "/metrics")) then OtherPath else

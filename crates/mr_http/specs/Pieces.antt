@@ -9,10 +9,11 @@ use Rattle.mr_http.specs.declared.error.FetchFault.TheVariants.{ReadFault, TooLa
 use Rattle.mr_http.specs.declared.pieces.Until.{Until}
 use Rattle.mr_http.specs.declared.pieces.Until.TheVariants.{EndOfInput, EndOfStats}
 
--- how many bytes are read of a response at most, and of statistics
+-- how many bytes are read of a response at most
 abbrev pub MAX_RESPONSE : ℕ
 MAX_RESPONSE = 4194304
 
+-- how many bytes are read of statistics at most
 abbrev pub MAX_STATS : ℕ
 MAX_STATS = 65536
 

@@ -12,11 +12,13 @@ abbrev pub AreOneName : List ℕ → List ℕ → Type 0
 AreOneName name other = map to_ascii_lowercase name ≡ map to_ascii_lowercase other
 
 -- what a field, with its value, says of a body of so many bytes: that it has so many, and nothing of a coding that it is sent in
+-- (from: RFC 9112)
 pub record Agrees (bytes : ℕ) (field : List ℕ × List ℕ) : Type 0 where
   pub length_is : AreOneName field.0 (codes "Content-Length") → field.1 ≡ decimal bytes
   pub is_plain : ¬ AreOneName field.0 (codes "Transfer-Encoding")
 
 -- the response has this whole body: all that follows its head, of status 200, whose fields agree with it
+-- (from: RFC 9112)
 pub record IsBody (response body : List ℕ) : Type 0 where
   pub head : ResponseHead
   pub reads : ReadsResponse response head body

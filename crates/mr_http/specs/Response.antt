@@ -41,7 +41,7 @@ allow_field status = []
 abbrev pub end_of_head : List ℕ
 end_of_head = codes "Connection: close\r\n\r\n"
 
--- the head of a response whose body has so many bytes
+-- the head of a response whose body has so many bytes (from: RFC 9112)
 abbrev pub response_head : Status → ℕ → List ℕ
 response_head status bytes = status_line status ++ (type_field status ++ (length_field bytes ++ (allow_field status ++ end_of_head)))
 
@@ -49,5 +49,6 @@ response_head status bytes = status_line status ++ (type_field status ++ (length
 abbrev pub refusal_body : Status → List ℕ
 refusal_body status = reason status ++ codes "\n"
 
+-- a refusal: the head of its status, and that status as its body
 abbrev pub refusal_text : Status → List ℕ
 refusal_text status = response_head status (length (refusal_body status)) ++ refusal_body status
