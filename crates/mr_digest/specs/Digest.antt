@@ -28,6 +28,7 @@ abbrev pub digits_of_text : List ℕ → List ℕ
 digits_of_text text = encode_lower (sha256 text)
 
 -- the bytes are JSON, and this is the digest of the compact text of their value
+-- (from: SHA-256, as `sha2` computes it; of what text own)
 pub record IsDigest (bytes digest : List ℕ) : Type 0 where
   pub value : Data
   pub text : List ℕ
