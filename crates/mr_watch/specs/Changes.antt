@@ -19,6 +19,7 @@ abbrev pub state_text : Option ProxyTold → List ℕ
 state_text None = codes "unreached"
 state_text (Some told) = phase_text told.place.phase ++ (codes " of hop " ++ decimal told.place.hop)
 
+-- both are the same phase
 abbrev pub is_same_phase : PhaseName → PhaseName → Bool
 is_same_phase OldOnly OldOnly = true
 is_same_phase BothReadOld BothReadOld = true
@@ -41,6 +42,7 @@ is_unchanged proxy earlier = bytes_eq earlier.address.now proxy.address.now && i
 abbrev pub second_text : ℕ → List ℕ
 second_text at = decimal at ++ codes " "
 
+-- the line of a proxy's new place
 abbrev pub state_line : ℕ → ProxySeen → List ℕ
 state_line at proxy = second_text at ++ (cut 24 proxy.address.now ++ (codes " " ++ (state_text proxy.told ++ codes "\n")))
 
@@ -48,10 +50,12 @@ state_line at proxy = second_text at ++ (cut 24 proxy.address.now ++ (codes " " 
 abbrev pub proxy_change : ℕ → List ProxySeen → ProxySeen → List ℕ
 proxy_change at earlier proxy = if list_any (is_unchanged proxy) earlier then [] else state_line at proxy
 
+-- the lines of all proxies that have changed
 abbrev pub proxy_changes : ℕ → List ProxySeen → List ProxySeen → List ℕ
 proxy_changes at earlier [] = []
 proxy_changes at earlier (proxy ∷ proxies) = proxy_change at earlier proxy ++ proxy_changes at earlier proxies
 
+-- both findings are the same
 abbrev pub is_same_finding : Finding → Finding → Bool
 is_same_finding Unseen Unseen = true
 is_same_finding Holds Holds = true
@@ -62,18 +66,23 @@ is_same_finding one other = false
 abbrev pub premise_change : ℕ → Finding → Finding → List ℕ → List ℕ
 premise_change at before now line = if is_same_finding before now then [] else second_text at ++ line
 
+-- the line of one configuration, if its finding has changed
 abbrev pub same_change : Findings → View → List ℕ
 same_change before view = premise_change view.at before.same view.findings.same (same_line false view)
 
+-- the line of an empty new pool, if its finding has changed
 abbrev pub empty_change : Findings → View → List ℕ
 empty_change before view = premise_change view.at before.empty view.findings.empty (empty_line false view)
 
+-- the line of clocks that are near, if its finding has changed
 abbrev pub near_change : Findings → View → List ℕ
 near_change before view = premise_change view.at before.near view.findings.near (near_line false view)
 
+-- the line of clocks that don't go back, if its finding has changed
 abbrev pub forward_change : Findings → View → List ℕ
 forward_change before view = premise_change view.at before.forward view.findings.forward (forward_line false view)
 
+-- the lines of all premises that have changed
 unfoldable pub premise_changes : Findings → View → List ℕ
 premise_changes before view = same_change before view ++ (empty_change before view ++ (near_change before view ++ forward_change before view))
 

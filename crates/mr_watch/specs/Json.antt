@@ -20,6 +20,7 @@ use Rattle.mr_watch.specs.declared.spread.Spread.{Spread}
 use Rattle.mr_watch.specs.declared.told.ProxyTold.{ProxyTold}
 use Rattle.mr_watch.specs.declared.view.View.{View}
 
+-- a whole number
 abbrev pub number_json : ℕ → Data
 number_json n = number (unsigned n)
 
@@ -28,6 +29,7 @@ abbrev pub perhaps_json : Option ℕ → Data
 perhaps_json None = null
 perhaps_json (Some n) = number_json n
 
+-- the value of a plain part
 abbrev pub part_json : Part → Data
 part_json (part.Text text) = string text.now
 part_json (part.Bytes bytes) = string (printable bytes.now)
@@ -44,9 +46,11 @@ members_json (m ∷ ms) before = members_json ms (put m.0.now (part_json m.1) be
 abbrev pub with_text : List ℕ → List ℕ → Members → Members
 with_text name text before = put name (string text) before
 
+-- a name with a number, beside those before
 abbrev pub with_count : List ℕ → ℕ → Members → Members
 with_count name count before = put name (number_json count) before
 
+-- a name with a number or null, beside those before
 abbrev pub with_perhaps : List ℕ → Option ℕ → Members → Members
 with_perhaps name count before = put name (perhaps_json count) before
 
@@ -68,13 +72,16 @@ reached_json address rate told = object
     (with_count (codes "busy") told.traffic.busy
     (with_text (codes "address") address no_members))))))))))
 
+-- a proxy by what it told, if it did
 abbrev pub told_json : List ℕ → Option ℕ → Option ProxyTold → Data
 told_json address rate None = unreached_json address
 told_json address rate (Some told) = reached_json address rate told
 
+-- a proxy, beside the look before
 abbrev pub proxy_json : List ProxySeen → ProxySeen → Data
 proxy_json earlier proxy = told_json proxy.address.now (rate_of earlier proxy) proxy.told
 
+-- a node
 unfoldable pub node_json : NodeSeen → Data
 node_json node = object
     (with_count (codes "pool") node.pool
@@ -82,6 +89,7 @@ node_json node = object
     (with_perhaps (codes "items") node.items
     (with_perhaps (codes "hits") node.hits no_members))))
 
+-- what is found of each premise
 unfoldable pub premises_json : Findings → Data
 premises_json findings = object
     (with_text (codes "same") (finding_text findings.same)
@@ -89,6 +97,7 @@ premises_json findings = object
     (with_text (codes "forward") (finding_text findings.forward)
     (with_text (codes "empty") (finding_text findings.empty) no_members))))
 
+-- the phase that is next, and in how many seconds
 unfoldable pub next_at_json : Next → Data
 next_at_json next = object
     (with_count (codes "seconds") next.seconds
@@ -104,6 +113,7 @@ next_json (Some next) = next_at_json next
 abbrev pub capped : ℕ → ℕ
 capped milliseconds = min milliseconds (2 ^ 64 - 1)
 
+-- how far the clocks are apart at least and at most
 unfoldable pub apart_json : Spread → Data
 apart_json spread = object
     (with_count (codes "at_most") (capped spread.at_most)
@@ -114,9 +124,11 @@ abbrev pub spread_json : Option Spread → Data
 spread_json None = null
 spread_json (Some spread) = apart_json spread
 
+-- the proxies, in order
 abbrev pub proxies_json : List ProxySeen → List ProxySeen → Data
 proxies_json earlier proxies = array (items_of (map (proxy_json earlier) proxies))
 
+-- the nodes, in order
 abbrev pub nodes_json : List NodeSeen → Data
 nodes_json nodes = array (items_of (map node_json nodes))
 

@@ -20,6 +20,7 @@ findings_after before earlier look expected hops = record {
   forward = forward_after before.forward earlier look.proxies.now;
 }
 
+-- it is the last phase of a hop
 abbrev pub is_new_only : PhaseName → Bool
 is_new_only OldOnly = false
 is_new_only BothReadOld = false

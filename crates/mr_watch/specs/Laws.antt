@@ -21,6 +21,7 @@ TellsOnly expected proxy = (told : ProxyTold) → proxy.told ≡ Some told → t
 abbrev pub distance : ℕ → ℕ → ℕ
 distance one other = max (one - other) (other - one)
 
+-- how far the one that is furthest from it is apart from one clock
 abbrev pub greatest_distance_to : ℕ → List ℕ → ℕ
 greatest_distance_to one [] = 0
 greatest_distance_to one (other ∷ others) = max (distance one other) (greatest_distance_to one others)

@@ -18,15 +18,17 @@ lines_of (byte ∷ bytes) = if byte == 10 then [] ∷ lines_of bytes else begun_
 abbrev pub behind : List ℕ → List ℕ → Option (List ℕ)
 behind head line = if starts_with nat_eq line head then Some (drop (length head) line) else None
 
--- what stands behind a head in the first line that begins with it
+-- the first, or else the second
 abbrev pub or_else : Option (List ℕ) → Option (List ℕ) → Option (List ℕ)
 or_else None second = second
 or_else (Some first) second = Some first
 
+-- what stands behind a head in the first of these lines that begins with it
 abbrev pub first_behind : List ℕ → List (List ℕ) → Option (List ℕ)
 first_behind head [] = None
 first_behind head (line ∷ lines) = or_else (behind head line) (first_behind head lines)
 
+-- what stands behind a head in the first line of a text that begins with it
 abbrev pub value_of : List ℕ → List ℕ → Option (List ℕ)
 value_of head bytes = first_behind head (lines_of bytes)
 
@@ -43,6 +45,7 @@ abbrev pub perhaps_number : Option (List ℕ) → Option (Option ℕ)
 perhaps_number None = Some None
 perhaps_number (Some word) = option_map Some (whole_number word)
 
+-- the number behind a head in a text, or that there is no such line
 abbrev pub perhaps_number_of : List ℕ → List ℕ → Option (Option ℕ)
 perhaps_number_of head bytes = perhaps_number (value_of head bytes)
 
@@ -68,6 +71,7 @@ abbrev pub sum_after : ℕ → Option (List ℕ) → Option ℕ
 sum_after sum None = Some sum
 sum_after sum (Some word) = sum_with sum (number_behind_labels word)
 
+-- the sum after all these lines; none once there was none
 abbrev pub sum_from : List ℕ → Option ℕ → List (List ℕ) → Option ℕ
 sum_from head None lines = None
 sum_from head (Some sum) [] = Some sum

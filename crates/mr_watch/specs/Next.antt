@@ -36,6 +36,7 @@ cells = 10
 abbrev pub full_cells : Next → ℕ
 full_cells next = cells * (next.interval - next.seconds) / next.interval
 
+-- a bar of which so many cells are full
 abbrev pub bar_of : ℕ → List ℕ
 bar_of full = codes "[" ++ (take (min full cells) (codes "##########") ++ (take (min (cells - full) cells) (codes "----------") ++ codes "] "))
 
@@ -51,6 +52,7 @@ abbrev pub moment_text : Bool → ℕ → ℕ → PhaseName → List ℕ
 moment_text colours at hop phase =
     codes "second " ++ (decimal at ++ (codes ", hop " ++ (decimal hop ++ (codes ", " ++ (coloured colours Cyan (phase_text phase) ++ codes "\n")))))
 
+-- what the schedule says of a second: its hop and phase, and the bar to the next one
 unfoldable pub schedule_text : Bool → List Hop → ℕ → List ℕ
 schedule_text colours hops at =
     moment_text colours at (hop_of hops at) (phase_of hops at) ++ bar_text colours (next_of hops at)

@@ -17,6 +17,7 @@ most_lines = 16
 abbrev pub pool_cell : ℕ → List ℕ
 pool_cell pool = padding (4 - length (decimal pool)) ++ (decimal pool ++ codes " ")
 
+-- the line of a node
 abbrev pub node_line : NodeSeen → List ℕ
 node_line node =
     pool_cell node.pool ++ (left 24 node.name.now ++ (perhaps_cell node.items ++ (perhaps_cell node.hits ++ codes "\n")))
@@ -25,6 +26,7 @@ node_line node =
 abbrev pub line_in : ℕ → NodeSeen → List ℕ
 line_in pool node = if is_in pool node then node_line node else []
 
+-- the lines of a pool's nodes
 abbrev pub lines_in : ℕ → List NodeSeen → List ℕ
 lines_in pool [] = []
 lines_in pool (node ∷ nodes) = line_in pool node ++ lines_in pool nodes
@@ -33,6 +35,7 @@ lines_in pool (node ∷ nodes) = line_in pool node ++ lines_in pool nodes
 abbrev pub with_more : ℕ → ℕ → ℕ
 with_more count more = min (count + more) (2 ^ 64 - 1)
 
+-- the sums of no nodes
 abbrev pub no_nodes : PoolSeen
 no_nodes = record { nodes = 0; seen = 0; items = 0; hits = 0 }
 
@@ -45,9 +48,11 @@ with_node before node = record {
   hits = with_more before.hits (unwrap_or node.hits 0);
 }
 
+-- one node more, if it is in the pool
 abbrev pub pool_with : ℕ → PoolSeen → NodeSeen → PoolSeen
 pool_with pool before node = if is_in pool node then with_node before node else before
 
+-- all nodes more that are in the pool
 abbrev pub pool_from : ℕ → PoolSeen → List NodeSeen → PoolSeen
 pool_from pool before [] = before
 pool_from pool before (node ∷ nodes) = pool_from pool (pool_with pool before node) nodes
@@ -60,9 +65,11 @@ pool_of pool nodes = pool_from pool no_nodes nodes
 abbrev pub counted : ℕ → List ℕ → List ℕ
 counted count word = short count ++ (word ++ (if count == 1 then [] else codes "s"))
 
+-- how many nodes there are, and how many of them told what they hold
 abbrev pub reached_text : PoolSeen → List ℕ
 reached_text sums = short sums.nodes ++ (codes " nodes, " ++ (short sums.seen ++ codes " seen, "))
 
+-- how many items they hold, and how many hits they had
 abbrev pub held_text : PoolSeen → List ℕ
 held_text sums = counted sums.items (codes " item") ++ (codes ", " ++ (counted sums.hits (codes " hit") ++ codes "\n"))
 

@@ -22,6 +22,7 @@ abbrev pub is_other_digest : List ℕ → Option ProxyTold → Bool
 is_other_digest expected None = false
 is_other_digest expected (Some told) = not (bytes_eq told.digest.now expected)
 
+-- the proxy told another digest than this one
 abbrev pub tells_other : List ℕ → ProxySeen → Bool
 tells_other expected proxy = is_other_digest expected proxy.told
 
@@ -65,10 +66,12 @@ may_have_begun start proxy = has_told proxy && is_from start (reading_of proxy)
 abbrev pub are_before : ℕ → List ProxySeen → Bool
 are_before start proxies = list_any has_told proxies && not (list_any (may_have_begun start) proxies)
 
+-- items were seen
 abbrev pub some_items : Option ℕ → Bool
 some_items None = false
 some_items (Some items) = nat_lt 0 items
 
+-- it was seen that there are none
 abbrev pub no_items : Option ℕ → Bool
 no_items None = false
 no_items (Some items) = items == 0

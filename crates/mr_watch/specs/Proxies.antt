@@ -27,6 +27,7 @@ abbrev pub clock_cell : ℕ → Option ℕ → List ℕ
 clock_cell at None = perhaps_cell None
 clock_cell at (Some reading) = if nat_lt reading at then signed_cell (codes "-") (at - reading) else signed_cell (codes "+") (reading - at)
 
+-- what a proxy did, in the last columns of its line
 abbrev pub traffic_cells : Option ℕ → Traffic → List ℕ
 traffic_cells rate traffic =
     perhaps_cell rate ++ (cell traffic.hits ++ (cell traffic.lost ++ (cell traffic.busy ++ codes "\n")))
@@ -42,6 +43,7 @@ abbrev pub proxy_line : Bool → ℕ → ℕ → List ProxySeen → ProxySeen �
 proxy_line colours at moment earlier proxy =
     left 24 proxy.address.now ++ (codes " " ++ proxy_cells colours (second_then at moment proxy.answered) (rate_of earlier proxy) proxy.told)
 
+-- the lines of proxies, in order
 abbrev pub proxy_lines : Bool → ℕ → ℕ → List ProxySeen → List ProxySeen → List ℕ
 proxy_lines colours at moment earlier [] = []
 proxy_lines colours at moment earlier (proxy ∷ proxies) =

@@ -23,6 +23,7 @@ rate_between answered earlier_answered None earlier = None
 rate_between answered earlier_answered (Some requests) None = None
 rate_between answered earlier_answered (Some requests) (Some earlier) = Some (rate_at (requests - earlier) (answered - earlier_answered))
 
+-- requests in a second since an earlier answer, if there was one
 abbrev pub rate_since : ProxySeen → Option ProxySeen → Option ℕ
 rate_since proxy None = None
 rate_since proxy (Some earlier) = rate_between proxy.answered earlier.answered (requests_of proxy.told) (requests_of earlier.told)

@@ -15,6 +15,7 @@ printable word = map shown_byte word
 abbrev pub most_spaces : ℕ
 most_spaces = 32
 
+-- so many spaces
 abbrev pub spaces : List ℕ
 spaces = codes "                                "
 
@@ -30,7 +31,7 @@ cut columns word = printable (take columns word)
 abbrev pub left : ℕ → List ℕ → List ℕ
 left columns word = cut columns word ++ padding (columns - length word)
 
--- a number in at most six digits and a letter: thousands, millions and so on, the rest left out
+-- the digits of a number in short: six at most, the rest left out
 abbrev pub scaled : ℕ → ℕ
 scaled number =
     if nat_lt number (10 ^ 6) then number else
@@ -40,6 +41,7 @@ scaled number =
     if nat_lt number (10 ^ 18) then number / 10 ^ 12 else
     number / 10 ^ 15
 
+-- the letter behind them: thousands, millions and so on
 abbrev pub unit_of : ℕ → List ℕ
 unit_of number =
     if nat_lt number (10 ^ 6) then [] else
@@ -49,6 +51,7 @@ unit_of number =
     if nat_lt number (10 ^ 18) then codes "T" else
     codes "P"
 
+-- a number in at most six digits and a letter
 abbrev pub short : ℕ → List ℕ
 short number = decimal (scaled number) ++ unit_of number
 

@@ -15,6 +15,7 @@ ahead_at proxy reading = record {
   high = reading * 1000 + 999 + (2 ^ 64 - proxy.asked);
 }
 
+-- how far a proxy's clock is ahead, where it told what that says
 abbrev pub ahead_of : ProxySeen → Option Ahead
 ahead_of proxy = option_map (ahead_at proxy) (reading_of proxy)
 
@@ -23,18 +24,20 @@ abbrev pub all_ahead : List ProxySeen → List Ahead
 all_ahead [] = []
 all_ahead (proxy ∷ proxies) = option_to_list (ahead_of proxy) ++ all_ahead proxies
 
--- how far two clocks are apart at least, and at most
+-- how far two clocks are apart at least
 abbrev pub apart_at_least : Ahead → Ahead → ℕ
 apart_at_least one other = max (one.low - other.high) (other.low - one.high)
 
+-- how far two clocks are apart at most
 abbrev pub apart_at_most : Ahead → Ahead → ℕ
 apart_at_most one other = max (one.high - other.low) (other.high - one.low)
 
--- the greatest from one clock to each of the others, and then over all pairs
+-- the greatest from one clock to each of the others
 abbrev pub greatest_to : (Ahead → Ahead → ℕ) → Ahead → List Ahead → ℕ
 greatest_to apart one [] = 0
 greatest_to apart one (other ∷ others) = max (apart one other) (greatest_to apart one others)
 
+-- the greatest over all pairs of clocks
 abbrev pub greatest_of_pairs : (Ahead → Ahead → ℕ) → List Ahead → ℕ
 greatest_of_pairs apart [] = 0
 greatest_of_pairs apart (one ∷ others) = max (greatest_to apart one others) (greatest_of_pairs apart others)

@@ -35,9 +35,11 @@ phase_in bytes =
     if tells_phase bytes NewOnly then Some NewOnly else
     None
 
+-- the hop in force
 abbrev pub hop_in : List ℕ → Option ℕ
 hop_in bytes = number_of (codes "migctl_proxy_hop ") bytes
 
+-- in how many seconds the next phase begins, or that none does
 abbrev pub next_phase_in : List ℕ → Option (Option ℕ)
 next_phase_in bytes = perhaps_number_of (codes "migctl_proxy_next_phase_seconds ") bytes
 
@@ -48,18 +50,23 @@ place_of (Some hop) None next_phase = None
 place_of (Some hop) (Some phase) None = None
 place_of (Some hop) (Some phase) (Some next_phase) = Some (record { hop = hop; phase = phase; next_phase = next_phase })
 
+-- where a proxy says that it stands in the schedule
 abbrev pub place_in : List ℕ → Option Place
 place_in bytes = place_of (hop_in bytes) (phase_in bytes) (next_phase_in bytes)
 
+-- how many requests it had, over all commands and phases
 abbrev pub requests_in : List ℕ → Option ℕ
 requests_in bytes = sum_of (codes "migctl_proxy_requests_total{") bytes
 
+-- how many keys of gets it found
 abbrev pub hits_in : List ℕ → Option ℕ
 hits_in bytes = number_of (codes "migctl_proxy_answers_total{kind=\"hit\"} ") bytes
 
+-- how many answers it gave of a lost leg
 abbrev pub lost_in : List ℕ → Option ℕ
 lost_in bytes = number_of (codes "migctl_proxy_answers_total{kind=\"leg lost\"} ") bytes
 
+-- how many answers it gave of no room
 abbrev pub busy_in : List ℕ → Option ℕ
 busy_in bytes = number_of (codes "migctl_proxy_answers_total{kind=\"busy\"} ") bytes
 
@@ -72,15 +79,19 @@ traffic_of (Some requests) (Some hits) (Some lost) None = None
 traffic_of (Some requests) (Some hits) (Some lost) (Some busy) =
     Some (record { requests = requests; hits = hits; lost = lost; busy = busy })
 
+-- what it says that it did
 abbrev pub traffic_in : List ℕ → Option Traffic
 traffic_in bytes = traffic_of (requests_in bytes) (hits_in bytes) (lost_in bytes) (busy_in bytes)
 
+-- the digest of its configuration
 abbrev pub digest_in : List ℕ → Option (List ℕ)
 digest_in bytes = label_of (codes "migctl_proxy_config_info{sha256=\"") bytes
 
+-- what its clock says, or that it doesn't tell
 abbrev pub clock_in : List ℕ → Option (Option ℕ)
 clock_in bytes = perhaps_number_of (codes "migctl_clock_seconds ") bytes
 
+-- how often its clock went back
 abbrev pub steps_back_in : List ℕ → Option ℕ
 steps_back_in bytes = number_of (codes "migctl_clock_steps_back_total ") bytes
 
@@ -92,9 +103,11 @@ pub record ProxySaid : Type 0 where
   pub place : Place
   pub traffic : Traffic
 
+-- what a proxy told, as contracts see it
 abbrev pub proxy_said : ProxyTold → ProxySaid
 proxy_said told = record { digest = told.digest.now; clock = told.clock; steps_back = told.steps_back; place = told.place; traffic = told.traffic }
 
+-- what a proxy said, where it told each of these
 abbrev pub proxy_of : List ℕ → Option (Option ℕ) → Option ℕ → Option Place → Option Traffic → Option ProxySaid
 proxy_of digest None steps_back place traffic = None
 proxy_of digest (Some clock) None place traffic = None
@@ -107,12 +120,15 @@ proxy_of digest (Some clock) (Some steps_back) (Some place) (Some traffic) =
 abbrev pub proxy_in : List ℕ → List ℕ → Option ProxySaid
 proxy_in digest bytes = proxy_of digest (clock_in bytes) (steps_back_in bytes) (place_in bytes) (traffic_in bytes)
 
+-- the address of a node
 abbrev pub address_in : List ℕ → Option (List ℕ)
 address_in bytes = label_of (codes "migctl_node_info{address=\"") bytes
 
+-- how many items a node holds
 abbrev pub node_items_in : List ℕ → Option ℕ
 node_items_in bytes = number_of (codes "migctl_node_items ") bytes
 
+-- how many hits it had
 abbrev pub node_hits_in : List ℕ → Option ℕ
 node_hits_in bytes = number_of (codes "migctl_node_gets_total{result=\"hit\"} ") bytes
 
@@ -122,9 +138,11 @@ pub record NodeSaid : Type 0 where
   pub items : ℕ
   pub hits : ℕ
 
+-- what a node told, as contracts see it
 abbrev pub node_said : NodeTold → NodeSaid
 node_said told = record { address = told.address.now; items = told.items; hits = told.hits }
 
+-- what a node said, where it told each of these
 abbrev pub node_of : List ℕ → Option ℕ → Option ℕ → Option NodeSaid
 node_of address None hits = None
 node_of address (Some items) None = None
@@ -139,6 +157,7 @@ pub data Said : Type 0 where
   ByProxy : ProxySaid → Said
   ByNode : NodeSaid → Said
 
+-- what a service told, as contracts see it
 abbrev pub said : Told → Said
 said (Proxy told) = ByProxy (proxy_said told)
 said (Node told) = ByNode (node_said told)
@@ -153,6 +172,6 @@ abbrev pub said_with : Option (List ℕ) → List ℕ → Option Said
 said_with None bytes = said_without_digest (address_in bytes) bytes
 said_with (Some digest) bytes = option_map ByProxy (proxy_in digest bytes)
 
--- what the text of a service tells
+-- what the text of a service tells (from: docs/METRICS.md)
 abbrev pub said_in : List ℕ → Option Said
 said_in bytes = said_with (digest_in bytes) bytes

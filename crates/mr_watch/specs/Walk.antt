@@ -34,6 +34,7 @@ next_seen seen None = seen
 next_seen None (Some ahead) = Some (first_seen ahead)
 next_seen (Some seen) (Some ahead) = Some (seen_with seen ahead)
 
+-- the clocks of all these proxies, one after another
 abbrev pub walk : Option ClocksSeen → List ProxySeen → Option ClocksSeen
 walk seen [] = seen
 walk seen (proxy ∷ proxies) = walk (next_seen seen (ahead_of proxy)) proxies
