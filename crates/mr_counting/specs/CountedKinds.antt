@@ -6,6 +6,7 @@ use Rattle.mr_node.specs.Kinds.{IsOfKind}
 use Rattle.mr_node.specs.declared.command.NodeCommand.{NodeCommand}
 use Rattle.mr_counting.specs.NodeCounts.{CountedView, CountedStep}
 
+-- a step of a cache that counts gives a reply of its command's kind
 pub counted-IsOfKind : (old : CountedView) (now : ℕ) (command : NodeCommand) (reply : LegReply) (new : CountedView)
     → CountedStep old now command reply new → IsOfKind command reply
 counted-IsOfKind old now command reply new done = step-IsOfKind old.cache now command reply new.cache done.step

@@ -7,6 +7,7 @@ use Rattle.mr_proxy.specs.declared.taken.Taken.TheVariants.{Waiting, Answered, S
 use Rattle.mr_counting.specs.ProxyCounts.{after_answered}
 use Rattle.mr_counting.specs.declared.proxy_counts.ProxyCounts.{ProxyCounts}
 
+-- a proxy that counts, as contracts see it
 pub record CountedProxyView : Type 0 where
   pub proxy : ProxyView
   -- by which its readings are judged

@@ -26,6 +26,7 @@ evicts old now (Set key flags exptime block) =
     nat_le old.capacity (length old.items) && (is_none (item_of key old.items) && is_alive now (expiry_of now exptime))
 evicts old now (Delete key) = false
 
+-- an item that went is counted, if one did
 abbrev pub eviction_counted : Bool → NodeCounts → NodeCounts
 eviction_counted evicted counts = if evicted then record counts { evicted = one_more counts.evicted } else counts
 

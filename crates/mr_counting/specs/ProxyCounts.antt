@@ -52,6 +52,7 @@ key_counted counts Deleted = counts
 key_counted counts NotFound = counts
 key_counted counts (Failed cause) = counts
 
+-- the leg found nothing to delete
 abbrev pub is_not_found : LegReply → Bool
 is_not_found NotFound = true
 is_not_found (Hit flags block) = false
@@ -77,9 +78,11 @@ abbrev pub replies_counted : Option Cause → Request → List LegReply → Answ
 replies_counted (Some cause) request replies counts = cause_counted cause counts
 replies_counted None request replies counts = success_counted request replies counts
 
+-- what each leg of an answer came to
 abbrev pub replies_of : AnswerView → List LegReply
 replies_of answer = map reply_of_slot answer.slots
 
+-- what a request was answered is counted
 abbrev pub answer_counted : AnswerView → AnswerCounts → AnswerCounts
 answer_counted answer counts = replies_counted (first_cause (replies_of answer)) answer.request (replies_of answer) counts
 
@@ -110,5 +113,6 @@ refusal_counted refusal.NumbersSpent counts = cause_counted cause.NumbersSpent c
 refusal_counted refusal.BookFull counts = cause_counted cause.BookFull counts
 refusal_counted refusal.NoSuchOp counts = counts
 
+-- a request was refused: it is counted by what its client is told
 abbrev pub after_refused : DeskError → ProxyCounts → ProxyCounts
 after_refused e counts = record counts { answers = refusal_counted e counts.answers }

@@ -20,6 +20,7 @@ use Rattle.mr_counting.specs.declared.proxy_counts.ProxyCounts.{ProxyCounts}
 use Rattle.mr_counting.specs.declared.request_counts.PhaseCounts.{PhaseCounts}
 use Rattle.mr_counting.specs.declared.request_counts.RequestCounts.{RequestCounts}
 
+-- the row of a command in a phase
 abbrev pub request_row : Command → PhaseName → ℕ → RequestCount
 request_row command phase count = record { command = command; phase = phase; count = count }
 
@@ -36,6 +37,7 @@ phase_rows command counts =
 abbrev pub request_rows : RequestCounts → List RequestCount
 request_rows counts = phase_rows Get counts.gets ++ (phase_rows Set counts.sets ++ phase_rows Delete counts.deletes)
 
+-- the row of a kind of answer
 abbrev pub answer_row : AnswerKind → ℕ → AnswerCount
 answer_row k count = record { kind = k; count = count }
 
@@ -58,6 +60,7 @@ answer_rows counts =
 abbrev pub bounds_of_hop : Hop → List ℕ
 bounds_of_hop h = h.start ∷ (h.start + h.interval) ∷ (h.start + 2 * h.interval) ∷ []
 
+-- the seconds at which the phases of all hops begin, but the first of each
 abbrev pub bounds_of : List Hop → List ℕ
 bounds_of [] = []
 bounds_of (h ∷ hs) = bounds_of_hop h ++ bounds_of hs
