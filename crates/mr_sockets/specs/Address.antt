@@ -15,10 +15,11 @@ abbrev pub IsThisMachine : Ipv4Addr → Type 0
 IsThisMachine host = ipv4_octets host ≡ 127 ∷ 0 ∷ 0 ∷ 1 ∷ []
 
 -- A host: four decimal numbers below 256 without leading zeros and with dots between them, or `localhost`.
+-- (from: the rules of a node's name in docs/FORMATS.md)
 abbrev pub IsHost : List ℕ → Ipv4Addr → Type 0
 IsHost text host = IsIpv4Text text host ⊎ ((text ≡ codes "localhost") × IsThisMachine host)
 
--- a host, one colon, and the decimal digits of a port
+-- a host, one colon, and the decimal digits of a port (from: the rules of a node's name in docs/FORMATS.md)
 pub record IsAddress (text : List ℕ) (address : SocketAddrV4) : Type 0 where
   pub host : List ℕ
   pub is_host : IsHost host (v4_ip address)
@@ -44,5 +45,6 @@ GivesNodeAddress name None = (address : SocketAddrV4) → ¬ IsNodeAddress name 
 abbrev pub HasAddress : List ℕ → Type 0
 HasAddress text = (address : SocketAddrV4) × IsAddress text address
 
+-- the name is the address of a node
 abbrev pub HasNodeAddress : List ℕ → Type 0
 HasNodeAddress name = (address : SocketAddrV4) × IsNodeAddress name address

@@ -1,6 +1,7 @@
 -- What connections are accepted from, as contracts see it, and the service of its connections.
 use Rattle.std.specs.Prelude.{◌≡◌, ℕ, ◌+◌, ◌≤◌}
 
+-- what connections are accepted from
 pub record ListenerView : Type 0 where
   -- how many connections were accepted
   pub accepted : ℕ
@@ -11,9 +12,11 @@ pub record ListenerView : Type 0 where
 abbrev pub fresh_listener : ListenerView
 fresh_listener = record { accepted = 0; failures = 0 }
 
+-- one connection more was accepted
 abbrev pub accepted_one : ListenerView → ListenerView
 accepted_one l = record l { accepted = l.accepted + 1 }
 
+-- once more none could be accepted
 abbrev pub failed_once : ListenerView → ListenerView
 failed_once l = record l { failures = l.failures + 1 }
 

@@ -4,6 +4,7 @@ use Rattle.std.specs.declared.random_state.RandomState.{RandomState}
 use Rattle.mr_node.specs.Recency.{CacheView, IsNewCache}
 use Rattle.mr_node.specs.declared.error.NodeError.{NodeError}
 
+-- a cache, and the seed by which its keys are hashed
 pub record SeededView : Type 0 where
   pub cache : CacheView
   -- what its keys are hashed by

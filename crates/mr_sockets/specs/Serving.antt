@@ -17,5 +17,6 @@ pub record Run : Type 0 where
   -- how many connections were asked for
   pub clients : ℕ
 
+-- a run of so many clients
 abbrev pub run : Serving → ℕ → Run
 run serving clients = record { serving = serving; clients = clients }

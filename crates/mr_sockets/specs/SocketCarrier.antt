@@ -27,6 +27,7 @@ pub record Reach : Type 0 where
   pub dialled : List SocketAddrV4
   pub connection : Option ConnectionView
 
+-- a reach of these four
 abbrev pub reach : List ℕ → ℕ → List SocketAddrV4 → Option ConnectionView → Reach
 reach name turns dialled connection = record { name = name; turns = turns; dialled = dialled; connection = connection }
 
@@ -40,10 +41,11 @@ pub record SocketView : Type 0 where
 unfoldable pub fresh_carrier : ℕ → List ℕ → SocketView
 fresh_carrier turns name = record { reach = reach name turns [] None; faults = 0 }
 
--- a reader of which nothing was read, and a writer to which nothing was written
+-- a reader of which nothing was read
 abbrev pub unread_source : Option (List ℕ) → SourceView
 unread_source left = record { taken = []; left = left; reads = 0; failures = 0; least_room = None }
 
+-- a writer to which nothing was written
 abbrev pub unwritten_sink : Option (List ℕ) → SinkView
 unwritten_sink contents = record { written = []; handed = []; calls = 0; failures = 0; last_failed = false; contents = contents }
 
@@ -103,6 +105,7 @@ abbrev pub CarriesBy : Option ConnectionView → NodeCommand → Reach → Resul
 CarriesBy (Some connection) command old result new = Reuses command old connection result new
 CarriesBy None command old result new = Dials command old result new ⊎ DialsNothing old result new
 
+-- a leg goes by what the carrier has; its name and its turns stay
 pub record CarriesFrom (command : NodeCommand) (old : Reach) (result : Result LegReply WorkerError) (new : Reach) : Type 0 where
   pub carries : CarriesBy old.connection command old result new
   pub same_name : new.name ≡ old.name
@@ -113,6 +116,7 @@ abbrev pub faults_after : ℕ → Result LegReply WorkerError → ℕ
 faults_after faults (Ok leg) = faults
 faults_after faults (Err fault) = faults + 1
 
+-- the leg goes so, and a fault is counted once
 pub record CarriesSo (command : NodeCommand) (old : SocketView) (result : Result LegReply WorkerError) (new : SocketView) : Type 0 where
   pub carries : CarriesFrom command old.reach result new.reach
   pub counted : new.faults ≡ faults_after old.faults result
