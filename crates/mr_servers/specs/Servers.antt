@@ -33,11 +33,12 @@ pub data Asked : Type 0 where
   -- a proxy, and the routing that its carriers are made of
   ProxyAt : (places : Places) (proxy : ProxyView) (routing : RoutingView) (bounds : ServiceBounds) → Asked
 
--- the addresses that it listens at, and the number of its clients
+-- the addresses that it listens at
 abbrev pub places_of : Asked → Places
 places_of (NodeAt places node bounds) = places
 places_of (ProxyAt places proxy routing bounds) = places
 
+-- the number of its clients
 abbrev pub clients_of : Asked → ℕ
 clients_of (NodeAt places node bounds) = bounds.clients
 clients_of (ProxyAt places proxy routing bounds) = bounds.clients
@@ -51,6 +52,7 @@ run_of (ProxyAt places proxy routing bounds) = run (ProxyServing (Some proxy) ro
 abbrev pub no_terminal : Screen
 no_terminal = record { terminal = false; colours = false }
 
+-- the services of a machine
 pub record ServersView : Type 0 where
   -- where the output goes
   pub screen : Screen
@@ -112,6 +114,7 @@ pub record RanNot (asked : Asked) (old : ServersView) (fault : OpenFault) (new :
   pub lacks : LacksPlace (places_of asked) fault old.listened new.listened
   pub none_ran : new.runs ≡ old.runs
 
+-- the service ran, or it had no socket and didn't
 abbrev pub RunsSo : Asked → ServersView → Result ℕ OpenFault → ServersView → Type 0
 RunsSo asked old (Ok served) new = Ran asked old served new
 RunsSo asked old (Err fault) new = RanNot asked old fault new
