@@ -50,9 +50,11 @@ pub record WasDelete (history : List Entry) (op : OpId) (key : List ℕ) : Type 
   pub place : ℕ
   pub issued : IsIssued history op (request.Delete key noreply) place
 
+-- each item that was stored by an op was set by it
 abbrev pub StoredWereSet : List Entry → Type 0
 StoredWereSet history = (op : OpId) (key : List ℕ) (flags : ℕ) (block : List ℕ) (place : ℕ) → At history place (Stored (By op) key flags block) → WasSet history op key flags block
 
+-- each key that was removed by an op was deleted by it
 abbrev pub RemovedWereDeleted : List Entry → Type 0
 RemovedWereDeleted history = (op : OpId) (side : Side) (key : List ℕ) (place : ℕ) → At history place (Removed op side key) → WasDelete history op key
 
@@ -70,6 +72,7 @@ pub record WasFound (sent : List Message) (replies : List Delivery) (get : OpId)
   pub asked : message.sheet.command ≡ command.Get item.key
   pub came : CameBack sent replies message (Hit item.flags item.block)
 
+-- each item of an answer is a hit that came back from a leg of its get
 abbrev pub HitsCameBack : List Message → List Delivery → List Entry → Type 0
 HitsCameBack sent replies history =
     (get : OpId) (items : List Item) (item : Item) (answer : ℕ) → At history answer (Answered get (Items items)) → Has items item → WasFound sent replies get item
@@ -78,6 +81,7 @@ HitsCameBack sent replies history =
 abbrev pub MessagesGoWhereNamed : WorldView → Type 0
 MessagesGoWhereNamed w = (message : Message) → Has w.sent message → GoesWhereNamed w.proxies w.nodes message
 
+-- the facts that every fleet shows
 pub record Facts (w : WorldView) : Type 0 where
   pub nodes : MessagesGoWhereNamed w
   pub deletes : DeletesArePerformed w.sent w.history
@@ -129,5 +133,6 @@ pub record IsFaithful (proxies : List ProxyView) (sent : List Message) (replies 
   pub removals : RemovedWereDeleted history
   pub hits : HitsCameBack sent replies history
 
+-- the facts of a fleet, and what keeps them
 abbrev pub IsFaithfulWorld : WorldView → Type 0
 IsFaithfulWorld w = IsFaithful w.proxies w.sent w.replies w.history

@@ -77,6 +77,7 @@ pub record GetComesLater (sent : List Message) (history : List Entry) (message :
   pub not_above : (delete : OpId) (key : List ℕ) (noreply : Bool) (issue : ℕ) → IsIssued history delete (Delete key noreply) issue → issue < was.place
       → LegUpTo sent delete key (pool_at message.sheet)
 
+-- each delete issued before a get went to the pool of each of its legs or to an earlier one
 abbrev pub GetsComeLater : List Message → List Entry → Type 0
 GetsComeLater sent history =
     (message : Message) (key : List ℕ) → Has sent message → message.sheet.command ≡ command.Get key → GetComesLater sent history message

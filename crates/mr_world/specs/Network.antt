@@ -13,11 +13,13 @@ use Rattle.mr_world.specs.Steps.{WorldStep}
 use Rattle.mr_world.specs.Tracked.{IsTracked, numbers_of}
 use Rattle.mr_world.specs.WorldView.{WorldView}
 
+-- a fleet, with the nodes' numbers kept beside it
 pub record NetworkView : Type 0 where
   pub world : WorldView
   -- the numbers of the nodes that each proxy's routing names, pool by pool
   pub numbers : List (List (List ℕ))
 
+-- what every step of it keeps
 pub record IsReady (n : NetworkView) : Type 0 where
   pub tracked : IsTracked n.world
   pub faithful : IsFaithfulWorld n.world
@@ -38,5 +40,6 @@ pub record HasNumber (numbers : List (List ℕ)) (sheet : LegSheet) : Type 0 whe
   pub pool : pool_at sheet < length numbers
   pub node : sheet.node < length (numbers_at numbers sheet)
 
+-- a leg goes to the node of that number
 abbrev pub message_by : List (List ℕ) → LegSheet → Message
 message_by numbers sheet = record { sheet = sheet; node = slice_index_or (numbers_at numbers sheet) sheet.node 0 }

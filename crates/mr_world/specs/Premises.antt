@@ -18,9 +18,11 @@ ticks_in (GiveUp op) = []
 ticks_in (NodeRestart node) = []
 ticks_in (ProxyRestart proxy) = []
 
+-- the ticks among events, in order
 abbrev pub ticks_of : List Event → List Tick
 ticks_of events = flat_map ticks_in events
 
+-- which of the four premises hold of a fleet: by its setup, and by all readings so far
 abbrev pub premises_of : WorldView → Premises
 premises_of w =
     record {

@@ -22,6 +22,7 @@ use Rattle.mr_world.specs.WorldView.{WorldView}
 abbrev pub refused_past : WorldError → ℕ → ℕ → Option WorldError
 refused_past refusal number count = if nat_lt number count then None else Some refusal
 
+-- why a request is refused: no such proxy, or the proxy's own refusal; a quit is never refused
 abbrev pub refused_request : Option ProxyView → Request → Option WorldError
 refused_request None request = Some NoSuchProxy
 refused_request (Some proxy) (request.Get keys) = option_map IssueRefused (refusal_of proxy)
@@ -29,6 +30,7 @@ refused_request (Some proxy) (request.Set key flags exptime block noreply) = opt
 refused_request (Some proxy) (request.Delete key noreply) = option_map IssueRefused (refusal_of proxy)
 refused_request (Some proxy) request.Quit = None
 
+-- the request isn't under way
 abbrev pub refused_answer : Option AnswerView → Option WorldError
 refused_answer None = Some NoSuchOp
 refused_answer (Some answer) = None
@@ -38,6 +40,7 @@ abbrev pub refused_give_up : Option ProxyView → OpId → Option WorldError
 refused_give_up None op = Some NoSuchOp
 refused_give_up (Some proxy) op = refused_answer (given_up_of proxy op)
 
+-- there is no such proxy, or its incarnations are spent
 abbrev pub refused_restart : Option ProxyView → Option WorldError
 refused_restart None = Some NoSuchProxy
 refused_restart (Some proxy) = if proxy.incarnation == 2 ^ 64 - 1 then Some (IssueRefused NumbersSpent) else None

@@ -18,6 +18,7 @@ use Rattle.mr_world.specs.Positions.{node_number}
 use Rattle.mr_world.specs.declared.node.Node.{Node}
 use Rattle.mr_world.specs.WorldView.{WorldView}
 
+-- what a fleet is made of
 pub record SetupView : Type 0 where
   -- by their numbers
   pub proxies : List ProxySetup
@@ -71,6 +72,7 @@ abbrev pub proxies_from : ℕ → List ProxySetup → List ProxyView
 proxies_from number [] = []
 proxies_from number (proxy ∷ proxies) = fresh_proxy number 0 proxy.routing proxy.schedule proxy.room ∷ proxies_from (number + 1) proxies
 
+-- a node of this name that holds nothing
 abbrev pub empty_node : ℕ → List ℕ → Node
 empty_node capacity name = record { name = name; cache = record { capacity = capacity; items = [] } }
 
@@ -78,9 +80,11 @@ empty_node capacity name = record { name = name; cache = record { capacity = cap
 abbrev pub with_name : ℕ → List Node → List ℕ → List Node
 with_name capacity nodes name = if nat_lt (node_number nodes name) (length nodes) then nodes else nodes ++ empty_node capacity name ∷ []
 
+-- the nodes, and those of a pool that aren't there yet
 abbrev pub with_pool : ℕ → List Node → List (List ℕ) → List Node
 with_pool capacity nodes pool = fold (with_name capacity) nodes pool
 
+-- the nodes, and those of a routing that aren't there yet
 abbrev pub with_routing : ℕ → List Node → RoutingView → List Node
 with_routing capacity nodes routing = fold (with_pool capacity) nodes routing.pools
 
@@ -96,6 +100,7 @@ with_item item node =
       cache = record node.cache { items = items_after node.cache.capacity 0 (Set item.key item.flags (pos 0) item.block) node.cache.items };
     }
 
+-- the node of this number holds one more item, if it is there
 abbrev pub hold_at : List Node → ℕ → HeldItem → Option Node → List Node
 hold_at nodes number item None = nodes
 hold_at nodes number item (Some node) = slice_set nodes number (with_item item node)
@@ -104,9 +109,11 @@ hold_at nodes number item (Some node) = slice_set nodes number (with_item item n
 abbrev pub hold : List Node → HeldItem → List Node
 hold nodes item = hold_at nodes (node_number nodes item.node) item (slice_get nodes (node_number nodes item.node))
 
+-- the nodes with the items that are held at the beginning
 abbrev pub nodes_at_first : SetupView → List Node
 nodes_at_first setup = fold hold (nodes_of setup.capacity setup.proxies) setup.held
 
+-- the history begins with a held item as stored
 abbrev pub held_entry : HeldItem → Entry
 held_entry item = Stored Beginning item.key item.flags item.block
 
@@ -124,6 +131,7 @@ pub record MovesTo (routing : RoutingView) (name : List ℕ) : Type 0 where
 abbrev pub IsNewPoolEmpty : SetupView → Type 0
 IsNewPoolEmpty setup = All (λ item. All (λ proxy. ¬ MovesTo proxy.routing item.node) setup.proxies) setup.held
 
+-- the least of this and the intervals of all proxies
 abbrev pub least_interval_from : ℕ → List ProxySetup → ℕ
 least_interval_from least proxies = fold min least (map (λ proxy. least_interval proxy.schedule) proxies)
 

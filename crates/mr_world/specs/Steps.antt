@@ -65,6 +65,7 @@ pub record Issues (old : WorldView) (number : ℕ) (request : Request) (note : N
         history = old.history ++ entry.Issued (next_op proxy) number request ∷ [];
       }
 
+-- a client's event: a request is issued, or a quit does nothing
 abbrev pub ClientAsks : WorldView → ℕ → Request → Note → WorldView → Type 0
 ClientAsks old number (request.Get keys) note new = Issues old number (request.Get keys) note new
 ClientAsks old number (request.Set key flags exptime block noreply) note new = Issues old number (request.Set key flags exptime block noreply) note new
@@ -104,6 +105,7 @@ answered_by taken.Waiting = []
 answered_by (taken.Answered answer) = answered answer
 answered_by (taken.Stranger reply) = []
 
+-- what is told of a reply that a proxy took
 abbrev pub note_of : Taken → Note
 note_of taken.Waiting = Waiting
 note_of (taken.Answered answer) = Answered answer.op

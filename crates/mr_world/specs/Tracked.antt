@@ -60,6 +60,7 @@ pub record IsGivenOut (proxies : List ProxyView) (op : OpId) : Type 0 where
   pub home : At proxies op.proxy proxy
   pub given_out : WasGivenOut proxy op
 
+-- what every step keeps, and on which the facts rest
 pub record IsTracked (w : WorldView) : Type 0 where
   pub clocks : length w.readings.standing ≡ length w.proxies
   pub within : AreWithin w.readings.spread w.readings.standing
@@ -72,9 +73,10 @@ pub record IsTracked (w : WorldView) : Type 0 where
   pub given_out : (op : OpId) → WasIssued w.history op → IsGivenOut w.proxies op
   pub waiting : (pending : PendingView) → IsWaiting w.proxies pending → IsUnanswered w.history pending.op
 
--- the numbers of the nodes that each proxy's routing names, pool by pool
+-- the numbers of the nodes that a proxy's routing names, pool by pool
 abbrev pub numbers_in : List Node → ProxyView → List (List ℕ)
 numbers_in nodes proxy = map (λ pool. map (node_number nodes) pool) proxy.routing.pools
 
+-- the numbers of the nodes that each proxy's routing names, pool by pool
 abbrev pub numbers_of : List Node → List ProxyView → List (List (List ℕ))
 numbers_of nodes proxies = map (numbers_in nodes) proxies

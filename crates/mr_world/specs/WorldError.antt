@@ -3,6 +3,7 @@ use Rattle.std.specs.Prelude.{ℕ}
 use Rattle.mr_world.specs.declared.error.WorldError.{WorldError}
 use Rattle.mr_world.specs.declared.error.WorldError.TheVariants.{NoSuchProxy, NoSuchNode, NoSuchMessage, IssueRefused, OutOfMemory, NoSuchOp, HopsDiffer}
 
+-- the number of each refusal
 abbrev pub number_of_refusal : WorldError → ℕ
 number_of_refusal NoSuchProxy = 1
 number_of_refusal NoSuchNode = 2

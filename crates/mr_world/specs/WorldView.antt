@@ -8,6 +8,7 @@ use Rattle.mr_world.specs.declared.message.Delivery.{Delivery}
 use Rattle.mr_world.specs.declared.node.Node.{Node}
 use Rattle.mr_world.specs.declared.terms.Terms.{Terms}
 
+-- a whole fleet, with all that ever happened in it
 pub record WorldView : Type 0 where
   pub readings : ReadingsView
   -- by their numbers
