@@ -8,6 +8,7 @@ use Rattle.mr_shown.specs.Shown.{author_json, bytes_json, data_json, keys_json, 
 use Rattle.mr_shown.specs.declared.objects.Part.{Part}
 use Rattle.mr_shown.specs.declared.objects.Part.TheVariants as part
 
+-- the value of a plain part
 abbrev pub part_json : Part → Data
 part_json (part.Text text) = string text.now
 part_json (part.Bytes bytes) = bytes_json bytes.now

@@ -32,15 +32,19 @@ bytes_json bytes = string (encode_utf8_all bytes)
 abbrev pub data_json : Format → List ℕ → Data
 data_json format bytes = string (encode_utf8_all (shown_data format bytes))
 
+-- a whole number
 abbrev pub number_json : ℕ → Data
 number_json n = number (unsigned n)
 
+-- the name of a request: proxy, incarnation and number
 abbrev pub op_json : OpId → Data
 op_json op = array (item (number_json op.proxy) (item (number_json op.incarnation) (item (number_json op.number) no_items)))
 
+-- keys, in order
 abbrev pub keys_json : List (List ℕ) → Items
 keys_json keys = items_of (map bytes_json keys)
 
+-- a request
 abbrev pub request_json : Format → Request → Data
 request_json format (request.Get keys) = object (member (codes "keys") (array (keys_json keys)) (member (codes "kind") (string (codes "get")) no_members))
 request_json format (request.Set key flags exptime block noreply) =
@@ -59,6 +63,7 @@ request_json format request.Quit = object (member (codes "kind") (string (codes 
 abbrev pub item_json : Format → Item → Data
 item_json format i = object (member (codes "data") (data_json format i.block) (member (codes "flags") (number_json i.flags) (member (codes "key") (bytes_json i.key) no_members)))
 
+-- the items of an answer, in order
 abbrev pub items_json : Format → List Item → Items
 items_json format items = items_of (map (item_json format) items)
 
@@ -72,10 +77,12 @@ reply_json format (reply.ServerError cause) = object (member (codes "server_erro
 reply_json format (reply.ClientError cause) = object (member (codes "client_error") (bytes_json (text_of_cause cause)) no_members)
 reply_json format reply.Error = string (codes "error")
 
+-- who stored an item
 abbrev pub author_json : Author → Data
 author_json Beginning = string (codes "beginning")
 author_json (By op) = op_json op
 
+-- an entry of a history
 abbrev pub entry_json : Format → Entry → Data
 entry_json format (entry.Issued op proxy request) =
     object
@@ -93,9 +100,11 @@ entry_json format (entry.Removed op side key) =
 entry_json format (entry.Answered op reply) =
     object (member (codes "entry") (string (codes "answered")) (member (codes "op") (op_json op) (member (codes "reply") (reply_json format reply) no_members)))
 
+-- the entries of a history, in order
 abbrev pub entries_json : Format → List Entry → Items
 entries_json format entries = items_of (map (entry_json format) entries)
 
+-- what is told of an accepted event
 abbrev pub note_json : Note → Data
 note_json Nothing = string (codes "nothing")
 note_json (Issued op first count) =
@@ -105,15 +114,18 @@ note_json Waiting = string (codes "waiting")
 note_json (Answered op) = object (member (codes "answered") (op_json op) no_members)
 note_json Stranger = string (codes "stranger")
 
+-- what is told of accepted events, in order
 abbrev pub notes_json : List Note → Items
 notes_json notes = items_of (map note_json notes)
 
+-- which premises hold
 abbrev pub premises_json : Premises → Data
 premises_json p =
     object
     (member (codes "forward") (boolean p.forward)
     (member (codes "near") (boolean p.near) (member (codes "new_empty") (boolean p.new_empty) (member (codes "same") (boolean p.same) no_members))))
 
+-- what a judge says of a history
 abbrev pub verdict_json : KeptVerdict → Data
 verdict_json Safe = string (codes "safe")
 verdict_json (Stale get key delete) =
