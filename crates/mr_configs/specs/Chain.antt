@@ -14,6 +14,7 @@ pub record Migration : Type 0 where
   pub start : ℕ
   pub interval : ℕ
 
+-- migrations in a row: the names of the first pool, and each migration
 pub record Chain : Type 0 where
   -- the names of the pool that the first migration leaves
   pub first : List Text

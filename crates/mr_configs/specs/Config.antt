@@ -28,6 +28,7 @@ pub record IsConfig (config : ConfigView) : Type 0 where
   pub matched : HaveAsManyHops config.routing config.schedule
   pub schedule : IsSchedule config.schedule
 
+-- the keys that a configuration may have
 abbrev pub config_keys : List Text
 config_keys = codes "hash" ∷ codes "pools" ∷ codes "route" ∷ []
 

@@ -21,7 +21,7 @@ abbrev pub have_only : List Text → Members → Bool
 have_only keys no_members = true
 have_only keys (member key value members) = is_one_of keys key && have_only keys members
 
--- it is an object, and has no key but these
+-- it is an object, and has no key but these (from: RFC 8259; refusals own)
 abbrev pub object_check : List Text → Data → Result (Unit {0}) PlanError
 object_check keys value = ok_or (as_object value) WrongKind >>= λ members. only_if (have_only keys members) UnknownKey
 
@@ -33,12 +33,15 @@ field key value = ok_or (get key value) MissingKey
 abbrev pub whole_number : Data → Result ℕ PlanError
 whole_number value = ok_or (option_and_then as_u64 (as_number value)) WrongKind
 
+-- a text, or WrongKind
 abbrev pub text_of : Data → Result Text PlanError
 text_of value = ok_or (as_str value) WrongKind
 
+-- the values of a list, in order
 abbrev pub values_in : Items → List Data
 values_in no_items = []
 values_in (item value values) = value ∷ values_in values
 
+-- a list, or WrongKind
 abbrev pub list_of : Data → Result (List Data) PlanError
 list_of value = ok_or (as_array value) WrongKind >>= λ items. Ok (values_in items)

@@ -9,6 +9,7 @@ use Rattle.mr_proxy.specs.declared.sheet.LegSheet.{LegSheet}
 use Rattle.mr_text.specs.declared.request.Request.{Request}
 use Rattle.mr_configs.specs.Config.{ConfigView}
 
+-- the plan of a request
 pub record PlanView : Type 0 where
   -- the hop in force
   pub hop : ℕ

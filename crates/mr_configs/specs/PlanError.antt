@@ -3,6 +3,7 @@ use Rattle.std.specs.Prelude.{ℕ}
 use Rattle.mr_configs.specs.declared.error.PlanError.{PlanError}
 use Rattle.mr_configs.specs.declared.error.PlanError.TheVariants.{NotJson, WrongKind, MissingKey, UnknownKey, BadPool, BadRoute, BadSchedule, BadHash, BadSetup, BadEvent, TooLarge, EventRefused, OutOfMemory}
 
+-- the number of each refusal
 abbrev pub number_of_refusal : PlanError → ℕ
 number_of_refusal NotJson = 1
 number_of_refusal WrongKind = 2

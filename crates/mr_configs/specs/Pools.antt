@@ -13,6 +13,7 @@ use Rattle.mr_configs.specs.declared.error.PlanError.TheVariants.{WrongKind, Bad
 abbrev pub is_name_byte : ℕ → Bool
 is_name_byte byte = nat_le 0x21 byte && (nat_le byte 0x7E && not (byte == 0x2C))
 
+-- each byte may stand in the name of a node
 abbrev pub are_name_bytes : Text → Bool
 are_name_bytes [] = true
 are_name_bytes (byte ∷ bytes) = is_name_byte byte && are_name_bytes bytes
@@ -49,6 +50,7 @@ pool_of_names names =
 abbrev pub names_in : List Data → List Text
 names_in values = map (λ value. unwrap_or (as_str value) []) values
 
+-- each value is a text
 abbrev pub are_texts : List Data → Bool
 are_texts [] = true
 are_texts (value ∷ values) = is_some (as_str value) && are_texts values
@@ -68,6 +70,6 @@ abbrev pub are_pools : Members → Result (Unit {0}) PlanError
 are_pools no_members = Ok tt
 are_pools (member name value members) = pool_in value >>= λ _. are_pools members
 
--- the pools of a configuration: an object of pools
+-- the pools of a configuration: an object of pools (from: MigrateRoute; refusals own)
 abbrev pub pools_check : Data → Result (Unit {0}) PlanError
 pools_check value = ok_or (as_object value) WrongKind >>= are_pools

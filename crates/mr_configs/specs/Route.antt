@@ -11,6 +11,7 @@ use Rattle.mr_configs.specs.Pools.{pool_in}
 use Rattle.mr_configs.specs.declared.error.PlanError.{PlanError}
 use Rattle.mr_configs.specs.declared.error.PlanError.TheVariants.{BadRoute}
 
+-- the keys that a migration may have
 abbrev pub route_keys : List Text
 route_keys = codes "type" ∷ codes "from" ∷ codes "to" ∷ codes "start_time" ∷ codes "interval" ∷ []
 
@@ -61,6 +62,7 @@ chain_by inner pools route =
     Ok (chain_with before (record { new = new; start = start; interval = interval }))
 
 -- the chain of migrations that a route is, over these pools: no more objects than this stand inside one another
+-- (from: MigrateRoute; refusals and several in a row own)
 unfoldable pub chain_of : ℕ → Data → Data → Result Chain PlanError
 chain_of zero pools route = Err BadRoute
 chain_of (suc fewer) pools route = chain_by (chain_of fewer pools) pools route

@@ -10,13 +10,16 @@ use Rattle.mr_configs.specs.declared.times.NewOnlyTime.TheVariants.{Never, Withi
 use Rattle.mr_configs.specs.declared.times.PhaseTimes.{PhaseTimes}
 use Rattle.mr_configs.specs.declared.advice.Standing.{Standing}
 
+-- the reading stands in the span
 abbrev pub IsWithin : Span → ℕ → Type 0
 IsWithin span t = (span.first ≤ t) × (t ≤ span.last)
 
+-- the reading stands in the span, and there is one
 abbrev pub IsWithinAny : Option Span → ℕ → Type 0
 IsWithinAny None t = ⊥
 IsWithinAny (Some span) t = IsWithin span t
 
+-- the reading stands in the last phase of a hop, which ends where the next hop starts, if one follows
 abbrev pub IsNewOnly : NewOnlyTime → ℕ → Type 0
 IsNewOnly Never t = ⊥
 IsNewOnly (Within span) t = IsWithin span t
@@ -29,6 +32,7 @@ IsTimeOf times BothReadOld t = IsWithin times.both_read_old t
 IsTimeOf times BothReadNew t = IsWithin times.both_read_new t
 IsTimeOf times NewOnly t = IsNewOnly times.new_only t
 
+-- the readings of a phase of a hop, by its entry, if there is one
 abbrev pub IsTimeIn : Option PhaseTimes → PhaseName → ℕ → Type 0
 IsTimeIn None phase t = ⊥
 IsTimeIn (Some times) phase t = IsTimeOf times phase t
@@ -80,6 +84,7 @@ pub record AdviceView : Type 0 where
   -- they are no farther apart than that
   pub near : Bool
 
+-- where each reading stands, how far they are apart, and whether that is within the least interval of all hops
 abbrev pub advice_of : List Hop → List ℕ → AdviceView
 advice_of schedule readings = record {
   standings = map (standing_at schedule) readings;
