@@ -27,9 +27,11 @@ op_of_parts parts = Err WrongKind
 abbrev pub op_of : Data → Result OpId PlanError
 op_of value = list_of value >>= op_of_parts
 
+-- the keys of the event `clock`
 abbrev pub clock_keys : List Text
 clock_keys = codes "do" ∷ codes "proxy" ∷ codes "reading" ∷ []
 
+-- the event `clock`: a proxy's clock shows a reading
 abbrev pub clock_of : Data → Result Event PlanError
 clock_of value =
     object_check clock_keys value >>= λ _.
@@ -37,9 +39,11 @@ clock_of value =
     field (codes "reading") value >>= whole_number >>= λ reading.
     Ok (Clock proxy reading)
 
+-- the keys of the event `client`
 abbrev pub client_keys : List Text
 client_keys = codes "do" ∷ codes "proxy" ∷ codes "request" ∷ []
 
+-- the event `client`: a request comes to a proxy
 abbrev pub client_of : Format → Data → Result Event PlanError
 client_of format value =
     object_check client_keys value >>= λ _.
@@ -47,9 +51,11 @@ client_of format value =
     field (codes "request") value >>= request_of format >>= λ request.
     Ok (Client proxy request)
 
+-- the keys of the event `deliver`
 abbrev pub deliver_keys : List Text
 deliver_keys = codes "do" ∷ codes "message" ∷ codes "now" ∷ []
 
+-- the event `deliver`: a message is performed at this moment
 abbrev pub deliver_of : Data → Result Event PlanError
 deliver_of value =
     object_check deliver_keys value >>= λ _.
@@ -57,42 +63,51 @@ deliver_of value =
     field (codes "now") value >>= whole_number >>= λ now.
     Ok (Deliver message now)
 
+-- the keys of the event `return`
 abbrev pub return_keys : List Text
 return_keys = codes "do" ∷ codes "reply" ∷ []
 
+-- the event `return`: a reply comes back
 abbrev pub return_of : Data → Result Event PlanError
 return_of value =
     object_check return_keys value >>= λ _.
     field (codes "reply") value >>= whole_number >>= λ reply.
     Ok (Return reply)
 
+-- the keys of the event `give_up`
 abbrev pub give_up_keys : List Text
 give_up_keys = codes "do" ∷ codes "op" ∷ []
 
+-- the event `give_up`: a request is given up
 abbrev pub give_up_of : Data → Result Event PlanError
 give_up_of value =
     object_check give_up_keys value >>= λ _.
     field (codes "op") value >>= op_of >>= λ op.
     Ok (GiveUp op)
 
+-- the keys of the event `node_restart`
 abbrev pub node_restart_keys : List Text
 node_restart_keys = codes "do" ∷ codes "node" ∷ []
 
+-- the event `node_restart`: a node loses what it holds
 abbrev pub node_restart_of : Data → Result Event PlanError
 node_restart_of value =
     object_check node_restart_keys value >>= λ _.
     field (codes "node") value >>= node_name_of >>= λ node.
     Ok (NodeRestart node)
 
+-- the keys of the event `proxy_restart`
 abbrev pub proxy_restart_keys : List Text
 proxy_restart_keys = codes "do" ∷ codes "proxy" ∷ []
 
+-- the event `proxy_restart`: a proxy forgets its requests
 abbrev pub proxy_restart_of : Data → Result Event PlanError
 proxy_restart_of value =
     object_check proxy_restart_keys value >>= λ _.
     field (codes "proxy") value >>= small_number >>= λ proxy.
     Ok (ProxyRestart proxy)
 
+-- the event of this kind that a value is; WrongKind where there is no such kind
 abbrev pub event_of_kind : Format → Data → Text → Result Event PlanError
 event_of_kind format value kind =
     if bytes_eq kind (codes "clock") then clock_of value

@@ -7,6 +7,7 @@ use Rattle.mr_configs.specs.Fields.{whole_number}
 use Rattle.mr_configs.specs.declared.error.PlanError.{PlanError}
 use Rattle.mr_configs.specs.declared.error.PlanError.TheVariants.{WrongKind}
 
+-- the number, if it is below 2^32, else WrongKind
 abbrev pub if_small : ℕ → Result ℕ PlanError
 if_small number = if nat_lt number (2 ^ 32) then Ok number else Err WrongKind
 

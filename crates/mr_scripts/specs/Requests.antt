@@ -28,21 +28,26 @@ keys_in values = map (λ value. chars (unwrap_or (as_str value) [])) values
 abbrev pub are_listed : List (List ℕ) → Bool
 are_listed keys = nat_le 1 (length keys) && nat_le (get_line_length keys) MAX_LINE
 
+-- the keys that values are, if all are keys and fit a get, else WrongKind
 abbrev pub keys_of : List Data → Result (List (List ℕ)) PlanError
 keys_of values = if are_keys values && are_listed (keys_in values) then Ok (keys_in values) else Err WrongKind
 
+-- the keys of a get's object
 abbrev pub get_keys : List Text
 get_keys = codes "keys" ∷ codes "kind" ∷ []
 
+-- the get that a value is
 abbrev pub get_of : Data → Result Request PlanError
 get_of value =
     object_check get_keys value >>= λ _.
     field (codes "keys") value >>= list_of >>= keys_of >>= λ keys.
     Ok (Get keys)
 
+-- the keys of a set's object
 abbrev pub set_keys : List Text
 set_keys = codes "data" ∷ codes "exptime" ∷ codes "flags" ∷ codes "key" ∷ codes "kind" ∷ codes "noreply" ∷ []
 
+-- the set that a value is
 abbrev pub set_of : Format → Data → Result Request PlanError
 set_of format value =
     object_check set_keys value >>= λ _.
@@ -53,9 +58,11 @@ set_of format value =
     flag_of (get (codes "noreply") value) >>= λ noreply.
     Ok (Set key flags exptime block noreply)
 
+-- the keys of a delete's object
 abbrev pub delete_keys : List Text
 delete_keys = codes "key" ∷ codes "kind" ∷ codes "noreply" ∷ []
 
+-- the delete that a value is
 abbrev pub delete_of : Data → Result Request PlanError
 delete_of value =
     object_check delete_keys value >>= λ _.
@@ -63,6 +70,7 @@ delete_of value =
     flag_of (get (codes "noreply") value) >>= λ noreply.
     Ok (Delete key noreply)
 
+-- the request of this kind that a value is; WrongKind where there is no such kind
 abbrev pub request_of_kind : Format → Data → Text → Result Request PlanError
 request_of_kind format value kind =
     if bytes_eq kind (codes "get") then get_of value

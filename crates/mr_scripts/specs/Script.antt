@@ -24,6 +24,7 @@ pub record ScriptParts : Type 0 where
   pub setup : SetupView
   pub events : List Event
 
+-- a script
 pub record ScriptView : Type 0 where
   -- how data stands in its text
   pub format : Format
@@ -60,6 +61,7 @@ script_in value =
     list_of events >>= events_of format 0 >>= λ events.
     Ok (record { format = format; setup = setup; events = events })
 
+-- the keys of a script
 abbrev pub script_keys : List Text
 script_keys = codes "events" ∷ codes "format" ∷ codes "setup" ∷ []
 

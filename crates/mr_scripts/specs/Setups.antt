@@ -16,6 +16,7 @@ use Rattle.mr_scripts.specs.Texts.{key_of, block_of, node_name_of}
 use Rattle.mr_configs.specs.declared.error.PlanError.{PlanError}
 use Rattle.mr_configs.specs.declared.error.PlanError.TheVariants.{BadSetup}
 
+-- the keys of an item that is held
 abbrev pub held_keys : List Text
 held_keys = codes "data" ∷ codes "flags" ∷ codes "key" ∷ codes "node" ∷ []
 
@@ -38,6 +39,7 @@ abbrev pub config_or : ConfigView → Option Data → Result ConfigView PlanErro
 config_or common None = Ok common
 config_or common (Some value) = config_of value
 
+-- the keys of a proxy
 abbrev pub proxy_keys : List Text
 proxy_keys = codes "config" ∷ codes "reading" ∷ codes "room" ∷ []
 
@@ -77,6 +79,7 @@ abbrev pub checked_setup : SetupView → Result SetupView PlanError
 checked_setup setup =
     if have_room setup.capacity setup.proxies && have_homes setup.proxies setup.held then Ok setup else Err (BadSetup NoSuchNode)
 
+-- the keys of a setup
 abbrev pub setup_keys : List Text
 setup_keys = codes "capacity" ∷ codes "config" ∷ codes "held" ∷ codes "proxies" ∷ []
 

@@ -16,9 +16,11 @@ use Rattle.mr_configs.specs.declared.error.PlanError.TheVariants.{WrongKind}
 abbrev pub bytes_of_text : Text → Result (List ℕ) PlanError
 bytes_of_text text = if list_all is_byte (chars text) then Ok (chars text) else Err WrongKind
 
+-- the key that bytes are, or WrongKind
 abbrev pub key_of_bytes : List ℕ → Result (List ℕ) PlanError
 key_of_bytes bytes = if key_test bytes then Ok bytes else Err WrongKind
 
+-- the key that a text stands for, or WrongKind
 abbrev pub key_of_text : Text → Result (List ℕ) PlanError
 key_of_text text = bytes_of_text text >>= key_of_bytes
 
@@ -26,6 +28,7 @@ key_of_text text = bytes_of_text text >>= key_of_bytes
 abbrev pub key_of : Data → Result (List ℕ) PlanError
 key_of value = text_of value >>= key_of_text
 
+-- the block that a text stands for in a format, or WrongKind
 abbrev pub block_of_text : Format → Text → Result (List ℕ) PlanError
 block_of_text format text = ok_or (data_of format (chars text)) WrongKind
 
@@ -33,6 +36,7 @@ block_of_text format text = ok_or (data_of format (chars text)) WrongKind
 abbrev pub block_of : Format → Data → Result (List ℕ) PlanError
 block_of format value = text_of value >>= block_of_text format
 
+-- the node's name that a text is, or WrongKind
 abbrev pub node_name_of_text : Text → Result Text PlanError
 node_name_of_text text = if is_node_name text then Ok text else Err WrongKind
 

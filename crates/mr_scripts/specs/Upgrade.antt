@@ -45,13 +45,16 @@ upgraded_data value = unwrap_or (option_map digits_json (option_and_then (data_o
 abbrev pub with_digits : Data → Data
 with_digits value = changed_at (codes "data") upgraded_data value
 
+-- a request, of which the data of a set changes
 abbrev pub upgraded_request : Data → Data
 upgraded_request value = if says_at (codes "kind") (codes "set") value then with_digits value else value
 
+-- an event, of which the request of a client changes
 abbrev pub upgraded_event : Data → Data
 upgraded_event value =
     if says_at (codes "do") (codes "client") value then changed_at (codes "request") upgraded_request value else value
 
+-- a setup, of which each held item changes
 abbrev pub upgraded_setup : Data → Data
 upgraded_setup value = changed_at (codes "held") (each_changed with_digits) value
 

@@ -5,6 +5,7 @@ use Rattle.std.specs.Str.{bytes_eq}
 use Rattle.serde_json.specs.Data.{Num, unsigned, negative, Data, null, boolean, number, string, array, object, Items, no_items, item, Members, no_members, member}
 use Rattle.serde_json.specs.Find.{get}
 
+-- both are true, or neither
 abbrev pub same_truth : Bool → Bool → Bool
 same_truth true true = true
 same_truth false false = true
@@ -17,6 +18,7 @@ same_number (unsigned m) (unsigned n) = m == n
 same_number (negative m) (negative n) = int_eq m n
 same_number m n = false
 
+-- how many members there are
 abbrev pub count_members : Members → ℕ
 count_members no_members = 0
 count_members (member key value members) = suc (count_members members)
@@ -33,6 +35,7 @@ abbrev mutual
   is_same (object members) (object others) = (count_members members == count_members others) && stand_in members (object others)
   is_same value other = false
 
+  -- the lists are as long, and their values say the same, one by one
   pub are_same : Items → Items → Bool
   are_same no_items no_items = true
   are_same (item value items) (item other others) = is_same value other && are_same items others
