@@ -29,9 +29,11 @@ use Rattle.mr_shown.specs.declared.verdict.KeptVerdict.TheVariants.{Safe, Stale,
 abbrev pub tells : Data → Text → Data → Bool
 tells transcript key value = unwrap_or (option_map (λ found. is_same value found) (get key transcript)) false
 
+-- all four premises hold
 abbrev pub all_hold : Premises → Bool
 all_hold premises = premises.same && (premises.new_empty && (premises.forward && premises.near))
 
+-- the judge found each hit fresh
 abbrev pub is_safe : KeptVerdict → Bool
 is_safe Safe = true
 is_safe (Stale get key delete) = false

@@ -12,6 +12,7 @@ use Rattle.mr_transcripts.specs.declared.check.Outcome.TheVariants.{Accepted}
 use Rattle.mr_configs.specs.declared.error.PlanError.{PlanError}
 use Rattle.mr_configs.specs.declared.error.PlanError.TheVariants.{TooLarge, OutOfMemory}
 
+-- the keys of a transcript
 abbrev pub transcript_keys : List Text
 transcript_keys =
     codes "events" ∷ codes "format" ∷ codes "history" ∷ codes "notes" ∷ codes "premises" ∷ codes "setup" ∷ codes "verdict" ∷ []
