@@ -30,10 +30,11 @@ pub record Told : Type 0 where
   pub name : List ℕ
   pub meaning : List ℕ
 
--- what a row of the table tells, and what an explanation does
+-- what a row of the table tells
 abbrev pub told_in : Bor (List ℕ) × ℕ × Bor (List ℕ) × Bor (List ℕ) → Told
 told_in row = record { layer = row.0.now; number = row.1; name = row.2.now; meaning = row.3.now }
 
+-- what an explanation tells
 abbrev pub told_by : Explanation → Told
 told_by explanation = record {
   layer = explanation.layer.now;
@@ -42,14 +43,15 @@ told_by explanation = record {
   meaning = explanation.meaning.now;
 }
 
--- the two tables of the program, row by row: of the lower layers, and of the upper ones
+-- the table of the lower layers, row by row
 unfoldable pub lower_table : List Told
 lower_table = map (λ row. record { layer = row.0.now; number = row.1; name = row.2.now; meaning = row.3.now }) LOWER_ROWS
 
+-- the table of the upper layers, row by row
 unfoldable pub upper_table : List Told
 upper_table = map (λ row. record { layer = row.0.now; number = row.1; name = row.2.now; meaning = row.3.now }) UPPER_ROWS
 
--- both
+-- both tables
 unfoldable pub table : List Told
 table = lower_table ++ upper_table
 

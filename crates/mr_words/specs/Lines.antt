@@ -7,6 +7,7 @@ use Rattle.mr_node.specs.declared.error.NodeError.TheVariants as node
 use Rattle.mr_configs.specs.declared.error.PlanError.{PlanError}
 use Rattle.mr_configs.specs.declared.error.PlanError.TheVariants as plan
 
+-- the line of each refusal of a text
 abbrev pub text_fault_line : TextError → List ℕ
 text_fault_line LineTooLong = codes "migctl: text 1 LineTooLong\n"
 text_fault_line BadKey = codes "migctl: text 2 BadKey\n"
@@ -19,6 +20,7 @@ text_fault_line Truncated = codes "migctl: text 8 Truncated\n"
 text_fault_line Closed = codes "migctl: text 9 Closed\n"
 text_fault_line OutOfMemory = codes "migctl: text 10 OutOfMemory\n"
 
+-- the line of each error of a node
 abbrev pub node_fault_line : NodeError → List ℕ
 node_fault_line node.ZeroCapacity = codes "migctl: node 1 ZeroCapacity\n"
 node_fault_line node.OutOfMemory = codes "migctl: node 2 OutOfMemory\n"

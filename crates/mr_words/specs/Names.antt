@@ -22,6 +22,7 @@ use Rattle.mr_desks.specs.declared.error.WorkerError.TheVariants as worker
 use Rattle.mr_configs.specs.declared.error.PlanError.{PlanError}
 use Rattle.mr_configs.specs.declared.error.PlanError.TheVariants as plan
 
+-- what the layer of texts calls each refusal
 abbrev pub text_name : TextError → List ℕ
 text_name text.LineTooLong = codes "LineTooLong"
 text_name text.BadKey = codes "BadKey"
@@ -34,6 +35,7 @@ text_name text.Truncated = codes "Truncated"
 text_name text.Closed = codes "Closed"
 text_name text.OutOfMemory = codes "OutOfMemory"
 
+-- what the layer of pools calls each refusal
 abbrev pub pool_name : PoolError → List ℕ
 pool_name pool.EmptyPool = codes "EmptyPool"
 pool_name pool.TooManyNodes = codes "TooManyNodes"
@@ -43,17 +45,20 @@ pool_name pool.SharedName = codes "SharedName"
 pool_name pool.OutOfMemory = codes "OutOfMemory"
 pool_name pool.TooManyPools = codes "TooManyPools"
 
+-- what the layer of clocks calls each refusal
 abbrev pub clock_name : ClockError → List ℕ
 clock_name clock.ClockFault = codes "ClockFault"
 clock_name clock.NoSuchProxy = codes "NoSuchProxy"
 clock_name clock.OutOfMemory = codes "OutOfMemory"
 
+-- what the layer of schedules calls each refusal
 abbrev pub schedule_name : ScheduleError → List ℕ
 schedule_name schedule.ZeroInterval = codes "ZeroInterval"
 schedule_name schedule.TooLate = codes "TooLate"
 schedule_name schedule.TooSoon = codes "TooSoon"
 schedule_name schedule.TooManyHops = codes "TooManyHops"
 
+-- what the layer of nodes calls each error
 abbrev pub node_name : NodeError → List ℕ
 node_name node.ZeroCapacity = codes "ZeroCapacity"
 node_name node.OutOfMemory = codes "OutOfMemory"
@@ -61,12 +66,14 @@ node_name node.ReadFault = codes "ReadFault"
 node_name node.WriteFault = codes "WriteFault"
 node_name node.TurnsSpent = codes "TurnsSpent"
 
+-- what the layer of proxies calls each refusal
 abbrev pub proxy_name : ProxyError → List ℕ
 proxy_name proxy.NoRoom = codes "NoRoom"
 proxy_name proxy.OutOfMemory = codes "OutOfMemory"
 proxy_name proxy.NumbersSpent = codes "NumbersSpent"
 proxy_name proxy.NoSuchOp = codes "NoSuchOp"
 
+-- what the layer of fleets calls each refusal
 abbrev pub world_name : WorldError → List ℕ
 world_name world.NoSuchProxy = codes "NoSuchProxy"
 world_name world.NoSuchNode = codes "NoSuchNode"
@@ -81,10 +88,12 @@ pub data WorkersRefusal : Type 0 where
   of_worker : WorkerError → WorkersRefusal
   of_full_book : WorkersRefusal
 
+-- the number of each refusal of the layer of workers
 abbrev pub workers_number : WorkersRefusal → ℕ
 workers_number (of_worker refusal) = number_of_worker refusal
 workers_number of_full_book = number_of_desk_refusal BookFull
 
+-- what a worker's error is called
 abbrev pub worker_name : WorkerError → List ℕ
 worker_name worker.LinkBroken = codes "LinkBroken"
 worker_name worker.Mismatch = codes "Mismatch"
@@ -95,10 +104,12 @@ worker_name worker.TurnsSpent = codes "TurnsSpent"
 worker_name worker.OutOfMemory = codes "OutOfMemory"
 worker_name worker.NoThread = codes "NoThread"
 
+-- what the layer of workers calls each refusal
 abbrev pub workers_name : WorkersRefusal → List ℕ
 workers_name (of_worker refusal) = worker_name refusal
 workers_name of_full_book = codes "BookFull"
 
+-- what the layer of plans calls each refusal
 abbrev pub plan_name : PlanError → List ℕ
 plan_name plan.NotJson = codes "NotJson"
 plan_name plan.WrongKind = codes "WrongKind"
