@@ -8,6 +8,7 @@ use Rattle.mr_transcripts.specs.declared.check.Outcome.TheVariants.{EventRefused
 use Rattle.mr_shown.specs.declared.verdict.KeptVerdict.{KeptVerdict}
 use Rattle.mr_shown.specs.declared.verdict.KeptVerdict.TheVariants.{Safe, Stale, Invented}
 
+-- the word of each truth
 abbrev pub truth_text : Bool → List ℕ
 truth_text true = codes "true"
 truth_text false = codes "false"

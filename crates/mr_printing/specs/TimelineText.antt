@@ -78,6 +78,7 @@ abbrev pub spread_line : AdviceView → List ℕ
 spread_line advice =
     codes "spread " ++ (decimal advice.spread ++ (codes " allowed " ++ (decimal advice.interval ++ near_text advice.near)))
 
+-- a line for each reading, and that of the spread
 abbrev pub advice_text : ℕ → List ℕ → AdviceView → List ℕ
 advice_text hops readings advice = reading_lines hops 0 readings advice.standings ++ spread_line advice
 
