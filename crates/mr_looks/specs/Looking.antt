@@ -11,6 +11,7 @@ pub record NodeNamed : Type 0 where
   pub pool : ℕ
   pub name : List ℕ
 
+-- a node of this pool and this name
 abbrev pub node_named : ℕ → List ℕ → NodeNamed
 node_named pool name = record { pool = pool; name = name }
 
@@ -31,6 +32,7 @@ nodes_of_pools pools = nodes_from 0 pools
 abbrev pub named : NodeSeen → NodeNamed
 named node = node_named node.pool node.name.now
 
+-- which nodes were seen
 abbrev pub all_named : List NodeSeen → List NodeNamed
 all_named nodes = map named nodes
 

@@ -13,6 +13,7 @@ use Rattle.mr_looks.specs.declared.posts.Post.{Post}
 abbrev pub address_of : Post → List ℕ
 address_of post = post.address.now
 
+-- the addresses of services, in order
 abbrev pub addresses_of : List Post → List (List ℕ)
 addresses_of posts = map address_of posts
 
@@ -20,6 +21,7 @@ addresses_of posts = map address_of posts
 abbrev pub bytes_of : {Z : Type 0} → Option (Vec ℕ Z) → Option (List ℕ)
 bytes_of text = option_map (λ bytes. bytes.items) text
 
+-- what an answer tells, where it is what a service tells
 abbrev pub said_by : Answer → Option Said
 said_by answer = option_and_then said_in (bytes_of answer.text)
 
@@ -45,16 +47,19 @@ kind_after before None = before
 kind_after before (Some (ByProxy told)) = Proxy
 kind_after before (Some (ByNode told)) = Node
 
+-- the service never told anything that a service tells
 abbrev pub is_unknown : Kind → Bool
 is_unknown Unknown = true
 is_unknown Proxy = false
 is_unknown Node = false
 
+-- the service told last that it is a proxy
 abbrev pub is_proxy : Kind → Bool
 is_proxy Unknown = false
 is_proxy Proxy = true
 is_proxy Node = false
 
+-- the service told last that it is a node
 abbrev pub is_node : Kind → Bool
 is_node Unknown = false
 is_node Proxy = false
@@ -69,6 +74,7 @@ abbrev pub unreached_addresses : List Post → List (List ℕ)
 unreached_addresses [] = []
 unreached_addresses (post ∷ posts) = unreached_address post ++ unreached_addresses posts
 
+-- the addresses of services that were never reached
 abbrev pub addresses_of_unreached : List Unreached → List (List ℕ)
 addresses_of_unreached services = map (λ service. service.address.now) services
 
@@ -80,6 +86,7 @@ pub record ProxyShown : Type 0 where
   pub asked : ℕ
   pub answered : ℕ
 
+-- a proxy that a look saw, as contracts see it
 abbrev pub proxy_shown : ProxySeen → ProxyShown
 proxy_shown proxy = record {
   address = proxy.address.now;
@@ -89,6 +96,7 @@ proxy_shown proxy = record {
   answered = proxy.answered;
 }
 
+-- the proxies that a look saw, as contracts see them
 abbrev pub all_shown : List ProxySeen → List ProxyShown
 all_shown proxies = map proxy_shown proxies
 
@@ -111,23 +119,25 @@ abbrev pub shown_by : Post → Option Answer → ProxyShown
 shown_by post None = silence_shown post
 shown_by post (Some answer) = answer_shown (is_proxy post.kind) answer
 
--- all services but nodes, in their order, as this look saw them
+-- a service that is no node, as this look saw it
 abbrev pub proxy_now : Post → List ProxyShown
 proxy_now post = if is_node post.kind then [] else shown_by post post.answer ∷ []
 
+-- all services but nodes, in their order, as this look saw them
 abbrev pub proxies_now : List Post → List ProxyShown
 proxies_now [] = []
 proxies_now (post ∷ posts) = proxy_now post ++ proxies_now posts
 
--- the same as the look before saw them
+-- a service that is no node, as the look before saw it
 abbrev pub proxy_before : Post → List ProxyShown
 proxy_before post = if is_node post.kind then [] else shown_by post post.earlier ∷ []
 
+-- all services but nodes, in their order, as the look before saw them
 abbrev pub proxies_before : List Post → List ProxyShown
 proxies_before [] = []
 proxies_before (post ∷ posts) = proxy_before post ++ proxies_before posts
 
--- none where this is the first one
+-- those of the look before; none where this is the first one
 abbrev pub earlier_proxies : Bool → List Post → List ProxyShown
 earlier_proxies first posts = if first then [] else proxies_before posts
 
@@ -155,6 +165,7 @@ pub record IsUnasked (post : Post) : Type 0 where
   pub kind : post.kind ≡ Unknown
   pub answer : post.answer ≡ None
 
+-- no service was asked yet
 abbrev pub AreUnasked : List Post → Type 0
 AreUnasked posts = All IsUnasked posts
 

@@ -38,6 +38,7 @@ abbrev pub found_by : Looks → Findings
 found_by [] = all_unseen
 found_by (view ∷ earlier) = view.findings
 
+-- there was no look yet
 abbrev pub is_first : Looks → Bool
 is_first [] = true
 is_first (view ∷ earlier) = false
@@ -50,6 +51,7 @@ pub record Fleet : Type 0 where
   pub digest : List ℕ
   pub addresses : List (List ℕ)
 
+-- the fleet of a configuration
 abbrev pub fleet_of : ConfigView → List ℕ → List (List ℕ) → Fleet
 fleet_of config digest addresses =
     record { hops = config.schedule; nodes = nodes_of_pools config.routing.pools; digest = digest; addresses = addresses }
@@ -59,6 +61,7 @@ pub record Sight : Type 0 where
   pub seen : Seen
   pub posts : List Post
 
+-- a sight of these two
 abbrev pub sight : Seen → List Post → Sight
 sight seen posts = record { seen = seen; posts = posts }
 

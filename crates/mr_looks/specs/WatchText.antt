@@ -23,6 +23,7 @@ manner_of false false screen = if screen.terminal then Drawn screen.colours else
 abbrev pub drawn_byte : ℕ → List ℕ
 drawn_byte byte = if byte == 10 then 27 ∷ codes "[K\n" else byte ∷ []
 
+-- a text, of whose lines each clears the rest of what it is drawn over
 abbrev pub drawn : List ℕ → List ℕ
 drawn [] = []
 drawn (byte ∷ bytes) = drawn_byte byte ++ drawn bytes
@@ -46,6 +47,7 @@ shown (Drawn colours) first before view = frame first (look_text colours view)
 shown Changes first before view = change_text before view
 shown Objects first before view = json_line view
 
+-- the premise was seen broken
 abbrev pub is_broken : Finding → Bool
 is_broken Unseen = false
 is_broken Holds = false
@@ -63,10 +65,11 @@ broken_lines findings =
     ++ (broken_line findings.near (codes "clocks near")
     ++ broken_line findings.forward (codes "no clock went back")))
 
--- a line for each service that was never reached
+-- the line of a service that was never reached
 unfoldable pub unreached_line : List ℕ → List ℕ
 unreached_line address = codes "never reached: " ++ (address ++ codes "\n")
 
+-- a line for each service that was never reached
 abbrev pub unreached_lines : List Unreached → List ℕ
 unreached_lines [] = []
 unreached_lines (one ∷ others) = unreached_line one.address.now ++ unreached_lines others
