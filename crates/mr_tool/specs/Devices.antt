@@ -13,6 +13,7 @@ pub record Devices : Type 0 where
   pub output : SinkView
   pub faults : SinkView
 
+-- devices of these four
 abbrev pub devices : SourcesView → SourceView → SinkView → SinkView → Devices
 devices sources input output faults = record { sources = sources; input = input; output = output; faults = faults }
 
@@ -21,6 +22,7 @@ pub record Machine : Type 0 where
   pub devices : Devices
   pub servers : ServersView
 
+-- a machine of these five
 abbrev pub machine : SourcesView → SourceView → SinkView → SinkView → ServersView → Machine
 machine sources input output faults servers = record { devices = devices sources input output faults; servers = servers }
 

@@ -14,6 +14,7 @@ file_line path = codes "migctl: file " ++ (path ++ codes "\n")
 abbrev pub net_line : List ℕ → List ℕ
 net_line address = codes "migctl: net " ++ (address ++ codes "\n")
 
+-- the line that is printed of each fault
 abbrev pub fault_line : Fault → List ℕ
 fault_line Memory = codes "migctl: memory\n"
 fault_line Input = codes "migctl: input\n"

@@ -75,6 +75,7 @@ MakesNode capacity idle (Err (Node refusal)) busy = LacksNode capacity refusal i
 MakesNode capacity idle (Err Input) busy = LacksSeed capacity idle busy
 MakesNode capacity idle (Err fault) busy = ⊥
 
+-- what a node's words bound: its clients, the reads of each, and how long it waits for them
 abbrev pub bounds_of_node : NodeValues → ServiceBounds
 bounds_of_node values = record {
   clients = values.clients;
@@ -111,6 +112,7 @@ pub record HasConfig (values : ProxyValues) (config : ConfigView) (before after 
 abbrev pub proxy_of : ConfigView → ℕ → ProxyView
 proxy_of config room = fresh_proxy 0 0 config.routing config.schedule room
 
+-- the same of a proxy, and how long it waits for a leg
 abbrev pub bounds_of_proxy : ProxyValues → ServiceBounds
 bounds_of_proxy values = record {
   clients = values.clients;

@@ -11,6 +11,7 @@ pub data Known : Type 0 where
   Absent : Known
   Holds : (bytes : List ℕ) → Known
 
+-- files as contracts see them
 pub record SourcesView : Type 0 where
   -- what is known of the file at each path
   pub files : List ℕ → Known
