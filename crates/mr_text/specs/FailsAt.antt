@@ -30,11 +30,12 @@ pub record IsSameBut {D : Type 0} (until : ℕ) (old new : FailsAt D) : Type 0 w
   pub same_failures : new.failures ≡ old.failures
   pub same_last : new.last_failed ≡ old.last_failed
 
--- it as a source and as a sink: what its device gave or took, and its own calls and failures
+-- it as a source: what its device gave, and its own calls and failures
 abbrev pub source_told : {D : Type 0} → (D → SourceView) → FailsAt D → SourceView
 source_told told f =
     record { taken = (told f.inner).taken; left = (told f.inner).left; reads = f.calls; failures = f.failures; least_room = f.least_room }
 
+-- it as a sink: what its device took, and its own calls and failures
 abbrev pub sink_told : {D : Type 0} → (D → SinkView) → FailsAt D → SinkView
 sink_told told f = record {
   written = (told f.inner).written;
