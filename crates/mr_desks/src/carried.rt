@@ -1,7 +1,8 @@
 //! A leg that was carried, with its reply.
-ghost use Rattle.std.specs.Prelude.{◌≡◌, ◌+◌, ◌⊎◌, Some, None, IfOk};
+ghost use Rattle.std.specs.Prelude.{◌≡◌, IfOk};
 ghost use Rattle.mr_text.specs.declared.cause.Cause.TheVariants.{LegLost};
 ghost use Rattle.mr_join.specs.declared.leg_reply.LegReply.TheVariants.{Failed};
+ghost use Rattle.mr_desks.specs.Direct.{CarriesOnce};
 
 use crate::carrier::Carrier;
 use mr_join::LegReply;
@@ -31,9 +32,7 @@ impl<C: Carrier> Carried<C> {
     /// Carries a leg, once. Where that fails the leg is lost.
     pub fn of(carrier: &mut C, leg: Leg) -> Carried<C>
         ensures sheet { result.back.sheet ≡ leg }
-        ensures once { C.carries carrier.old leg (Some result.back.reply) carrier.new
-            × (C.faults carrier.new ≡ C.faults carrier.old)
-            ⊎ C.carries carrier.old leg None carrier.new × (C.faults carrier.new ≡ C.faults carrier.old + 1) × (result.back.reply ≡ Failed LegLost) }
+        ensures once { CarriesOnce C.carries C.faults carrier.old result.back carrier.new }
     {
         let reply = match carrier.carry(leg.sheet()) {
             Ok(reply) => reply,
