@@ -1,22 +1,11 @@
 -- The digest of a configuration.
 use Rattle.std.specs.Prelude.{◌≡◌, ℕ, List, Some, false}
-use Rattle.std.specs.Str.{IsUtf8}
 use Rattle.hex.specs.Hex.{encode_lower}
 use Rattle.serde_json.specs.Data.{Data}
 use Rattle.serde_json.specs.Read.{read}
 use Rattle.serde_json.specs.Written.{has_float, compact_text}
 use Rattle.sha2.specs.Sha256.{sha256}
-use Rattle.mr_digest.specs.declared.error.DigestFault.{DigestFault}
-use Rattle.mr_digest.specs.declared.error.DigestFault.TheVariants.{NotJson, OutOfMemory}
-
--- the bytes are a JSON text in UTF-8, of this value
-abbrev pub IsJson : List ℕ → Data → Type 0
-IsJson bytes value = IsUtf8 bytes × (read bytes ≡ Some value)
-
--- why the bytes have no digest: they are no JSON text, or memory was refused
-abbrev pub IsNoJson : List ℕ → DigestFault → Type 0
-IsNoJson bytes NotJson = (value : Data) → ¬ IsJson bytes value
-IsNoJson bytes OutOfMemory = Unit {0}
+use Rattle.mr_configs.specs.Config.{IsJson}
 
 -- the compact text of a value; of one whose numbers aren't all whole, a text that reads back as it
 pub record IsCompactText (value : Data) (text : List ℕ) : Type 0 where
