@@ -1,6 +1,6 @@
 use Rattle.std.proofs.Common.{rules, ℕ, List}
-use Rattle.mr_format.proofs.DataLemmas.{data_decodes, decoded_is_data}
-use Rattle.mr_format.proofs.data.bytes_of_data.Goals as goal
+use Rattle.mr_shown.proofs.DataLemmas.{data_decodes, decoded_is_data}
+use Rattle.mr_shown.proofs.data.bytes_of_data.Goals as goal
 
 pub bytes_of_digits-requires : goal.bytes_of_digits-requires
 bytes_of_digits-requires c = data_decodes c.args.text.now c.utf8.text (rw c.in-Two.is at c.requires)

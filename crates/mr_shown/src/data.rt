@@ -5,7 +5,7 @@ ghost use Rattle.std.specs.Str.{chars, encode_utf8_all};
 ghost use Rattle.std.specs.String.{string_bytes};
 ghost use Rattle.hex.specs.Hex.{decode_of, is_hex_digit};
 ghost use Rattle.mr_text.specs.Limits.{MAX_BLOCK};
-ghost use Rattle.mr_format.specs.Data.{data_of, shown_data};
+ghost use Rattle.mr_shown.specs.Data.{data_of, shown_data};
 
 use crate::characters::{are_bytes, bytes_of_characters, text_of_characters};
 use crate::format::{Format, MAX_DATA_ONE};

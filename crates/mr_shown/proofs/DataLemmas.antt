@@ -13,10 +13,10 @@ use Rattle.hex.specs.Hex.{decode_of, encode_lower, lower_digits, is_hex_digit, I
 use Rattle.hex.specs.declared.error.FromHexError.{FromHexError}
 use Rattle.hex.proofs.HexLemmas.{decode_of-ok, decode_of-digits, decode_of-encode_lower, decode_of-same, IsAscii-encode_with}
 use Rattle.mr_text.specs.Limits.{MAX_BLOCK}
-use Rattle.mr_format.specs.Data.{data_of, if_few, is_byte, shown_data}
-use Rattle.mr_format.specs.Format.{most_data}
-use Rattle.mr_format.specs.declared.format.Format.{Format}
-use Rattle.mr_format.specs.declared.format.Format.TheVariants.{One, Two}
+use Rattle.mr_shown.specs.Data.{data_of, if_few, is_byte, shown_data}
+use Rattle.mr_shown.specs.Format.{most_data}
+use Rattle.mr_shown.specs.declared.format.Format.{Format}
+use Rattle.mr_shown.specs.declared.format.Format.TheVariants.{One, Two}
 
 digit_is_ascii : (c : ℕ) → is_hex_digit c ≡ true → c < 128
 digit_is_ascii c is = grind (arith)

@@ -3,9 +3,9 @@ use Rattle.std.specs.Prelude.{ℕ, List, length, Bool, nat_lt, nat_le, if◌then
 use Rattle.std.specs.List.{list_all}
 use Rattle.std.specs.Result.{result_ok}
 use Rattle.hex.specs.Hex.{encode_lower, decode_of}
-use Rattle.mr_format.specs.Format.{most_data}
-use Rattle.mr_format.specs.declared.format.Format.{Format}
-use Rattle.mr_format.specs.declared.format.Format.TheVariants.{One, Two}
+use Rattle.mr_shown.specs.Format.{most_data}
+use Rattle.mr_shown.specs.declared.format.Format.{Format}
+use Rattle.mr_shown.specs.declared.format.Format.TheVariants.{One, Two}
 
 -- The code points that show bytes: in format 1 each byte is a code point, in format 2 it is two hexadecimal digits.
 abbrev pub shown_data : Format → List ℕ → List ℕ

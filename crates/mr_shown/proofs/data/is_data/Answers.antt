@@ -1,8 +1,8 @@
 use Rattle.std.proofs.Common.{◌≡◌, length, rules}
 use Rattle.std.specs.Str.{chars}
 use Rattle.std.proofs.lemmas.Str.{chars_from_encodes}
-use Rattle.mr_format.proofs.DataLemmas.{pairs_are_data}
-use Rattle.mr_format.proofs.data.is_data.Goals as goal
+use Rattle.mr_shown.proofs.DataLemmas.{pairs_are_data}
+use Rattle.mr_shown.proofs.data.is_data.Goals as goal
 
 pub returns-then-are_bytes : goal.returns-then-are_bytes
 returns-then-are_bytes c =

@@ -3,7 +3,7 @@ ghost use Rattle.std.specs.Prelude.{◌≡◌, true, IfOk};
 ghost use Rattle.std.specs.List.{list_all};
 ghost use Rattle.std.specs.Str.{chars, encode_utf8_all};
 ghost use Rattle.std.specs.String.{string_bytes};
-ghost use Rattle.mr_format.specs.Data.{is_byte};
+ghost use Rattle.mr_shown.specs.Data.{is_byte};
 
 use std::alloc::{AllocError, Global};
 

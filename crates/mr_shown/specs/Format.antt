@@ -1,8 +1,8 @@
 -- The formats of scripts and transcripts.
 use Rattle.std.specs.Prelude.{ℕ, ◌==◌, if◌then◌else◌, Option, Some, None}
 use Rattle.mr_text.specs.Limits.{MAX_BLOCK}
-use Rattle.mr_format.specs.declared.format.Format.{Format}
-use Rattle.mr_format.specs.declared.format.Format.TheVariants.{One, Two}
+use Rattle.mr_shown.specs.declared.format.Format.{Format}
+use Rattle.mr_shown.specs.declared.format.Format.TheVariants.{One, Two}
 
 -- the number by which a text names its format
 abbrev pub format_number : Format → ℕ

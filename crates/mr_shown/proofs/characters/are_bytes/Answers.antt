@@ -1,6 +1,6 @@
 use Rattle.std.proofs.Common.{rules}
-use Rattle.mr_format.proofs.CharacterLemmas.{first_point, text_after, no_point}
-use Rattle.mr_format.proofs.characters.are_bytes.Goals as goal
+use Rattle.mr_shown.proofs.CharacterLemmas.{first_point, text_after, no_point}
+use Rattle.mr_shown.proofs.characters.are_bytes.Goals as goal
 
 pub returns-then-from-gt255 : goal.returns-then-from-gt255
 returns-then-from-gt255 c =

@@ -16,7 +16,7 @@ pub enum Format {
 }
 
 impl Format {
-    ghost use Rattle.mr_format.specs.Format.{format_of, format_number, most_data};
+    ghost use Rattle.mr_shown.specs.Format.{format_of, format_number, most_data};
 
     /// The format of this number: of 1 or of 2, and of no other.
     pub fn of_number(number: u64) -> Option<Format>

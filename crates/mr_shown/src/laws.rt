@@ -2,9 +2,9 @@
 ghost use Rattle.std.specs.Prelude.{◌≡◌, ◌≤◌, ℕ, List, length, Some};
 ghost use Rattle.std.specs.Str.{chars, encode_utf8_all};
 ghost use Rattle.hex.specs.Hex.{IsBytes};
-ghost use Rattle.mr_format.specs.Data.{data_of, shown_data};
-ghost use Rattle.mr_format.specs.Format.{most_data};
-ghost use Rattle.mr_format.specs.declared.format.Format.{Format};
+ghost use Rattle.mr_shown.specs.Data.{data_of, shown_data};
+ghost use Rattle.mr_shown.specs.Format.{most_data};
+ghost use Rattle.mr_shown.specs.declared.format.Format.{Format};
 
 /// The text that shows data stands for it, in either format.
 pub fn shown_data_is_read_back()

@@ -1,7 +1,7 @@
 use Rattle.std.proofs.Common.{arith, rules}
 use Rattle.std.proofs.lemmas.Grind.{common_steps}
-use Rattle.mr_format.proofs.CharacterLemmas.{first_point, text_after, no_point}
-use Rattle.mr_format.proofs.characters.bytes_of_characters.Goals as goal
+use Rattle.mr_shown.proofs.CharacterLemmas.{first_point, text_after, no_point}
+use Rattle.mr_shown.proofs.characters.bytes_of_characters.Goals as goal
 
 pub overflow_cast-from : goal.overflow_cast-from
 overflow_cast-from c =
