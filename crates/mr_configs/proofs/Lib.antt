@@ -1,5 +1,6 @@
 pub mod CheckingLemmas
 pub mod ConfigLemmas
+pub mod DigestLemmas
 pub mod FieldLemmas
 pub mod MatchLemmas
 pub mod PoolLemmas

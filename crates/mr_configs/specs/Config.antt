@@ -1,5 +1,5 @@
 -- The configuration that a JSON value is.
-use Rattle.std.specs.Prelude.{◌≡◌, ℕ, ◌⊎◌, List, [], ◌∷◌, if◌then◌else◌, Option, Some, None, Result, Ok, Err, ok_or, codes}
+use Rattle.std.specs.Prelude.{◌≡◌, ℕ, ◌<◌, ◌⊎◌, List, [], ◌∷◌, length, if◌then◌else◌, Option, Some, None, Result, Ok, Err, ok_or, codes}
 use Rattle.std.specs.Str.{bytes_eq, IsUtf8}
 use Rattle.serde_json.specs.Data.{Data}
 use Rattle.serde_json.specs.Find.{get, as_str}
@@ -65,10 +65,11 @@ config_of value =
 abbrev pub IsJson : List ℕ → Data → Type 0
 IsJson bytes value = IsUtf8 bytes × (read bytes ≡ Some value)
 
--- why the bytes have no value: they are no JSON text, unless memory was refused
+-- Why the bytes have no value: they are no JSON text, or memory was refused. Whether a text is JSON is known only once it was
+-- read, which takes memory; before that it is known whether the bytes are UTF-8, and whether there are any.
 abbrev pub IsNoJson : List ℕ → PlanError → Type 0
 IsNoJson bytes NotJson = (value : Data) → ¬ IsJson bytes value
-IsNoJson bytes refusal = refusal ≡ OutOfMemory
+IsNoJson bytes refusal = (refusal ≡ OutOfMemory) × IsUtf8 bytes × (0 < length bytes)
 
 -- why the value is no configuration: its first refusal, or want of memory where it has none
 abbrev pub RefusesConfig : Data → PlanError → Type 0

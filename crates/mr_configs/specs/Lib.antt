@@ -3,6 +3,7 @@ pub mod ChainDraft
 pub mod Checking
 pub mod Config
 pub mod Defaults
+pub mod Digest
 pub mod Draft
 pub mod Fields
 pub mod MigrationDraft

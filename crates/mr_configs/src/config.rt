@@ -1,6 +1,8 @@
 //! Configurations: where keys are kept, and when each migration is.
-ghost use Rattle.std.specs.Prelude.{◌≡◌, ◌<◌, true, Ok, Err, IfOk, IfErr, length, map, codes};
+ghost use Rattle.std.specs.Prelude.{◌≡◌, ◌<◌, ◌≤◌, true, Ok, Err, IfOk, IfErr, length, map, codes};
+ghost use Rattle.serde_json.specs.Data.{depth as nesting};
 ghost use Rattle.serde_json.specs.Find.{get};
+ghost use Rattle.serde_json.specs.Read.{max_depth};
 ghost use Rattle.serde_json.specs.View.{view};
 ghost use Rattle.mr_pools.specs.Limits.{most_pools};
 ghost use Rattle.mr_pools.specs.Routing.{routing_between, routing_onto, StandsApart};
@@ -154,12 +156,17 @@ impl<'a> Draft<'a> {
     }
 }
 
-/// The value of a JSON text in UTF-8.
+/// The value of a JSON text in UTF-8. Bytes that are none, or not UTF-8, are NotJson before any memory is taken; of others
+/// reading them tells NotJson, or OutOfMemory where memory for that is refused.
 pub fn json_of(alloc: Global, bytes: &[u8]) -> Result<Value, PlanError>
     ensures value { IfOk result (λ value. IsJson bytes.now (view value)) }
+    ensures nests { IfOk result (λ value. nesting (view value) ≤ max_depth) }
     ensures refused { IfErr result (λ e. IsNoJson bytes.now e) }
 {
-    match Value::from_slice(alloc, bytes) {
+    let Ok(text) = str::from_utf8(bytes) else {
+        return Err(PlanError::NotJson);
+    };
+    match Value::from_str(alloc, text) {
         Ok(value) => Ok(value),
         Err(error) if error.is_memory() => Err(PlanError::OutOfMemory),
         Err(_) => Err(PlanError::NotJson),

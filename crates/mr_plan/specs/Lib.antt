@@ -8,8 +8,8 @@ pub use Rattle.mr_configs.specs.PlanError
 pub use Rattle.mr_configs.specs.Pools
 pub use Rattle.mr_configs.specs.Route
 pub use Rattle.mr_configs.specs.Timeline
-pub use Rattle.mr_format.specs.Data
-pub use Rattle.mr_format.specs.Format
+pub use Rattle.mr_shown.specs.Data
+pub use Rattle.mr_shown.specs.Format
 pub use Rattle.mr_scripts.specs.EventDraft
 pub use Rattle.mr_scripts.specs.Events
 pub use Rattle.mr_scripts.specs.Homes

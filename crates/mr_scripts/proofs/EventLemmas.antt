@@ -6,7 +6,7 @@ use Rattle.std.specs.Result.{result_err}
 use Rattle.std.specs.Prelude.{IsOk, is_ok}
 use Rattle.serde_json.specs.Data.{Data}
 use Rattle.mr_world.specs.declared.event.Event.{Event}
-use Rattle.mr_format.specs.declared.format.Format.{Format}
+use Rattle.mr_shown.specs.declared.format.Format.{Format}
 use Rattle.mr_configs.specs.Checking.{◌>>=◌}
 use Rattle.mr_scripts.specs.Events.{event_of, event_at, events_of}
 use Rattle.mr_configs.specs.declared.error.PlanError.{PlanError}

@@ -11,7 +11,7 @@ use Rattle.mr_world.specs.Setup.{SetupView}
 use Rattle.mr_world.specs.declared.error.WorldError.TheVariants.{NoSuchNode}
 use Rattle.mr_world.specs.declared.setup.HeldItem.{HeldItem}
 use Rattle.mr_world.specs.declared.setup.ProxySetup.{ProxySetup}
-use Rattle.mr_format.specs.declared.format.Format.{Format}
+use Rattle.mr_shown.specs.declared.format.Format.{Format}
 use Rattle.mr_configs.specs.Chain.{Migration, Chain, chain_at, chain_with, pools_of, schedule_of}
 use Rattle.mr_configs.specs.Checking.{◌>>=◌, only_if}
 use Rattle.mr_configs.specs.Config.{ConfigView, config_of, config_keys, routing_of, hash_of}

@@ -7,7 +7,7 @@ use Rattle.serde_json.specs.View.{view}
 use Rattle.mr_world.specs.Setup.{SetupView}
 use Rattle.serde_json.specs.declared.value.Value.{Value}
 use Rattle.mr_world.specs.declared.event.Event.{Event}
-use Rattle.mr_format.specs.declared.format.Format.{Format}
+use Rattle.mr_shown.specs.declared.format.Format.{Format}
 use Rattle.mr_configs.specs.Checking.{◌>>=◌}
 use Rattle.mr_configs.specs.Config.{ConfigView}
 use Rattle.mr_scripts.specs.Events.{events_of}

@@ -9,10 +9,10 @@ use Rattle.serde_json.specs.Read.{max_depth, read}
 use Rattle.serde_json.specs.View.{view}
 use Rattle.serde_json.specs.Written.{has_float, compact_text}
 use Rattle.serde_json.proofs.Nesting.{depth-read}
-use Rattle.mr_format.specs.Data.{data_of}
-use Rattle.mr_format.specs.declared.format.Format.{Format}
-use Rattle.mr_format.specs.declared.format.Format.TheVariants.{One, Two}
-use Rattle.mr_format.proofs.DataLemmas.{data_is_bytes, read_back}
+use Rattle.mr_shown.specs.Data.{data_of}
+use Rattle.mr_shown.specs.declared.format.Format.{Format}
+use Rattle.mr_shown.specs.declared.format.Format.TheVariants.{One, Two}
+use Rattle.mr_shown.proofs.DataLemmas.{data_is_bytes, read_back}
 use Rattle.mr_text.specs.declared.request.Request.{Request}
 use Rattle.mr_text.specs.declared.request.Request.TheVariants.{Set}
 use Rattle.mr_world.specs.Setup.{SetupView}

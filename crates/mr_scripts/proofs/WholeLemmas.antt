@@ -10,7 +10,7 @@ use Rattle.mr_text.specs.declared.request.Request.{Request}
 use Rattle.mr_world.specs.declared.event.Event.{Event}
 use Rattle.mr_world.specs.declared.event.Event.TheVariants.{Return, GiveUp, NodeRestart, ProxyRestart}
 use Rattle.mr_phases.specs.Schedule.{most_hops}
-use Rattle.mr_format.specs.declared.format.Format.{Format}
+use Rattle.mr_shown.specs.declared.format.Format.{Format}
 use Rattle.mr_configs.specs.Chain.{Chain, schedule_of}
 use Rattle.mr_configs.specs.Checking.{◌>>=◌, only_if}
 use Rattle.mr_configs.specs.Config.{ConfigView, IsJson, config_of, config_keys, hash_of}

@@ -1,7 +1,7 @@
 -- A block whose text was looked at, and which is yet to be made.
 use Rattle.std.specs.Prelude.{◌≡◌, ℕ, List, [], Ok, unwrap_or}
 use Rattle.std.specs.Str.{chars}
-use Rattle.mr_format.specs.Data.{data_of}
+use Rattle.mr_shown.specs.Data.{data_of}
 use Rattle.mr_scripts.specs.Texts.{block_of_text}
 use Rattle.mr_scripts.specs.declared.blocks.BlockDraft.{BlockDraft}
 

@@ -5,7 +5,7 @@ use Rattle.serde_json.specs.Data.{Data}
 use Rattle.mr_history.specs.declared.op_id.OpId.{OpId}
 use Rattle.mr_world.specs.declared.event.Event.{Event}
 use Rattle.mr_world.specs.declared.event.Event.TheVariants.{Clock, Client, Deliver, Return, GiveUp, NodeRestart, ProxyRestart}
-use Rattle.mr_format.specs.declared.format.Format.{Format}
+use Rattle.mr_shown.specs.declared.format.Format.{Format}
 use Rattle.mr_configs.specs.Checking.{◌>>=◌}
 use Rattle.mr_configs.specs.Fields.{Text, object_check, field, whole_number, text_of, list_of}
 use Rattle.mr_scripts.specs.Numbers.{small_number}

@@ -7,7 +7,7 @@ use Rattle.mr_text.specs.Key.{get_line_length}
 use Rattle.mr_text.specs.Limits.{MAX_LINE}
 use Rattle.mr_text.specs.declared.request.Request.{Request}
 use Rattle.mr_text.specs.declared.request.Request.TheVariants.{Get, Set, Delete}
-use Rattle.mr_format.specs.declared.format.Format.{Format}
+use Rattle.mr_shown.specs.declared.format.Format.{Format}
 use Rattle.mr_configs.specs.Checking.{◌>>=◌}
 use Rattle.mr_configs.specs.Fields.{Text, object_check, field, text_of, list_of}
 use Rattle.mr_scripts.specs.Numbers.{small_number, signed_whole_number, flag_of}

@@ -5,8 +5,8 @@ use Rattle.serde_json.specs.Data.{Data}
 use Rattle.serde_json.specs.View.{view}
 use Rattle.serde_json.specs.Written.{has_float}
 use Rattle.serde_json.specs.declared.value.Value.{Value}
-use Rattle.mr_format.specs.Format.{format_of}
-use Rattle.mr_format.specs.declared.format.Format.{Format}
+use Rattle.mr_shown.specs.Format.{format_of}
+use Rattle.mr_shown.specs.declared.format.Format.{Format}
 use Rattle.mr_world.specs.Setup.{SetupView, CanBeMade}
 use Rattle.mr_world.specs.declared.event.Event.{Event}
 use Rattle.mr_configs.specs.Checking.{◌>>=◌, only_if}

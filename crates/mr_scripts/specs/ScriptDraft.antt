@@ -3,7 +3,7 @@ use Rattle.std.specs.Prelude.{List, length, map, IsOk, Result, Ok}
 use Rattle.serde_json.specs.Data.{Data}
 use Rattle.serde_json.specs.View.{view}
 use Rattle.mr_world.specs.Setup.{SetupView}
-use Rattle.mr_format.specs.declared.format.Format.{Format}
+use Rattle.mr_shown.specs.declared.format.Format.{Format}
 use Rattle.mr_configs.specs.Checking.{◌>>=◌}
 use Rattle.mr_scripts.specs.Events.{events_of}
 use Rattle.mr_configs.specs.Fields.{list_of}

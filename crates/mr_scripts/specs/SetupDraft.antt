@@ -6,7 +6,7 @@ use Rattle.serde_json.specs.View.{view}
 use Rattle.mr_world.specs.Setup.{SetupView}
 use Rattle.mr_world.specs.declared.setup.HeldItem.{HeldItem}
 use Rattle.mr_world.specs.declared.setup.ProxySetup.{ProxySetup}
-use Rattle.mr_format.specs.declared.format.Format.{Format}
+use Rattle.mr_shown.specs.declared.format.Format.{Format}
 use Rattle.mr_configs.specs.Checking.{◌>>=◌}
 use Rattle.mr_configs.specs.Config.{ConfigView}
 use Rattle.mr_configs.specs.Draft.{config_drafted, IsConfigReady}

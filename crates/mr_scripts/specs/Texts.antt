@@ -4,8 +4,8 @@ use Rattle.std.specs.List.{list_all}
 use Rattle.std.specs.Str.{chars}
 use Rattle.serde_json.specs.Data.{Data}
 use Rattle.mr_text.specs.Key.{key_test}
-use Rattle.mr_format.specs.Data.{data_of, is_byte}
-use Rattle.mr_format.specs.declared.format.Format.{Format}
+use Rattle.mr_shown.specs.Data.{data_of, is_byte}
+use Rattle.mr_shown.specs.declared.format.Format.{Format}
 use Rattle.mr_configs.specs.Checking.{◌>>=◌}
 use Rattle.mr_configs.specs.Fields.{Text, text_of}
 use Rattle.mr_configs.specs.Pools.{is_node_name}

@@ -5,9 +5,9 @@ use Rattle.serde_json.specs.Data.{Data, number, string, array, object, unsigned,
 use Rattle.serde_json.specs.Find.{get, as_str}
 use Rattle.serde_json.specs.View.{items_of}
 use Rattle.serde_json.specs.Written.{compact_text}
-use Rattle.mr_format.specs.Data.{data_of, shown_data}
-use Rattle.mr_format.specs.declared.format.Format.{Format}
-use Rattle.mr_format.specs.declared.format.Format.TheVariants.{One, Two}
+use Rattle.mr_shown.specs.Data.{data_of, shown_data}
+use Rattle.mr_shown.specs.declared.format.Format.{Format}
+use Rattle.mr_shown.specs.declared.format.Format.TheVariants.{One, Two}
 use Rattle.mr_configs.specs.Config.{IsJson}
 use Rattle.mr_configs.specs.Fields.{Text, values_in}
 use Rattle.mr_configs.specs.declared.error.PlanError.{PlanError}

@@ -6,7 +6,7 @@ ghost use Rattle.mr_scripts.specs.Texts.{block_of};
 
 use mr_configs::PlanError;
 use mr_configs::fields::text;
-use mr_format::{Format, bytes_of_data, is_data};
+use mr_shown::{Format, bytes_of_data, is_data};
 use mr_text::{Block, TextError};
 use serde_json::Value;
 use std::alloc::{AllocError, Global};

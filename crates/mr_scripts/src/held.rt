@@ -11,7 +11,7 @@ use crate::numbers::small_number;
 use crate::texts::{key_text, make_key};
 use mr_configs::PlanError;
 use mr_configs::fields::{check_object, field};
-use mr_format::Format;
+use mr_shown::Format;
 use mr_world::HeldItem;
 use serde_json::Value;
 use std::alloc::{AllocError, Global};

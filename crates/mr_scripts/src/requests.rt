@@ -11,7 +11,7 @@ use crate::numbers::{flag, signed_whole_number, small_number};
 use crate::texts::{key_text, length_of, make_key};
 use mr_configs::PlanError;
 use mr_configs::fields::{check_object, field, list, text};
-use mr_format::Format;
+use mr_shown::Format;
 use mr_text::{Key, KeyList, MAX_LINE, Request};
 use serde_json::Value;
 use std::alloc::{AllocError, Global};

@@ -14,7 +14,7 @@ use crate::setups::{SetupDraft, setup_draft};
 use mr_configs::fields::{check_object, field, list, whole_number};
 use mr_configs::laws::configurations_match;
 use mr_configs::{PlanError, json_of};
-use mr_format::Format;
+use mr_shown::Format;
 use mr_world::{Event, Setup};
 use serde_json::Value;
 use std::alloc::{AllocError, Global};

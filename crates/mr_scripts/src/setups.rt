@@ -11,7 +11,7 @@ use crate::homes::{are_housed, have_room};
 use crate::proxies::{check_proxies, make_proxies};
 use mr_configs::fields::{check_object, field, list, whole_number};
 use mr_configs::{Draft, PlanError, draft_of};
-use mr_format::Format;
+use mr_shown::Format;
 use mr_world::{Setup, WorldError};
 use serde_json::Value;
 use std::alloc::{AllocError, Global};

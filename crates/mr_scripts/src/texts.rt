@@ -8,7 +8,7 @@ ghost use Rattle.mr_scripts.specs.Texts.{key_of_text, key_of};
 
 use mr_configs::PlanError;
 use mr_configs::fields::text;
-use mr_format::{are_bytes, bytes_of_characters};
+use mr_shown::{are_bytes, bytes_of_characters};
 use mr_text::{Key, MAX_KEY, TextError};
 use serde_json::Value;
 use std::alloc::{AllocError, Global};

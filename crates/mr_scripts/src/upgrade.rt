@@ -7,7 +7,7 @@ use crate::limits::MAX_SCRIPT;
 use crate::members::{says_at, with_member, without_member};
 use crate::script::read_events;
 use mr_configs::PlanError;
-use mr_format::{Format, bytes_of_data, is_data, text_of_data};
+use mr_shown::{Format, bytes_of_data, is_data, text_of_data};
 use serde_json::Value;
 use std::alloc::{AllocError, Global};
 

@@ -1,3 +1,5 @@
+pub mod Data
+pub mod Format
 pub mod Objects
 pub mod Shown
 pub mod Verdict

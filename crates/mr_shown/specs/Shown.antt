@@ -4,8 +4,8 @@ use Rattle.std.specs.Str.{encode_utf8_all}
 use Rattle.serde_json.specs.Data.{Data, boolean, number, string, array, object, unsigned, Items, no_items, item, no_members, member}
 use Rattle.serde_json.specs.Find.{of_integer}
 use Rattle.serde_json.specs.View.{items_of}
-use Rattle.mr_format.specs.Data.{shown_data}
-use Rattle.mr_format.specs.declared.format.Format.{Format}
+use Rattle.mr_shown.specs.Data.{shown_data}
+use Rattle.mr_shown.specs.declared.format.Format.{Format}
 use Rattle.mr_text.specs.CauseText.{text_of_cause}
 use Rattle.mr_text.specs.declared.item.Item.{Item}
 use Rattle.mr_text.specs.declared.reply.Reply.{Reply}

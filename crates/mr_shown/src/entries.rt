@@ -5,10 +5,10 @@ ghost use Rattle.serde_json.specs.View.{view};
 ghost use Rattle.mr_shown.specs.Shown.{entry_json, entries_json};
 
 use crate::arrays::{Shown, array_of};
+use crate::format::Format;
 use crate::objects::{Part, object_of, object_with};
 use crate::replies::reply_value;
 use crate::requests::request_value;
-use mr_format::Format;
 use mr_history::Entry;
 use serde_json::Value;
 use std::alloc::{AllocError, Global};

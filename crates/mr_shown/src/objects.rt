@@ -5,8 +5,8 @@ ghost use Rattle.serde_json.specs.View.{view, members_view};
 ghost use Rattle.mr_shown.specs.Objects.{part_json, members_json};
 
 use crate::arrays::array_of;
+use crate::format::Format;
 use crate::parts::{author_value, bytes_value, data_value, op_value};
-use mr_format::Format;
 use mr_history::{Author, OpId};
 use mr_text::Key;
 use serde_json::{Map, Value, put};

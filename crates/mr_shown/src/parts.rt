@@ -4,7 +4,8 @@ ghost use Rattle.serde_json.specs.View.{view};
 ghost use Rattle.mr_shown.specs.Shown.{author_json, bytes_json, data_json, number_json, op_json};
 
 use crate::arrays::{Shown, array_of};
-use mr_format::{Format, text_of_data};
+use crate::data::text_of_data;
+use crate::format::Format;
 use mr_history::{Author, OpId};
 use mr_text::Key;
 use serde_json::Value;

@@ -4,8 +4,8 @@ ghost use Rattle.serde_json.specs.View.{view};
 ghost use Rattle.mr_shown.specs.Shown.{item_json, reply_json};
 
 use crate::arrays::{Shown, array_of};
+use crate::format::Format;
 use crate::objects::{Part, object_of, object_with};
-use mr_format::Format;
 use mr_text::{Item, Reply};
 use serde_json::Value;
 use std::alloc::{AllocError, Global};

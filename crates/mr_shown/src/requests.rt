@@ -3,8 +3,8 @@ ghost use Rattle.std.specs.Prelude.{◌≡◌, IfOk};
 ghost use Rattle.serde_json.specs.View.{view};
 ghost use Rattle.mr_shown.specs.Shown.{request_json};
 
+use crate::format::Format;
 use crate::objects::{Part, object_of};
-use mr_format::Format;
 use mr_text::Request;
 use serde_json::Value;
 use std::alloc::{AllocError, Global};

@@ -1,6 +1,6 @@
 //! The digest of a configuration of a row.
 use crate::words::Words;
-use mr_digest::{DigestFault, config_digest};
+use mr_configs::{PlanError, config_digest};
 use std::alloc::Global;
 use std::test::Fail;
 
@@ -9,7 +9,7 @@ pub fn told_of_digest(alloc: Global, words: &mut Words<'_>) -> Result<Vec<u8>, F
     let config = words.bytes(alloc)?;
     match config_digest(alloc, config.as_slice()) {
         Ok(digest) => Ok(digest.into_bytes()),
-        Err(DigestFault::NotJson) => Ok(Vec::from_slice(alloc, b"not JSON\n")?),
-        Err(DigestFault::OutOfMemory) => Err(Fail::from("there is memory for a digest")),
+        Err(PlanError::NotJson) => Ok(Vec::from_slice(alloc, b"not JSON\n")?),
+        Err(_) => Err(Fail::from("there is memory for a digest")),
     }
 }

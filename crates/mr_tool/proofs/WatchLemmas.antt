@@ -1,6 +1,6 @@
 -- What the steps of the command `watch` say of the whole.
 use Rattle.std.proofs.Common.{◌≡◌, ℕ, Bool, List, Result, Ok, Err, IsErrAnd, refl, inl, inr}
-use Rattle.mr_digest.specs.Digest.{IsDigest}
+use Rattle.mr_configs.specs.Digest.{IsDigest}
 use Rattle.mr_looks.specs.Watch.{WatchesConfig, fleet_of}
 use Rattle.mr_looks.specs.WatchText.{manner_of}
 use Rattle.mr_printing.specs.declared.printing.PrintFault.{PrintFault}

@@ -1,7 +1,7 @@
 -- What the command `watch` does.
 use Rattle.std.specs.Prelude.{◌≡◌, ℕ, ◌⊎◌, Bool, true, false, List, Result, Ok, Err}
 use Rattle.mr_configs.specs.Config.{ConfigView}
-use Rattle.mr_digest.specs.Digest.{IsDigest}
+use Rattle.mr_configs.specs.Digest.{IsDigest}
 use Rattle.mr_looks.specs.Watch.{WatchesConfig, fleet_of}
 use Rattle.mr_looks.specs.WatchText.{manner_of}
 use Rattle.mr_printing.specs.declared.printing.PrintFault.{PrintFault}

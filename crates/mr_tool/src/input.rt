@@ -1,7 +1,7 @@
 //! What a command reads before it does anything: the bytes that it is given, its configuration, its request.
 ghost use Rattle.std.specs.Prelude.{◌≡◌, ◌+◌, ◌<◌, ◌≤◌, ℕ, false, List, ◌++◌, IfOk, IfErr, vec_len};
 ghost use Rattle.std.specs.String.{string_bytes};
-ghost use Rattle.mr_digest.specs.Digest.{IsDigest};
+ghost use Rattle.mr_configs.specs.Digest.{IsDigest};
 ghost use Rattle.mr_text.specs.Sink.{SinkView};
 ghost use Rattle.mr_text.specs.Stream.{Becomes};
 ghost use Rattle.mr_tool.specs.Devices.{devices};
@@ -11,8 +11,7 @@ ghost use Rattle.mr_words.specs.Words.{path_in};
 
 use crate::fault::Fault;
 use crate::sources::{MOST_LOADED, Sources, load_bytes};
-use mr_configs::{Config, PlanError};
-use mr_digest::config_digest;
+use mr_configs::{Config, PlanError, config_digest};
 use mr_text::{MAX_BLOCK, MAX_LINE, Request, RequestReader, Source, TextError};
 use std::alloc::Global;
 use std::marker::Model;

@@ -2,7 +2,7 @@
 use Rattle.std.proofs.Common.{rules, ◌≡◌, ℕ, Bool, true, false, List, [], ◌∷◌, length, take, Some, None, refl, sym, ap, ◌∙◌, ◌↔◌, subst, if◌then◌else◌}
 use Rattle.std.specs.Prelude.{codes, Option}
 use Rattle.serde_json.specs.Data.{Data, array}
-use Rattle.mr_format.specs.declared.format.Format.{Format}
+use Rattle.mr_shown.specs.declared.format.Format.{Format}
 use Rattle.mr_history.specs.declared.entry.Entry.{Entry}
 use Rattle.mr_history.specs.History.{IsSafe}
 use Rattle.mr_world.specs.Headline.{AllHold, PremisesHold}

@@ -2,7 +2,7 @@
 use Rattle.std.specs.Prelude.{◌≡◌, List, Bool, true, false, ◌&&◌, if◌then◌else◌, Option, Some, None, option_map, unwrap_or, codes}
 use Rattle.serde_json.specs.Data.{Data, array}
 use Rattle.serde_json.specs.Find.{get}
-use Rattle.mr_format.specs.declared.format.Format.{Format}
+use Rattle.mr_shown.specs.declared.format.Format.{Format}
 use Rattle.mr_history.specs.declared.entry.Entry.{Entry}
 use Rattle.mr_history.specs.History.{IsSafe}
 use Rattle.mr_world.specs.Headline.{AllHold, PremisesHold}

@@ -2,7 +2,7 @@
 use Rattle.std.specs.Prelude.{◌≡◌, ℕ, ◌+◌, ◌<◌, ◌≤◌, List, length, Some, None, codes}
 use Rattle.serde_json.specs.Data.{Data, array, object, put}
 use Rattle.serde_json.specs.Written.{compact_text}
-use Rattle.mr_format.specs.declared.format.Format.{Format}
+use Rattle.mr_shown.specs.declared.format.Format.{Format}
 use Rattle.mr_history.specs.declared.entry.Entry.{Entry}
 use Rattle.mr_world.specs.Premises.{premises_of}
 use Rattle.mr_world.specs.Setup.{SetupView}
@@ -45,7 +45,9 @@ pub record IsTranscript (format : Format) (script : Data) (setup : SetupView) (e
   pub text_is : text ≡ transcript_text format script notes world verdict
   pub fits : length text + 1 ≤ most_bytes
 
--- why there is no transcript: the first event that is refused, or else a text that is too large
+-- Why there is no transcript: the first event that is refused, or else a text that is too large; or memory was refused. A play
+-- takes memory from its beginning on, to make its fleet, so want of memory may come of any script; whether an event is refused,
+-- and how long the text is, is known only of what was played.
 abbrev pub RefusesTranscript : Format → Data → SetupView → List Event → PlanError → Type 0
 RefusesTranscript format script setup events (EventRefused index refusal) =
     (notes : List Note) × (world : WorldView) × IsPlay setup events notes world (Some (record { index = index; refusal = refusal }))

@@ -11,9 +11,8 @@ ghost use Rattle.mr_configs.specs.declared.error.PlanError.TheVariants.{OutOfMem
 use crate::play::play_events;
 use mr_configs::fields::{check_object, field};
 use mr_configs::{PlanError, json_of};
-use mr_format::Format;
 use mr_scripts::{MAX_SCRIPT, is_same, read_parts};
-use mr_shown::{KeptVerdict, history_value, notes_value, premises_value, verdict_value};
+use mr_shown::{Format, KeptVerdict, history_value, notes_value, premises_value, verdict_value};
 use mr_world::laws::runs_decide_premises;
 use mr_world::{Event, Note, Premises, Setup, World};
 use serde_json::Value;

@@ -3,9 +3,9 @@ ghost use Rattle.std.specs.Prelude.{◌≡◌, ◌-◌, ◌↔◌, IsTrue};
 ghost use Rattle.serde_json.specs.View.{view};
 ghost use Rattle.mr_transcripts.specs.steps.Least.{blocks_length, blocks_of_entry, blocks_of_history, filling_data, HasLongHistory};
 
-use mr_format::Format;
 use mr_history::Entry;
 use mr_scripts::MAX_SCRIPT;
+use mr_shown::Format;
 use mr_text::{Item, Reply};
 use serde_json::Value;
 

@@ -9,9 +9,8 @@ ghost use Rattle.mr_transcripts.specs.Transcript.{with_outcome, transcript_text,
 use crate::least::has_long_history;
 use crate::play::play_events;
 use mr_configs::PlanError;
-use mr_format::Format;
 use mr_scripts::{MAX_SCRIPT, Script};
-use mr_shown::{KeptVerdict, history_value, notes_value, premises_value, verdict_value};
+use mr_shown::{Format, KeptVerdict, history_value, notes_value, premises_value, verdict_value};
 use mr_world::{Event, Note, Setup, World};
 use serde_json::{Value, put};
 use std::alloc::{AllocError, Global};

@@ -1,8 +1,8 @@
 -- How long the text of a transcript is at least.
 use Rattle.std.specs.Prelude.{ℕ, ◌/◌, ◌≤◌, List, length, sum_by}
 use Rattle.serde_json.specs.Data.{Data, object}
-use Rattle.mr_format.specs.declared.format.Format.{Format}
-use Rattle.mr_format.specs.declared.format.Format.TheVariants.{One, Two}
+use Rattle.mr_shown.specs.declared.format.Format.{Format}
+use Rattle.mr_shown.specs.declared.format.Format.TheVariants.{One, Two}
 use Rattle.mr_text.specs.declared.item.Item.{Item}
 use Rattle.mr_text.specs.declared.reply.Reply.{Reply}
 use Rattle.mr_text.specs.declared.reply.Reply.TheVariants.{Items}

@@ -1,5 +1,5 @@
 use Rattle.std.proofs.Common.{rules}
-use Rattle.mr_format.proofs.CharacterLemmas.{first_point, text_after, no_point}
+use Rattle.mr_shown.proofs.CharacterLemmas.{first_point, text_after, no_point}
 use Rattle.mr_scripts.proofs.texts.are_key_bytes.Goals as goal
 use Rattle.mr_scripts.proofs.texts.are_key_bytes.Goals.{then-point-le32-via-then-point-le32, then-point-le32-via-else-point-le32+then-point-eq127}
 

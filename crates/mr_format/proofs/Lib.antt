@@ -1,2 +1,0 @@
-pub mod CharacterLemmas
-pub mod DataLemmas
