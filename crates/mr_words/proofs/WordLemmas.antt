@@ -65,6 +65,20 @@ pub number_missing : (text : Option (List ℕ))
     → (word : List ℕ) (number : ℕ) → text ≡ Some word → IsNumberWord word number → ⊥
 number_missing text unread word number is number_is = unread word is (number_is.digits, rw (← number_is.value) number_is.fits)
 
+-- the number under a name, and that there is none
+pub number_found_in : (name : Text) (rows : List Row) (text : Option Text) (number : ℕ) → text ≡ one_of name rows → (text ≡ None → Some number ≡ None)
+    → ((t : List ℕ) → text ≡ Some t
+    → (IsNumeral 10 (without_leading_plus t) × (digits_value 10 (without_leading_plus t) < 2 ^ 64)) × (number ≡ digits_value 10 (without_leading_plus t)))
+    → IsNumberIn name rows number
+number_found_in name rows text number is none value =
+    let read = number_read text number none value in
+    record { word = read.0; is_row = sym is ∙ read.1; is_number = read.2 }
+
+pub no_number_in : (name : Text) (rows : List Row) (text : Option Text) → text ≡ one_of name rows
+    → ((t : List ℕ) → text ≡ Some t → ¬ (IsNumeral 10 (without_leading_plus t) × (digits_value 10 (without_leading_plus t) < 2 ^ 64)))
+    → (number : ℕ) → ¬ IsNumberIn name rows number
+no_number_in name rows text is unread number has = number_missing text unread has.word number (is ∙ has.is_row) has.is_number
+
 -- what std's `parse` says of a text that it reads
 abbrev IsNumeral64 : List ℕ → Type 0
 IsNumeral64 text = IsNumeral 10 (without_leading_plus text) × (digits_value 10 (without_leading_plus text) < 2 ^ 64)
@@ -215,6 +229,17 @@ same_hash Sum Sum e = refl
 same_hash Fnv Fnv e = refl
 same_hash Sum Fnv e = cc
 same_hash Fnv Sum e = cc
+
+-- the hash that a word names, and that it names none
+pub hash_named : (text : Option Text) (word : Text) (hash : Option NamedHash) → Some word ≡ text → IfSome hash (λ h. word ≡ name_of_hash h)
+    → IfSome hash (λ h. text ≡ Some (name_of_hash h))
+hash_named text word None is named = tt
+hash_named text word (Some h) is named = sym is ∙ ap (λ (t : Text). Some t) named
+
+pub no_hash_named : (text : Option Text) (word : Text) (hash : Option NamedHash) → Some word ≡ text
+    → IfNone hash ((h : NamedHash) → ¬ (word ≡ name_of_hash h)) → IfNone hash ((h : NamedHash) → ¬ (text ≡ Some (name_of_hash h)))
+no_hash_named text word (Some h) is unknown = tt
+no_hash_named text word None is unknown = λ h has. unknown h (same_inside word (name_of_hash h) text (sym is) has)
 
 -- rows hold one of the two forms of a plan, and one plan
 same_planned : (rows : List Row) (read values : Planned) (at same : ℕ) → HasPlanned rows read at → HasPlanned rows values same

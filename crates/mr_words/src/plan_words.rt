@@ -1,5 +1,5 @@
 //! The words of the command that plans a request: a configuration's file and a second, or a migration of six words.
-ghost use Rattle.std.specs.Prelude.{◌≡◌, ◌↔◌, ℕ, Some, false, IsTrue, IfOk, IfSome, IfNone, codes};
+ghost use Rattle.std.specs.Prelude.{◌≡◌, ◌↔◌, ℕ, None, Some, false, IsTrue, IfOk, IfSome, IfNone, codes};
 ghost use Rattle.clap.specs.Words.{Text, app_of, first_of, found_of, rows_of, rule_of};
 ghost use Rattle.mr_pools.specs.Hash.{name_of_hash};
 ghost use Rattle.mr_words.specs.Command.{at_rule, plan_app, planned_file_rule, said_number_rule, said_rule};
@@ -10,6 +10,9 @@ use crate::options::{option, with_option};
 use clap::{Arg, ArgAction, ArgMatches, Command, value_parser};
 use mr_pools::NamedHash;
 use std::alloc::{AllocError, Global};
+
+/// What help says of the second of a plan, in both of its forms.
+const AT_HELP: &str = "When the request arrives, in seconds since the epoch";
 
 /// A migration as the words of a plan say it.
 #[derive(Clone, Copy, Debug)]
@@ -57,12 +60,7 @@ fn at_option<'a>(alloc: Global) -> Arg<'a>
     ensures rule { rule_of result ≡ at_rule }
     ensures local { result.global ≡ false }
 {
-    let at = option(
-        alloc,
-        "at",
-        "seconds",
-        "When the request arrives, in seconds since the epoch",
-    );
+    let at = option(alloc, "at", "seconds", AT_HELP);
     at.value_parser(value_parser!(u64))
 }
 
@@ -90,24 +88,28 @@ fn said_number<'a>(alloc: Global, name: &'a str, shown: &'a str, help: &'a str) 
 pub fn plan_command<'a>(alloc: Global) -> Result<Command<'a>, AllocError>
     ensures { IfOk result (λ command. app_of command ≡ plan_app) }
 {
+    let old = "The nodes of the old pool, with commas between them";
+    let old = said(alloc, "old", "old", old);
+    let new = "The nodes of the new pool, with commas between them";
+    let new = said(alloc, "new", "new", new);
+    let start = "When the migration begins, in seconds since the epoch";
+    let start = said_number(alloc, "start", "start", start);
+    let interval = "How long each of its two middle phases lasts, in seconds";
+    let interval = said_number(alloc, "interval", "interval", interval);
+    let hash = said(alloc, "hash", "hash", "How keys are placed: sum or fnv1a32");
+    let second = said_number(alloc, "second", "at", AT_HELP);
     let plan = Command::new(alloc, "plan")
         .about("Prints where the request on the standard input goes")
         .override_usage(PLAN_USAGE)
         .after_help(PLAN_NOTES);
     let plan = with_option(Ok(plan), file_option(alloc));
     let plan = with_option(plan, at_option(alloc));
-    let old = "The nodes of the old pool, with commas between them";
-    let plan = with_option(plan, said(alloc, "old", "old", old));
-    let new = "The nodes of the new pool, with commas between them";
-    let plan = with_option(plan, said(alloc, "new", "new", new));
-    let start = "When the migration begins, in seconds since the epoch";
-    let plan = with_option(plan, said_number(alloc, "start", "start", start));
-    let interval = "How long each of its two middle phases lasts, in seconds";
-    let plan = with_option(plan, said_number(alloc, "interval", "interval", interval));
-    let hash = "How keys are placed: sum or fnv1a32";
-    let plan = with_option(plan, said(alloc, "hash", "hash", hash));
-    let second = "When the request arrives, in seconds since the epoch";
-    with_option(plan, said_number(alloc, "second", "at", second))
+    let plan = with_option(plan, old);
+    let plan = with_option(plan, new);
+    let plan = with_option(plan, start);
+    let plan = with_option(plan, interval);
+    let plan = with_option(plan, hash);
+    with_option(plan, second)
 }
 
 /// The text that the words give to an option, or to a word of their own.
@@ -122,7 +124,10 @@ fn number_in(matches: &ArgMatches, name: &str) -> Option<u64>
     ensures found { IfSome result (IsNumberIn name.now (rows_of (found_of matches.now))) }
     ensures missing { IfNone result ((number : ℕ) → ¬ IsNumberIn name.now (rows_of (found_of matches.now)) number) }
 {
-    matches.get_one(name)
+    match matches.get_one(name) {
+        Some(number) => Some(number),
+        None => None,
+    }
 }
 
 /// The hash that the words name. It is none where they name none, or another one.

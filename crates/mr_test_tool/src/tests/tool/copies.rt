@@ -33,7 +33,11 @@ fn expect_timeline(rt: &impl Abort, values: &TimelineValues) {
 
 /// Asserts what a watch is of.
 fn expect_watch(rt: &impl Abort, values: &WatchValues) {
-    is(rt, (values.config, values.once, values.json), ("fleet.json", true, false));
+    is(
+        rt,
+        (values.config, values.once, values.json),
+        ("fleet.json", true, false),
+    );
     is(rt, values.addresses(), ["a:1", "b:2"].as_slice());
 }
 

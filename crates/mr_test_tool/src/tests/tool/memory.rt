@@ -16,16 +16,26 @@ use std::process::Abort;
 
 const PLAN: &[&str] = &["plan", "--config", "fleet.json", "--at", "1000"];
 
-const SIX_WORDS: &[&str] = &["plan", "7001,7002", "7101,7102,7103", "1000", "100", "sum", "999"];
+const SIX_WORDS: &[&str] = &[
+    "plan",
+    "7001,7002",
+    "7101,7102,7103",
+    "1000",
+    "100",
+    "sum",
+    "999",
+];
 
 #[test]
 fn refused_memory_reads_words_later(rt: HostRuntime) {
     let read = at_last!(&rt, read_words(rt.alloc(), PLAN), Err(WordsFault::Memory));
     match must(&rt, read) {
-        Wanted::Plan(PlanValues {
-            planned: Planned::InFile(path),
-            at,
-        }) => is(&rt, (path, at), ("fleet.json", 1000)),
+        Wanted::Plan(
+            PlanValues {
+                planned: Planned::InFile(path),
+                at,
+            },
+        ) => is(&rt, (path, at), ("fleet.json", 1000)),
         _ => rt.panic("another command"),
     }
 }
@@ -39,12 +49,18 @@ fn expect_migration(rt: &impl Abort, words: &MigrationWords) {
 
 #[test]
 fn refused_memory_reads_six_words_later(rt: HostRuntime) {
-    let read = at_last!(&rt, read_words(rt.alloc(), SIX_WORDS), Err(WordsFault::Memory));
+    let read = at_last!(
+        &rt,
+        read_words(rt.alloc(), SIX_WORDS),
+        Err(WordsFault::Memory)
+    );
     match must(&rt, read) {
-        Wanted::Plan(PlanValues {
-            planned: Planned::InWords(words),
-            at,
-        }) => {
+        Wanted::Plan(
+            PlanValues {
+                planned: Planned::InWords(words),
+                at,
+            },
+        ) => {
             expect_migration(&rt, &words);
             is(&rt, at, 999);
         }

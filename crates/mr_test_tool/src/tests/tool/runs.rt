@@ -30,7 +30,15 @@ static ROWS: [Row; 21] = [
         Left::Wrote(b"phase both-read-old at 1000\nleg 0 old 7002\nleg 1 new 7103\n"),
     ),
     (
-        &["plan", "7001,7002", "7101,7102,7103", "1000", "100", "sum", "1000"],
+        &[
+            "plan",
+            "7001,7002",
+            "7101,7102,7103",
+            "1000",
+            "100",
+            "sum",
+            "1000",
+        ],
         b"delete k\r\n",
         0,
         Left::Wrote(b"phase both-read-old at 1000\nleg 0 old 7002\nleg 1 new 7103\n"),
