@@ -1,19 +1,19 @@
 -- That the six words which plainly say a plan are read as it.
-use Rattle.std.proofs.Common.{◌≡◌, ◌∙◌, ap, ap₂, refl, sym, subst, arith, List, [], ◌∷◌, None, Some, false, true, ℕ, codes}
+use Rattle.std.proofs.Common.{◌≡◌, ◌∙◌, ap, refl, sym, subst, suc, List, [], ◌∷◌, Some, ℕ, codes}
+use Rattle.std.specs.Prelude.{fold}
 use Rattle.clap.proofs.OnLiterals.{clap_on_literals}
-use Rattle.clap.specs.Faults.{walk_fault, turn_fault, settle_fault, defaults_fault, check_fault, level_fault}
-use Rattle.clap.specs.Kinds.{Kinds, or_else, values_kinds}
+use Rattle.clap.specs.Faults.{walk_fault, turn_fault}
+use Rattle.clap.specs.Kinds.{Kinds, or_else}
 use Rattle.clap.specs.Simple.{Shape, built_leaf, inherited, marked_built, with_leaf_noted}
-use Rattle.clap.specs.ValueTests.{accepts}
-use Rattle.clap.specs.Walk.{Held, Walk, walk, walked, walk_from, nothing_held, settled, finished, idle}
+use Rattle.clap.specs.Walk.{Held, Walk, walked, nothing_held, settled, finished, idle}
 use Rattle.clap.specs.Words.{Row, Text, fault_of, subcommand_of}
 use Rattle.mr_pools.specs.Hash.{name_of_hash}
 use Rattle.mr_pools.specs.declared.hash.NamedHash.{NamedHash}
 use Rattle.mr_pools.specs.declared.hash.NamedHash.TheVariants.{Sum, Fnv}
 use Rattle.mr_words.proofs.PlainPlan.{IsTakenNumber, number_is_taken, value_taken}
-use Rattle.mr_words.proofs.PlainWalk.{IsPlainWord, Leads, no_words, plain_word, word_step, no_word_left}
-use Rattle.mr_words.specs.Command.{numbers, program_app, plan_app}
-use Rattle.mr_words.specs.Words.{IsNoOption, Say, SaysSixWords}
+use Rattle.mr_words.proofs.PlainWalk.{IsPlainWord, IsWalked, Leads, after_walk, all_walked, no_words, plain_word, word_step}
+use Rattle.mr_words.specs.Command.{program_app, plan_app}
+use Rattle.mr_words.specs.Words.{Say, SaysSixWords}
 use Rattle.mr_words.specs.declared.plan_words.MigrationWords.{MigrationWords}
 use Rattle.mr_words.specs.declared.plan_words.Planned.TheVariants.{InWords}
 use Rattle.mr_words.specs.declared.words.Wanted.TheVariants.{Plan}
@@ -30,50 +30,51 @@ held_after h name word = record (settled leaf.rules h) { pending = Some (name, w
 abbrev before : ℕ → Held → Walk
 before place h = record { held = h; waiting = idle; position = place; is_trailing = false; stopped = None }
 
+-- what is held after each of the six
+abbrev held_1 : Text → Held
+held_1 old = held_after nothing_held (codes "old") old
+
+abbrev held_2 : Text → Text → Held
+held_2 old new = held_after (held_1 old) (codes "new") new
+
+abbrev held_3 : Text → Text → Text → Held
+held_3 old new start = held_after (held_2 old new) (codes "start") start
+
+abbrev held_4 : Text → Text → Text → Text → Held
+held_4 old new start interval = held_after (held_3 old new start) (codes "interval") interval
+
+abbrev held_5 : Text → Text → Text → Text → Text → Held
+held_5 old new start interval hash = held_after (held_4 old new start interval) (codes "hash") hash
+
+abbrev held_6 : Text → Text → Text → Text → Text → Text → Held
+held_6 old new start interval hash at = held_after (held_5 old new start interval hash) (codes "second") at
+
 module _ (old new start interval hash at : Text) (old_plain : IsPlainWord old) (new_plain : IsPlainWord new) (start_is : IsTakenNumber start)
     (interval_is : IsTakenNumber interval) (hash_plain : IsPlainWord hash) (at_is : IsTakenNumber at) where
   abbrev words : List Text
   words = old ∷ new ∷ start ∷ interval ∷ hash ∷ at ∷ []
 
-  abbrev held_1 : Held
-  held_1 = held_after nothing_held (codes "old") old
-
-  abbrev held_2 : Held
-  held_2 = held_after held_1 (codes "new") new
-
-  abbrev held_3 : Held
-  held_3 = held_after held_2 (codes "start") start
-
-  abbrev held_4 : Held
-  held_4 = held_after held_3 (codes "interval") interval
-
-  abbrev held_5 : Held
-  held_5 = held_after held_4 (codes "hash") hash
-
-  abbrev held_6 : Held
-  held_6 = held_after held_5 (codes "second") at
-
-  old_walked : walked leaf.rules [] (before 1 nothing_held) old ≡ before 2 held_1
+  old_walked : walked leaf.rules [] (before 1 nothing_held) old ≡ before 2 (held_1 old)
   unfolding clap_on_literals
   old_walked = rw (old_plain.dashes, old_plain.long, old_plain.short) refl
 
-  new_walked : walked leaf.rules [] (before 2 held_1) new ≡ before 3 held_2
+  new_walked : walked leaf.rules [] (before 2 (held_1 old)) new ≡ before 3 (held_2 old new)
   unfolding clap_on_literals
   new_walked = rw (new_plain.dashes, new_plain.long, new_plain.short) refl
 
-  start_walked : walked leaf.rules [] (before 3 held_2) start ≡ before 4 held_3
+  start_walked : walked leaf.rules [] (before 3 (held_2 old new)) start ≡ before 4 (held_3 old new start)
   unfolding clap_on_literals
   start_walked = rw (start_is.plain.dashes, start_is.plain.long, start_is.plain.short) refl
 
-  interval_walked : walked leaf.rules [] (before 4 held_3) interval ≡ before 5 held_4
+  interval_walked : walked leaf.rules [] (before 4 (held_3 old new start)) interval ≡ before 5 (held_4 old new start interval)
   unfolding clap_on_literals
   interval_walked = rw (interval_is.plain.dashes, interval_is.plain.long, interval_is.plain.short) refl
 
-  hash_walked : walked leaf.rules [] (before 5 held_4) hash ≡ before 6 held_5
+  hash_walked : walked leaf.rules [] (before 5 (held_4 old new start interval)) hash ≡ before 6 (held_5 old new start interval hash)
   unfolding clap_on_literals
   hash_walked = rw (hash_plain.dashes, hash_plain.long, hash_plain.short) refl
 
-  at_walked : walked leaf.rules [] (before 6 held_5) at ≡ before 7 held_6
+  at_walked : walked leaf.rules [] (before 6 (held_5 old new start interval hash)) at ≡ before 7 (held_6 old new start interval hash at)
   unfolding clap_on_literals
   at_walked = rw (at_is.plain.dashes, at_is.plain.long, at_is.plain.short) refl
 
@@ -81,23 +82,23 @@ module _ (old new start interval hash at : Text) (old_plain : IsPlainWord old) (
   unfolding clap_on_literals
   old_turn = rw (old_plain.dashes, old_plain.long, old_plain.short) refl
 
-  new_turn : turn_fault leaf [] (before 2 held_1) new ≡ []
+  new_turn : turn_fault leaf [] (before 2 (held_1 old)) new ≡ []
   unfolding clap_on_literals
   new_turn = rw (new_plain.dashes, new_plain.long, new_plain.short) refl
 
-  start_turn : turn_fault leaf [] (before 3 held_2) start ≡ []
+  start_turn : turn_fault leaf [] (before 3 (held_2 old new)) start ≡ []
   unfolding clap_on_literals
   start_turn = rw (start_is.plain.dashes, start_is.plain.long, start_is.plain.short) refl
 
-  interval_turn : turn_fault leaf [] (before 4 held_3) interval ≡ []
+  interval_turn : turn_fault leaf [] (before 4 (held_3 old new start)) interval ≡ []
   unfolding clap_on_literals
   interval_turn = rw (interval_is.plain.dashes, interval_is.plain.long, interval_is.plain.short, value_taken start start_is.accepted) refl
 
-  hash_turn : turn_fault leaf [] (before 5 held_4) hash ≡ []
+  hash_turn : turn_fault leaf [] (before 5 (held_4 old new start interval)) hash ≡ []
   unfolding clap_on_literals
   hash_turn = rw (hash_plain.dashes, hash_plain.long, hash_plain.short, value_taken interval interval_is.accepted) refl
 
-  at_turn : turn_fault leaf [] (before 6 held_5) at ≡ []
+  at_turn : turn_fault leaf [] (before 6 (held_5 old new start interval hash)) at ≡ []
   unfolding clap_on_literals
   at_turn = rw (at_is.plain.dashes, at_is.plain.long, at_is.plain.short) refl
 
@@ -110,27 +111,27 @@ module _ (old new start interval hash at : Text) (old_plain : IsPlainWord old) (
     taken = word_step leaf (before place h) word rest none ∙ (ap (λ (w : Walk). walk_fault leaf [] w rest) is ∙ more.taken);
   }
 
-  all_lead : Leads leaf (before 1 nothing_held) words (before 7 held_6)
+  all_lead : Leads leaf (before 1 nothing_held) words (before 7 (held_6 old new start interval hash at))
   all_lead =
       word_before 1 _ _ old _ _ old_walked old_turn
       (word_before 2 _ _ new _ _ new_walked new_turn
       (word_before 3 _ _ start _ _ start_walked start_turn
       (word_before 4 _ _ interval _ _ interval_walked interval_turn
       (word_before 5 _ _ hash _ _ hash_walked hash_turn
-      (word_before 6 _ _ at _ _ at_walked at_turn (no_words leaf (before 7 held_6)))))))
+      (word_before 6 _ _ at _ _ at_walked at_turn (no_words leaf (before 7 (held_6 old new start interval hash at))))))))
 
-  end_taken : after_walk leaf (before 7 held_6) ≡ []
+  end_taken : after_walk leaf (before 7 (held_6 old new start interval hash at)) ≡ []
   unfolding clap_on_literals
   end_taken = ap (λ (kinds : Kinds). or_else kinds []) (value_taken at at_is.accepted)
 
-  all_taken : IsWalked leaf words (before 7 held_6)
-  all_taken = all_walked leaf words (before 7 held_6) all_lead end_taken
+  all_taken : IsWalked leaf words (before 7 (held_6 old new start interval hash at))
+  all_taken = all_walked leaf words (before 7 (held_6 old new start interval hash at)) all_lead end_taken
 
   words_taken : fault_of program_app (codes "plan" ∷ words) ≡ []
   unfolding clap_on_literals
   words_taken = ap (λ (below : Kinds). or_else below []) all_taken.fits
 
-  rows_found : subcommand_of program_app (codes "plan" ∷ words) ≡ Some (codes "plan", finished leaf.rules held_6)
+  rows_found : subcommand_of program_app (codes "plan" ∷ words) ≡ Some (codes "plan", finished leaf.rules (held_6 old new start interval hash at))
   unfolding clap_on_literals
   rows_found = ap (λ (w : Walk). Some (codes "plan", finished leaf.rules w.held)) all_taken.ends
 
