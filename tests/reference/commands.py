@@ -57,10 +57,17 @@ def encoded(lines):
     return [line.encode() for line in lines]
 
 
+def planned(words, files):
+    """The configuration of a plan and its second: those of two options, or those of six words."""
+    if words[0].startswith("--"):
+        chosen = options(words)
+        return configs.read_config(load(files, chosen["--config"])), int(chosen["--at"])
+    old, new, start, interval, name, at = words
+    return configs.read_words(old, new, int(start), int(interval), name), int(at)
+
+
 def plan(words, files, stdin):
-    chosen = options(words)
-    at = int(chosen["--at"])
-    config = configs.read_config(load(files, chosen["--config"]))
+    config, at = planned(words, files)
     request = text.first_request(stdin)
     legs = []
     if not isinstance(request, text.Quit):

@@ -6,7 +6,7 @@ from typing import List, NamedTuple
 
 from . import fields, json_text, refusals
 from .phases import MOST_HOPS, Hop, Schedule
-from .pools import HASHES, Routing, are_pool
+from .pools import HASHES, MOST_NODES, Routing, are_pool, is_node_name
 
 POINTER = "PoolRoute|"
 USUAL_INTERVAL = 3600
@@ -27,6 +27,31 @@ class Chain(NamedTuple):
 def read_config(data):
     fields.check_size(data)
     return config_of(json_text.read(data))
+
+
+def read_words(old, new, start, interval, name):
+    """The configuration of one migration that words say: the names of two pools with commas between them, a start, an interval and the
+    name of a hash. Written from docs/FORMATS.md, "A migration in six words"."""
+    routing = Routing((said_pool(old), said_pool(new)), name)
+    if not routing.is_apart():
+        raise refusals.pools("SharedName")
+    hop = Hop(start, interval)
+    if hop.interval == 0:
+        raise refusals.phases("ZeroInterval")
+    if not hop.is_possible():
+        raise refusals.phases("TooLate")
+    return Config(routing, Schedule((hop,)))
+
+
+def said_pool(word):
+    names = tuple(word.split(","))
+    if not all(map(is_node_name, names)):
+        raise refusals.pools("BadName")
+    if len(names) > MOST_NODES:
+        raise refusals.pools("TooManyNodes")
+    if not are_pool(names):
+        raise refusals.pools("RepeatedName")
+    return names
 
 
 def config_of(value):

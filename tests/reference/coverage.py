@@ -155,7 +155,7 @@ EXPECTED = {
     "drawn": [
         "file",
         "migctl: words --readings",
-        *(line_of("text", name) for name in NUMBERS["text"]),
+        *(line_of(layer, name) for layer in ("text", "pools", "phases") for name in NUMBERS[layer]),
         *CONFIG_LINES,
         *(f"{what}: {line_of('plan', name)}" for what in ("script", "transcript") for name in SCRIPT_REFUSALS),
         f"script: {line_of('plan', 'EventRefused')}",

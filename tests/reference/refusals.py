@@ -5,6 +5,8 @@ a text alone never comes to aren't here.
 NUMBERS = {
     "text": {"LineTooLong": 1, "BadKey": 2, "BadNumber": 3, "WrongWords": 4, "DataTooLong": 5, "BadDataEnd": 6,
              "UnknownCommand": 7, "Truncated": 8},
+    "pools": {"TooManyNodes": 2, "BadName": 3, "RepeatedName": 4, "SharedName": 5},
+    "phases": {"ZeroInterval": 1, "TooLate": 2},
     "plan": {"NotJson": 1, "WrongKind": 2, "MissingKey": 3, "UnknownKey": 4, "BadPool": 5, "BadRoute": 6, "BadSchedule": 7,
              "BadHash": 8, "BadSetup": 9, "BadEvent": 10, "TooLarge": 11, "EventRefused": 12},
 }
@@ -33,3 +35,11 @@ def text(name):
 
 def plan(name):
     return Refusal("plan", name)
+
+
+def pools(name):
+    return Refusal("pools", name)
+
+
+def phases(name):
+    return Refusal("phases", name)

@@ -10,6 +10,7 @@ ghost use Rattle.mr_configs.specs.Config.{hash_of, config_of, IsConfig, IsJson, 
 ghost use Rattle.mr_configs.specs.Draft.{config_drafted, IsConfigReady};
 ghost use Rattle.mr_configs.specs.MigrationDraft.{migration_drafted, IsPoolReady, IsMigrationReady};
 ghost use Rattle.mr_configs.specs.Pools.{names_in, stand_apart};
+ghost use Rattle.mr_proxy.specs.Sheets.{HaveAsManyHops};
 
 use crate::chain::ChainDraft;
 use crate::error::PlanError;
@@ -149,10 +150,7 @@ impl<'a> Draft<'a> {
         ensures { IfOk result (λ config. config ≡ config_drafted self.now) }
     {
         let routing = self.make_routing(alloc)?;
-        let schedule = self.schedule;
-        let is_matched = routing.hops() == schedule.hops();
-        prove!(is_matched);
-        Ok(Config { routing, schedule })
+        Ok(Config::new(routing, self.schedule))
     }
 }
 
@@ -174,6 +172,16 @@ pub fn json_of(alloc: Global, bytes: &[u8]) -> Result<Value, PlanError>
 }
 
 impl Config {
+    /// The configuration of these parts: hop j of the schedule moves from pool j of the routing to pool j + 1.
+    pub fn new(routing: Routing, schedule: Schedule) -> Config
+        requires { HaveAsManyHops routing schedule }
+        ensures { result ≡ record { routing = routing; schedule = schedule } }
+    {
+        let is_matched = routing.hops() == schedule.hops();
+        prove!(is_matched);
+        Config { routing, schedule }
+    }
+
     /// The configuration that a JSON text is. Refusals, in this order: NotJson; WrongKind where the whole is no object;
     /// UnknownKey, MissingKey; those of the pools, in the order of their names; those of the route, of which each object is
     /// looked at where it stands; BadSchedule, from the innermost migration on; BadHash; BadPool where a node stands in two pools

@@ -8,14 +8,15 @@ use Rattle.mr_words.specs.Explain.{Told, told_by}
 use Rattle.mr_tool.specs.ExplainCommand.{ExplainGives}
 use Rattle.mr_tool.specs.Input.{most_reads, IsGiven, IsNotGiven, FailsWhole, TakesWhole, most_taken}
 use Rattle.mr_tool.specs.GivenText.{Makes, PrintsOf, RefusalOfBytes}
-use Rattle.mr_tool.specs.PlanCommand.{PlanGives}
+use Rattle.mr_configs.specs.Config.{ConfigView}
+use Rattle.mr_tool.specs.PlanCommand.{GivesPlan, PlanGives}
 use Rattle.mr_tool.specs.TimelineCommand.{TimelineGives}
 use Rattle.mr_tool.specs.Run.{EndsWith, Gives, ReadsFew, Runs, RunsCommand, most_reads_of, reads_without}
 use Rattle.mr_words.specs.Words.{AgreesWith, path_in}
 use Rattle.mr_tool.specs.declared.ended.Ended.{Ended}
 use Rattle.mr_tool.specs.declared.ended.Ended.TheVariants.{Done, NotAccepted, Faulted}
 use Rattle.mr_tool.specs.declared.fault.Fault.{Fault}
-use Rattle.mr_tool.specs.declared.fault.Fault.TheVariants.{Memory, Input, Output, File, Net, Plan, Node, Text}
+use Rattle.mr_tool.specs.declared.fault.Fault.TheVariants.{Memory, Input, Output, File, Net, Plan, Pools, Phases, Node, Text}
 use Rattle.mr_tool.specs.Services.{NodeGives, ProxyGives}
 use Rattle.mr_tool.specs.WatchCommand.{WatchGives}
 use Rattle.mr_servers.specs.Servers.{ServersView}
@@ -23,7 +24,7 @@ use Rattle.mr_servers.specs.declared.screen.Screen.{Screen}
 use Rattle.mr_words.specs.declared.service_words.NodeValues.{NodeValues}
 use Rattle.mr_words.specs.declared.service_words.ProxyValues.{ProxyValues}
 use Rattle.mr_words.specs.declared.watch_words.WatchValues.{WatchValues}
-use Rattle.mr_words.specs.declared.words.PlanValues.{PlanValues}
+use Rattle.mr_words.specs.declared.plan_words.PlanValues.{PlanValues}
 use Rattle.mr_words.specs.declared.words.TimelineValues.{TimelineValues}
 use Rattle.mr_words.specs.declared.words.Wanted.{Wanted}
 use Rattle.mr_words.specs.declared.words.Wanted.TheVariants as wanted
@@ -31,20 +32,27 @@ use Rattle.mr_words.specs.declared.words.Wanted.TheVariants as wanted
 unread : (before after : SourceView) (most : ℕ) → after ≡ before → after.reads ≤ before.reads + most
 unread before after most same = let as_many : after.reads ≡ before.reads = ap (λ (s : SourceView). s.reads) same in omega arith
 
-plan_reads : (plan : PlanValues) (before after : Devices) (result : Result Ended Fault) → PlanGives plan before after result
+given_plan_reads : (config : ConfigView) (at : ℕ) (before after : Devices) (result : Result Ended Fault) → GivesPlan config at before after result
     → after.input.reads ≤ before.input.reads + most_reads
-plan_reads plan before after (Ok Done) h = few_reads before.input after.input (Ok h.request) h.read.read
-plan_reads plan before after (Ok NotAccepted) h = absurd h
-plan_reads plan before after (Ok Faulted) h = absurd h
-plan_reads plan before after (Err Output) h = few_reads before.input after.input (Ok h.1.request) h.1.read.read
-plan_reads plan before after (Err (File line)) h = unread _ _ _ h.unread
-plan_reads plan before after (Err (Plan refusal)) h = unread _ _ _ h.unread
-plan_reads plan before after (Err Input) h = few_reads before.input after.input (Err Input) h.read.read
-plan_reads plan before after (Err (Text refusal)) h = few_reads before.input after.input (Err (Text refusal)) h.read.read
-plan_reads plan before after (Err (Net line)) h = absurd h
-plan_reads plan before after (Err (Node refusal)) h = absurd h
-plan_reads plan before after (Err Memory) (inl h) = unread _ _ _ h.unread
-plan_reads plan before after (Err Memory) (inr h) = few_reads before.input after.input (Ok h.request) h.read.read
+given_plan_reads config at before after (Ok Done) h = few_reads before.input after.input (Ok h.request) h.read
+given_plan_reads config at before after (Ok NotAccepted) h = absurd h
+given_plan_reads config at before after (Ok Faulted) h = absurd h
+given_plan_reads config at before after (Err Output) h = few_reads before.input after.input (Ok h.1.request) h.1.read
+given_plan_reads config at before after (Err Input) h = few_reads before.input after.input (Err Input) h.read
+given_plan_reads config at before after (Err (Text refusal)) h = few_reads before.input after.input (Err (Text refusal)) h.read
+given_plan_reads config at before after (Err Memory) h = few_reads before.input after.input (Ok h.request) h.read
+given_plan_reads config at before after (Err (File line)) h = absurd h
+given_plan_reads config at before after (Err (Net line)) h = absurd h
+given_plan_reads config at before after (Err (Plan refusal)) h = absurd h
+given_plan_reads config at before after (Err (Pools refusal)) h = absurd h
+given_plan_reads config at before after (Err (Phases refusal)) h = absurd h
+given_plan_reads config at before after (Err (Node refusal)) h = absurd h
+
+plan_reads : (values : PlanValues) (before after : Devices) (result : Result Ended Fault) → PlanGives values before after result
+    → after.input.reads ≤ before.input.reads + most_reads
+plan_reads values before after (Ok ended) h = given_plan_reads h.0 values.at before after (Ok ended) h.1.gives
+plan_reads values before after (Err fault) (inl h) = unread _ _ _ h.unread
+plan_reads values before after (Err fault) (inr h) = given_plan_reads h.0 values.at before after (Err fault) h.1.gives
 
 timeline_reads : (timeline : TimelineValues) (before after : Devices) (result : Result Ended Fault) → TimelineGives timeline before after result
     → after.input.reads ≤ before.input.reads + 0
@@ -57,6 +65,8 @@ timeline_reads timeline before after (Err (Plan refusal)) h = unread _ _ _ h.unr
 timeline_reads timeline before after (Err Input) h = absurd h
 timeline_reads timeline before after (Err (Text refusal)) h = absurd h
 timeline_reads timeline before after (Err (Net line)) h = absurd h
+timeline_reads timeline before after (Err (Pools refusal)) h = absurd h
+timeline_reads timeline before after (Err (Phases refusal)) h = absurd h
 timeline_reads timeline before after (Err (Node refusal)) h = absurd h
 timeline_reads timeline before after (Err Memory) (inl h) = unread _ _ _ h.unread
 timeline_reads timeline before after (Err Memory) (inr h) = unread _ _ _ h.unread
@@ -73,6 +83,8 @@ failed_reads (File line) before after h = absurd h
 failed_reads (Plan refusal) before after h = absurd h
 failed_reads (Text refusal) before after h = absurd h
 failed_reads (Net line) before after h = absurd h
+failed_reads (Pools refusal) before after h = absurd h
+failed_reads (Phases refusal) before after h = absurd h
 failed_reads (Node refusal) before after h = absurd h
 
 given_reads : (file : Option (List ℕ)) (bytes : List ℕ) (before after : Devices) → IsGiven file bytes before after
@@ -96,6 +108,8 @@ text_reads makes refuses file before after (Err Memory) (inl h) = not_given_read
 text_reads makes refuses file before after (Err Memory) (inr h) = given_reads file _ before after h.given
 text_reads makes refuses file before after (Err (Text refusal)) h = absurd h
 text_reads makes refuses file before after (Err (Net line)) h = absurd h
+text_reads makes refuses file before after (Err (Pools refusal)) h = absurd h
+text_reads makes refuses file before after (Err (Phases refusal)) h = absurd h
 text_reads makes refuses file before after (Err (Node refusal)) h = absurd h
 
 explain_reads : (told : Told) (before after : Devices) (result : Result Ended Fault) → ExplainGives told before after result
@@ -110,11 +124,15 @@ explain_reads told before after (Err (Plan refusal)) h = absurd h
 explain_reads told before after (Err Input) h = absurd h
 explain_reads told before after (Err (Text refusal)) h = absurd h
 explain_reads told before after (Err (Net line)) h = absurd h
+explain_reads told before after (Err (Pools refusal)) h = absurd h
+explain_reads told before after (Err (Phases refusal)) h = absurd h
 explain_reads told before after (Err (Node refusal)) h = absurd h
 
 node_reads : (values : NodeValues) (before after : Devices) (idle busy : ServersView) (result : Result Ended Fault) → NodeGives values before after idle busy result
     → after.input.reads ≤ before.input.reads + 0
 node_reads values before after idle busy (Ok ended) h = unread _ _ _ h.unread
+node_reads values before after idle busy (Err (Pools refusal)) h = unread _ _ _ h.unread
+node_reads values before after idle busy (Err (Phases refusal)) h = unread _ _ _ h.unread
 node_reads values before after idle busy (Err (Node refusal)) h = unread _ _ _ (ap (λ (d : Devices). d.input) h.1)
 node_reads values before after idle busy (Err Memory) h = unread _ _ _ h.unread
 node_reads values before after idle busy (Err Input) h = unread _ _ _ (ap (λ (d : Devices). d.input) h.1)
@@ -135,6 +153,8 @@ proxy_reads values before after idle busy (Err Memory) (inr (inr h)) = unread _ 
 proxy_reads values before after idle busy (Err Input) h = unread _ _ _ h.has.unread
 proxy_reads values before after idle busy (Err Output) h = unread _ _ _ h.has.unread
 proxy_reads values before after idle busy (Err (Net line)) h = unread _ _ _ h.has.unread
+proxy_reads values before after idle busy (Err (Pools refusal)) h = unread _ _ _ h.has.unread
+proxy_reads values before after idle busy (Err (Phases refusal)) h = unread _ _ _ h.has.unread
 proxy_reads values before after idle busy (Err (Node refusal)) h = unread _ _ _ h.has.unread
 proxy_reads values before after idle busy (Err (Text refusal)) h = unread _ _ _ h.has.unread
 
@@ -149,6 +169,8 @@ watch_reads values screen before after (Err Memory) (inr (inl h)) = unread _ _ _
 watch_reads values screen before after (Err Memory) (inr (inr h)) = unread _ _ _ h.unread
 watch_reads values screen before after (Err Input) h = absurd h
 watch_reads values screen before after (Err (Net line)) h = unread _ _ _ h.unread
+watch_reads values screen before after (Err (Pools refusal)) h = absurd h
+watch_reads values screen before after (Err (Phases refusal)) h = absurd h
 watch_reads values screen before after (Err (Node refusal)) h = absurd h
 watch_reads values screen before after (Err (Text refusal)) h = absurd h
 

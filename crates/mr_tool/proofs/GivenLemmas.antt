@@ -10,7 +10,7 @@ use Rattle.mr_tool.specs.Fault.{fault_of_printing}
 use Rattle.mr_tool.specs.declared.ended.Ended.{Ended}
 use Rattle.mr_tool.specs.declared.fault.Fault.{Fault}
 use Rattle.mr_printing.specs.declared.printing.PrintFault.{PrintFault}
-use Rattle.mr_tool.specs.declared.fault.Fault.TheVariants.{Memory, Input, Output, File, Net, Plan, Node, Text}
+use Rattle.mr_tool.specs.declared.fault.Fault.TheVariants.{Memory, Input, Output, File, Net, Plan, Pools, Phases, Node, Text}
 
 not_given : (makes : Makes) (refuses : RefusalOfBytes) (file : Option (List ℕ)) (fault : Fault) (before after : Devices) → IsNotGiven file fault before after
     → after.output ≡ before.output → PrintsOf makes refuses file before after (Err fault)
@@ -23,6 +23,10 @@ not_given makes refuses (Some path) (Plan refusal) before after lacks unwritten 
 not_given makes refuses None (Plan refusal) before after lacks unwritten = absurd lacks.0
 not_given makes refuses (Some path) (Net line) before after lacks unwritten = absurd lacks.0
 not_given makes refuses None (Net line) before after lacks unwritten = absurd lacks.0
+not_given makes refuses (Some path) (Pools refusal) before after lacks unwritten = absurd lacks.0
+not_given makes refuses None (Pools refusal) before after lacks unwritten = absurd lacks.0
+not_given makes refuses (Some path) (Phases refusal) before after lacks unwritten = absurd lacks.0
+not_given makes refuses None (Phases refusal) before after lacks unwritten = absurd lacks.0
 not_given makes refuses (Some path) (Node refusal) before after lacks unwritten = absurd lacks.0
 not_given makes refuses None (Node refusal) before after lacks unwritten = absurd lacks.0
 not_given makes refuses (Some path) (Text refusal) before after lacks unwritten = absurd lacks.0
@@ -47,6 +51,8 @@ not_made makes refuses file bytes Input before after given fault unwritten = abs
 not_made makes refuses file bytes Output before after given fault unwritten = absurd fault
 not_made makes refuses file bytes (File line) before after given fault unwritten = absurd fault
 not_made makes refuses file bytes (Net line) before after given fault unwritten = absurd fault
+not_made makes refuses file bytes (Pools refusal) before after given fault unwritten = absurd fault
+not_made makes refuses file bytes (Phases refusal) before after given fault unwritten = absurd fault
 not_made makes refuses file bytes (Node refusal) before after given fault unwritten = absurd fault
 not_made makes refuses file bytes (Text refusal) before after given fault unwritten = absurd fault
 

@@ -6,3 +6,5 @@ pub mod RequestLemmas
 pub mod RunLemmas
 pub mod WatchLemmas
 pub mod WholeRun
+pub mod PlanLemmas
+pub mod PlannedLemmas

@@ -13,16 +13,19 @@ use Rattle.mr_tool.specs.GivenText.{Makes, WritesText}
 use Rattle.mr_words.specs.declared.service_words.NodeValues.{NodeValues}
 use Rattle.mr_words.specs.declared.service_words.ProxyValues.{ProxyValues}
 use Rattle.mr_words.specs.declared.watch_words.WatchValues.{WatchValues}
-use Rattle.mr_words.specs.declared.words.PlanValues.{PlanValues}
+use Rattle.mr_words.specs.declared.plan_words.PlanValues.{PlanValues}
+use Rattle.mr_words.specs.declared.plan_words.Planned.{Planned}
+use Rattle.mr_words.specs.declared.plan_words.Planned.TheVariants.{InFile, InWords}
 use Rattle.mr_words.specs.declared.words.TimelineValues.{TimelineValues}
 use Rattle.mr_words.specs.declared.words.Wanted.{Wanted}
 use Rattle.mr_words.specs.declared.words.Wanted.TheVariants as wanted
 use Rattle.mr_tool.specs.Devices.{Devices, devices, IsToldAtOnce, Tells, NoneFailed}
 use Rattle.mr_words.specs.Explain.{Told, told_by}
 use Rattle.mr_tool.specs.ExplainCommand.{WritesExplanation}
-use Rattle.mr_tool.specs.PlanCommand.{WritesPlan}
+use Rattle.mr_tool.specs.PlanCommand.{PlansBy}
+use Rattle.mr_tool.specs.PlannedConfig.{PlansConfig}
 use Rattle.mr_tool.specs.TimelineCommand.{WritesTimeline}
-use Rattle.mr_tool.specs.Run.{Gives, EndsWith, RunsCommand, Runs}
+use Rattle.mr_tool.specs.Run.{Gives, EndsWith, RunsCommand, RunsNothing, Runs, TellsWrongWords}
 use Rattle.mr_tool.specs.Services.{EndsService, NodeGives, ProxyGives, RunsService}
 use Rattle.mr_servers.specs.Servers.{Asked, IsOneService, ServersView, clients_of, places_of}
 use Rattle.mr_servers.specs.declared.screen.Screen.{Screen}
@@ -41,11 +44,17 @@ config_steady : (path : List ℕ) (before after : SourcesView) (config : ConfigV
     → after.failures ≡ before.failures
 config_steady path before after config h = h.1.gives.3
 
-plan_steady : (plan : PlanValues) (before between : Devices) → WritesPlan plan before between (Ok tt) → between.faults ≡ before.faults → NoneFailed before between
-plan_steady plan before between h silent = record {
-  sources = config_steady plan.config.now before.sources between.sources h.config h.read.loaded;
-  input = h.read.read.steady;
-  output = h.writes.0.steady;
+planned_steady : (planned : Planned) (before after : SourcesView) (config : ConfigView) → PlansConfig planned before (Ok config) after
+    → after.failures ≡ before.failures
+planned_steady (InFile path) before after config h = config_steady path.now before after config h
+planned_steady (InWords words) before after config h = ap (λ (s : SourcesView). s.failures) h.1
+
+plan_steady : (values : PlanValues) (config : ConfigView) (before between : Devices) → PlansBy values config before between (Ok Done)
+    → between.faults ≡ before.faults → NoneFailed before between
+plan_steady values config before between h silent = record {
+  sources = planned_steady values.planned before.sources between.sources config h.had;
+  input = h.gives.read.steady;
+  output = h.gives.writes.0.steady;
   faults = ap (λ (s : SinkView). s.failures) silent;
 }
 
@@ -143,9 +152,9 @@ watch_steady values screen ended before between h silent = record {
 
 command_steady : (wanted : Wanted) (ended : Ended) (before between : Devices) (idle busy : ServersView) → Gives wanted before between idle busy (Ok ended)
     → between.faults ≡ before.faults → AllSteady before between idle busy
-command_steady (wanted.Plan values) Done before between idle busy h silent = idle_steady _ _ _ _ (plan_steady values before between h.0 silent) h.1
-command_steady (wanted.Plan values) NotAccepted before between idle busy h silent = absurd h.0
-command_steady (wanted.Plan values) Faulted before between idle busy h silent = absurd h.0
+command_steady (wanted.Plan values) Done before between idle busy h silent = idle_steady _ _ _ _ (plan_steady values h.0.0 before between h.0.1 silent) h.1
+command_steady (wanted.Plan values) NotAccepted before between idle busy h silent = absurd h.0.1.gives
+command_steady (wanted.Plan values) Faulted before between idle busy h silent = absurd h.0.1.gives
 command_steady (wanted.Timeline values) Done before between idle busy h silent = idle_steady _ _ _ _ (timeline_steady values before between h.0 silent) h.1
 command_steady (wanted.Timeline values) NotAccepted before between idle busy h silent = absurd h.0
 command_steady (wanted.Timeline values) Faulted before between idle busy h silent = absurd h.0
@@ -215,43 +224,43 @@ pub tells_alone : (text : List ℕ) (sources : SourcesView) (input : SourceView)
 tells_alone text sources input output old new told = record { told = told; unasked = refl; unread = refl; unwritten = refl }
 
 -- the run of a command that words say
-pub command_run : (words : List (List ℕ)) (wanted said : Wanted) (before between after : Devices) (idle busy : ServersView) (result : Result Ended Fault) (status : ℕ)
-    → Say words wanted → wanted ≡ said → Gives said before between idle busy result → between.faults ≡ before.faults → EndsWith result status between after
+pub command_run : (words : List (List ℕ)) (wanted : Wanted) (before between after : Devices) (idle busy : ServersView) (result : Result Ended Fault) (status : ℕ)
+    → Say words wanted → Gives wanted before between idle busy result → between.faults ≡ before.faults → EndsWith result status between after
     → RunsCommand words before after idle busy status
-command_run words wanted said before between after idle busy result status says is gives silent ends = record {
+command_run words wanted before between after idle busy result status says gives silent ends = record {
   wanted = wanted;
   says = says;
   between = between;
   result = result;
-  gives = subst (λ (w : Wanted). Gives w before between idle busy result) (sym is) gives;
+  gives = gives;
   silent = silent;
   ends = ends;
 }
 
--- the run of words that say no command
-pub refused_words_run : (words : List (List ℕ)) (sources : SourcesView) (input : SourceView) (output old new : SinkView) (servers : ServersView) (status : ℕ)
-    → SayNothing words → ((status ≡ 2) × ((text : List ℕ) × IsToldAtOnce text old new)) ⊎ ((status ≡ 1) × IsToldAtOnce (fault_line Memory) old new)
-    → Runs words (devices sources input output old) (devices sources input output new) servers servers status
-refused_words_run words sources input output old new servers status says (inl wrong) =
-    inr (inl (record { says_nothing = says; is_status = wrong.0; text = wrong.1.0; tells = tells_alone wrong.1.0 sources input output old new wrong.1.1 }), refl)
-refused_words_run words sources input output old new servers status says (inr memory) =
-    inr (inr (inr (inl (memory.0, tells_alone (fault_line Memory) sources input output old new memory.1))), refl)
+-- what is told of words that say no command
+pub refused_words_told : (words : List (List ℕ)) (sources : SourcesView) (input : SourceView) (output old new : SinkView) (status : ℕ)
+    → SayNothing words → TellsWrongWords status old new
+    → RunsNothing words (devices sources input output old) (devices sources input output new) status
+refused_words_told words sources input output old new status says (inl wrong) =
+    inl (record { says_nothing = says; is_status = wrong.0; text = wrong.1.0; tells = tells_alone wrong.1.0 sources input output old new wrong.1.1 })
+refused_words_told words sources input output old new status says (inr memory) =
+    inr (inr (inl (memory.0, tells_alone (fault_line Memory) sources input output old new memory.1)))
 
--- the run of words whose readings are no list of numbers
-pub refused_readings_run : (words : List (List ℕ)) (sources : SourcesView) (input : SourceView) (output old new : SinkView) (servers : ServersView) (status : ℕ)
+-- what is told of words whose readings are no list of numbers
+pub refused_readings_told : (words : List (List ℕ)) (sources : SourcesView) (input : SourceView) (output old new : SinkView) (status : ℕ)
     → SayBadReadings words → status ≡ 2 → IsToldAtOnce readings_line old new
-    → Runs words (devices sources input output old) (devices sources input output new) servers servers status
-refused_readings_run words sources input output old new servers status says is told =
-    inr (inr (inl (record { says = says; is_status = is; tells = tells_alone readings_line sources input output old new told })), refl)
+    → RunsNothing words (devices sources input output old) (devices sources input output new) status
+refused_readings_told words sources input output old new status says is told =
+    inr (inl (record { says = says; is_status = is; tells = tells_alone readings_line sources input output old new told }))
 
--- the run of words that memory was refused for
-pub memory_run : (words : List (List ℕ)) (sources : SourcesView) (input : SourceView) (output old new : SinkView) (servers : ServersView) (status : ℕ) → status ≡ 1
-    → IsToldAtOnce (fault_line Memory) old new → Runs words (devices sources input output old) (devices sources input output new) servers servers status
-memory_run words sources input output old new servers status is told =
-    inr (inr (inr (inl (is, tells_alone (fault_line Memory) sources input output old new told))), refl)
+-- what is told of words that memory was refused for
+pub memory_told : (words : List (List ℕ)) (sources : SourcesView) (input : SourceView) (output old new : SinkView) (status : ℕ) → status ≡ 1
+    → IsToldAtOnce (fault_line Memory) old new → RunsNothing words (devices sources input output old) (devices sources input output new) status
+memory_told words sources input output old new status is told =
+    inr (inr (inl (is, tells_alone (fault_line Memory) sources input output old new told)))
 
--- the run of words that call for the version
-pub version_run : (words : List (List ℕ)) (before between after : Devices) (servers : ServersView) (result : Result Ended Fault) (status : ℕ) → SayVersion words
-    → VersionGives before between result → between.faults ≡ before.faults → EndsWith result status between after → Runs words before after servers servers status
-version_run words before between after servers result status says gives silent ends =
-    inr (inr (inr (inr (record { says = says; between = between; result = result; gives = gives; silent = silent; ends = ends }))), refl)
+-- what is told of words that call for the version
+pub version_told : (words : List (List ℕ)) (before between after : Devices) (result : Result Ended Fault) (status : ℕ) → SayVersion words
+    → VersionGives before between result → between.faults ≡ before.faults → EndsWith result status between after → RunsNothing words before after status
+version_told words before between after result status says gives silent ends =
+    inr (inr (inr (record { says = says; between = between; result = result; gives = gives; silent = silent; ends = ends })))

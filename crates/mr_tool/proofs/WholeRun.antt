@@ -1,5 +1,5 @@
 -- All that a run says of itself follows from what it does.
-use Rattle.std.proofs.Common.{◌≡◌, ℕ, List, subst}
+use Rattle.std.proofs.Common.{◌≡◌, ℕ, List, inr, refl, subst}
 use Rattle.mr_text.specs.Sink.{SinkView}
 use Rattle.mr_text.specs.Source.{SourceView}
 use Rattle.mr_servers.specs.Servers.{ServersView}
@@ -9,7 +9,7 @@ use Rattle.mr_tool.specs.Run.{IsRunOf, Runs}
 use Rattle.mr_tool.specs.Sources.{SourcesView}
 use Rattle.mr_tool.specs.declared.fault.Fault.TheVariants.{Memory}
 use Rattle.mr_tool.proofs.FewReads.{few}
-use Rattle.mr_tool.proofs.RunLemmas.{done_steady, memory_run}
+use Rattle.mr_tool.proofs.RunLemmas.{done_steady, memory_told}
 
 pub whole_run : (words : List (List ℕ)) (before after : Machine) (status : ℕ)
     → Runs words before.devices after.devices before.servers after.servers status → IsRunOf words before after status
@@ -26,7 +26,7 @@ pub memory_whole : (words : List (List ℕ)) (sources : SourcesView) (input : So
     → IsRunOf words (machine sources input output old servers) (machine sources input output new servers) status
 memory_whole words sources input output old new servers status is told =
     whole_run words (machine sources input output old servers) (machine sources input output new servers) status
-    (memory_run words sources input output old new servers status is told)
+    (inr (memory_told words sources input output old new status is told, refl))
 
 -- words that are the same run the same
 pub same_words_whole : (words others : List (List ℕ)) (before after : Machine) (status : ℕ) → words ≡ others → IsRunOf words before after status

@@ -2,9 +2,9 @@
 use Rattle.std.specs.Prelude.{◌≡◌, ℕ, List, ◌++◌, codes, string_bytes}
 use Rattle.mr_printing.specs.declared.printing.PrintFault.{PrintFault}
 use Rattle.mr_printing.specs.declared.printing.PrintFault.TheVariants as print
-use Rattle.mr_words.specs.Lines.{text_fault_line, node_fault_line, plan_fault_line}
+use Rattle.mr_words.specs.Lines.{text_fault_line, pool_fault_line, schedule_fault_line, node_fault_line, plan_fault_line}
 use Rattle.mr_tool.specs.declared.fault.Fault.{Fault}
-use Rattle.mr_tool.specs.declared.fault.Fault.TheVariants.{Memory, Input, Output, File, Net, Plan, Node, Text}
+use Rattle.mr_tool.specs.declared.fault.Fault.TheVariants.{Memory, Input, Output, File, Net, Plan, Pools, Phases, Node, Text}
 
 -- where the file at this path can't be read
 abbrev pub file_line : List ℕ → List ℕ
@@ -21,6 +21,8 @@ fault_line Input = codes "migctl: input\n"
 fault_line Output = codes "migctl: output\n"
 fault_line (File line) = string_bytes line
 fault_line (Net line) = string_bytes line
+fault_line (Pools refusal) = pool_fault_line refusal
+fault_line (Phases refusal) = schedule_fault_line refusal
 fault_line (Node refusal) = node_fault_line refusal
 fault_line (Plan refusal) = plan_fault_line refusal
 fault_line (Text refusal) = text_fault_line refusal

@@ -7,7 +7,7 @@ use Rattle.mr_tool.specs.Devices.{Devices}
 use Rattle.mr_tool.specs.Input.{IsGiven, IsNotGiven}
 use Rattle.mr_tool.specs.declared.ended.Ended.{Ended}
 use Rattle.mr_tool.specs.declared.fault.Fault.{Fault}
-use Rattle.mr_tool.specs.declared.fault.Fault.TheVariants.{Memory, Input, Output, File, Net, Plan, Node, Text}
+use Rattle.mr_tool.specs.declared.fault.Fault.TheVariants.{Memory, Input, Output, File, Net, Plan, Pools, Phases, Node, Text}
 
 -- what texts may be made of bytes, and how the command ends then
 abbrev pub Makes : Type 1
@@ -63,4 +63,6 @@ PrintsOf makes refuses file before after (Err Input) = LacksGiven file Input bef
 PrintsOf makes refuses file before after (Err Memory) = LacksGiven file Memory before after ⊎ LacksText makes file before after
 PrintsOf makes refuses file before after (Err (Text refusal)) = ⊥
 PrintsOf makes refuses file before after (Err (Net line)) = ⊥
+PrintsOf makes refuses file before after (Err (Pools refusal)) = ⊥
+PrintsOf makes refuses file before after (Err (Phases refusal)) = ⊥
 PrintsOf makes refuses file before after (Err (Node refusal)) = ⊥

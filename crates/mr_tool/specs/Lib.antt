@@ -7,6 +7,9 @@ pub mod Input
 pub mod InputSteps
 pub mod Loaded
 pub mod PlanCommand
+pub mod PlanForms
+pub mod PlannedConfig
+pub mod PlannedSteps
 pub mod Program
 pub mod Run
 pub mod RunCommand

@@ -1,7 +1,8 @@
 -- What a run does with its words and its devices.
 use Rattle.std.specs.Prelude.{◌≡◌, ℕ, ◌+◌, ◌≤◌, ◌⊎◌, List, Option, Some, None, Result, Ok, Err}
+use Rattle.mr_text.specs.Sink.{SinkView}
 use Rattle.mr_tool.specs.CheckCommand.{CheckGives}
-use Rattle.mr_tool.specs.Devices.{Devices, Machine, NoneFailed, Tells}
+use Rattle.mr_tool.specs.Devices.{Devices, IsToldAtOnce, Machine, NoneFailed, Tells}
 use Rattle.mr_words.specs.Explain.{told_by}
 use Rattle.mr_tool.specs.ExplainCommand.{ExplainGives}
 use Rattle.mr_tool.specs.Fault.{fault_line, readings_line}
@@ -70,6 +71,12 @@ pub record RunsCommand (words : List (List ℕ)) (before after : Devices) (idle 
   pub gives : Gives wanted before between idle busy result
   pub silent : between.faults ≡ before.faults
   pub ends : EndsWith result status between after
+
+-- what is told of wrong words, with this status: one text, or that memory was refused for it
+abbrev pub TellsWrongWords : ℕ → SinkView → SinkView → Type 0
+TellsWrongWords status old new =
+    ((status ≡ WRONG_WORDS) × ((text : List ℕ) × IsToldAtOnce text old new))
+    ⊎ ((status ≡ FAULT) × IsToldAtOnce (fault_line Memory) old new)
 
 -- the words say no command, and one text is told of that
 pub record RefusesWords (words : List (List ℕ)) (before after : Devices) (status : ℕ) : Type 0 where

@@ -1,10 +1,7 @@
 //! The program, from its arguments to its status.
-ghost use Rattle.std.specs.Prelude.{◌≡◌, drop, map, string_bytes, IfOk, MatchResult};
-ghost use Rattle.std.specs.IoError.{error_kind};
-ghost use Rattle.std.specs.Vec.Iter.{into_iter_items};
+ghost use Rattle.std.specs.Prelude.{◌≡◌, drop, map, string_bytes, IfOk};
 ghost use Rattle.mr_tool.specs.Devices.{machine};
-ghost use Rattle.mr_tool.specs.Program.{IsRunOfNone};
-ghost use Rattle.mr_tool.specs.Run.{IsRunOf};
+ghost use Rattle.mr_tool.specs.Program.{RunsArguments};
 
 use crate::fault::Fault;
 use crate::run::{run_words, tell_fault, tell_not_text};
@@ -48,13 +45,9 @@ pub fn run_arguments<
     output: &mut O,
     faults: &mut F,
 ) -> u8
-    ensures { let before = machine
-        (S.told sources.old) (I.told input.old) (O.told output.old) (F.told faults.old) servers.old in
-        let after = machine
-        (S.told sources.new) (I.told input.new) (O.told output.new) (F.told faults.new) servers.new in
-        MatchResult arguments
-        (λ given. IsRunOf (map string_bytes (drop 1 (into_iter_items given))) before after result)
-        (λ error. IsRunOfNone (error_kind error) before after result) }
+    ensures { RunsArguments arguments
+        (machine (S.told sources.old) (I.told input.old) (O.told output.old) (F.told faults.old) servers.old)
+        (machine (S.told sources.new) (I.told input.new) (O.told output.new) (F.told faults.new) servers.new) result }
 {
     let given = match arguments {
         Ok(given) => given,

@@ -17,6 +17,7 @@ ghost use Rattle.mr_tool.specs.VersionCommand.{VersionGives};
 use crate::ended::Ended;
 use crate::fault::Fault;
 use crate::input::{first_request, given_bytes, load_config};
+use crate::planned::config_planned;
 use crate::script_text::{text_of_play, text_of_upgrade};
 use crate::sources::Sources;
 use mr_printing::{write_at_once, write_check, write_explanation, write_plan, write_timeline};
@@ -37,7 +38,7 @@ pub fn run_plan<S: Sources, I: Source, O: Sink>(
         (devices (S.told sources.old) (I.told input.old) (O.told output.old) faults)
         (devices (S.told sources.new) (I.told input.new) (O.told output.new) faults) result }
 {
-    let config = load_config(alloc, values.config, sources)?;
+    let config = config_planned(alloc, &values.planned, sources)?;
     let request = first_request(alloc, input)?;
     write_plan(alloc, &config, values.at, request, output)?;
     Ok(Ended::Done)

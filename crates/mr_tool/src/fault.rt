@@ -3,10 +3,12 @@ ghost use Rattle.std.specs.Prelude.{◌≡◌};
 
 use mr_configs::PlanError;
 use mr_node::NodeError;
+use mr_phases::ScheduleError;
+use mr_pools::PoolError;
 use mr_printing::PrintFault;
 use mr_servers::SeedFault;
 use mr_text::{ReadFault, Sink, TextError};
-use mr_words::{node_line, plan_line, text_line};
+use mr_words::{node_line, plan_line, pool_line, schedule_line, text_line};
 use std::alloc::AllocError;
 use thiserror::Error;
 
@@ -31,6 +33,12 @@ pub enum Fault {
     /// The configuration was refused.
     #[error("plan: {0}")]
     Plan(PlanError),
+    /// A pool that words say was refused, or the pools together.
+    #[error("pools: {0}")]
+    Pools(PoolError),
+    /// The schedule that words say was refused.
+    #[error("phases: {0}")]
+    Phases(ScheduleError),
     /// The node was refused.
     #[error("node: {0}")]
     Node(NodeError),
@@ -54,6 +62,8 @@ impl Fault {
             Fault::File(line) => line.as_str(),
             Fault::Net(line) => line.as_str(),
             Fault::Plan(refusal) => plan_line(*refusal),
+            Fault::Pools(refusal) => pool_line(*refusal),
+            Fault::Phases(refusal) => schedule_line(*refusal),
             Fault::Node(refusal) => node_line(*refusal),
             Fault::Text(refusal) => text_line(*refusal),
         }
@@ -122,6 +132,28 @@ impl From<PlanError> for Fault {
 
     fn from(refusal: PlanError) -> Fault {
         Fault::Plan(refusal)
+    }
+}
+
+impl From<PoolError> for Fault {
+    ghost use Rattle.std.specs.Prelude.{◌≡◌};
+    ghost use Rattle.mr_tool.specs.declared.fault.Fault.TheVariants.{Pools};
+
+    ghost from_gives = { λ refusal fault. fault ≡ Pools refusal };
+
+    fn from(refusal: PoolError) -> Fault {
+        Fault::Pools(refusal)
+    }
+}
+
+impl From<ScheduleError> for Fault {
+    ghost use Rattle.std.specs.Prelude.{◌≡◌};
+    ghost use Rattle.mr_tool.specs.declared.fault.Fault.TheVariants.{Phases};
+
+    ghost from_gives = { λ refusal fault. fault ≡ Phases refusal };
+
+    fn from(refusal: ScheduleError) -> Fault {
+        Fault::Phases(refusal)
     }
 }
 

@@ -9,6 +9,8 @@ mod commands;
 mod ended;
 mod fault;
 mod input;
+pub mod laws;
+mod planned;
 mod run;
 mod script_text;
 mod services;
@@ -21,8 +23,8 @@ pub use input::MOST_CONFIG_BYTES;
 pub use mr_printing::{PrintFault, write_plan};
 pub use mr_sockets::{SocketCarrier, serve_node, serve_proxy};
 pub use mr_words::{
-    NodeValues, PlanValues, ProxyValues, TimelineValues, Wanted, WatchValues, WordsFault,
-    read_words,
+    MigrationWords, NodeValues, PlanValues, Planned, ProxyValues, TimelineValues, Wanted,
+    WatchValues, WordsFault, read_words,
 };
 pub use run::{DONE, FAULT, NOT_ACCEPTED, WRONG_WORDS, run_words};
 pub use sources::{HostFiles, LoadFault, MOST_LOADED, Sources};

@@ -1,11 +1,12 @@
 //! A run, from its words to the status of the program.
-ghost use Rattle.std.specs.Prelude.{◌≡◌, ◌⊎◌, ℕ, List, map};
+ghost use Rattle.std.specs.Prelude.{◌≡◌, ℕ, List, Err, map};
 ghost use Rattle.mr_text.specs.Sink.{SinkView};
 ghost use Rattle.mr_text.specs.Source.{SourceView};
 ghost use Rattle.mr_tool.specs.Devices.{devices, machine, IsToldAtOnce};
 ghost use Rattle.mr_tool.specs.Fault.{fault_line, not_text_line, readings_line};
-ghost use Rattle.mr_tool.specs.Run.{EndsWith, IsRunOf, Runs};
+ghost use Rattle.mr_tool.specs.Run.{EndsWith, Gives, IsRunOf, Runs, RunsNothing, TellsWrongWords};
 ghost use Rattle.mr_tool.specs.Sources.{SourcesView};
+ghost use Rattle.mr_words.specs.Words.{ReadsWords};
 
 use crate::commands::{
     run_check, run_explain, run_plan, run_script, run_timeline, run_upgrade, write_version,
@@ -66,8 +67,7 @@ fn tell_bad_readings<F: Sink>(faults: &mut F) -> u8
 
 /// Tells why the words are wrong, or the help that they call for.
 fn tell_wrong_words<F: Sink>(alloc: Global, error: &clap::Error, faults: &mut F) -> u8
-    ensures { ((result ≡ WRONG_WORDS) × ((text : List ℕ) × IsToldAtOnce text (F.told faults.old) (F.told faults.new)))
-        ⊎ ((result ≡ FAULT) × IsToldAtOnce (fault_line Fault.Memory) (F.told faults.old) (F.told faults.new)) }
+    ensures { TellsWrongWords result (F.told faults.old) (F.told faults.new) }
 {
     let Ok(text) = format!(in alloc; "{error}") else {
         return tell_fault(&Fault::Memory, faults);
@@ -86,6 +86,61 @@ fn finish<F: Sink>(gave: Result<Ended, Fault>, faults: &mut F) -> u8
         Ok(Ended::NotAccepted) => NOT_ACCEPTED,
         Ok(Ended::Faulted) => FAULT,
         Err(fault) => tell_fault(&fault, faults),
+    }
+}
+
+/// What comes of a command.
+fn give<
+    R: Net<Listener = TcpListener, Stream = TcpStream>
+        + Threads
+        + Wait
+        + time::Clock
+        + RandomSource
+        + Sync,
+    S: Sources,
+    I: Source,
+    O: Sink,
+>(
+    alloc: Global,
+    servers: &mut HostServers<'_, R>,
+    wanted: &Wanted<'_>,
+    sources: &mut S,
+    input: &mut I,
+    output: &mut O,
+) -> Result<Ended, Fault>
+    ensures { (faults : SinkView) → Gives wanted.now
+        (devices (S.told sources.old) (I.told input.old) (O.told output.old) faults)
+        (devices (S.told sources.new) (I.told input.new) (O.told output.new) faults) servers.old servers.new result }
+{
+    match wanted {
+        Wanted::Plan(values) => run_plan(alloc, values, sources, input, output),
+        Wanted::Timeline(values) => run_timeline(alloc, values, sources, output),
+        Wanted::Run(file) => run_script(alloc, *file, sources, input, output),
+        Wanted::Check(file) => run_check(alloc, *file, sources, input, output),
+        Wanted::Upgrade(file) => run_upgrade(alloc, *file, sources, input, output),
+        Wanted::Node(values) => run_node(alloc, values, servers, output),
+        Wanted::Proxy(values) => run_proxy(alloc, values, servers, sources, output),
+        Wanted::Watch(values) => run_watch(alloc, values, servers, sources, output),
+        Wanted::Explain(explanation) => run_explain(alloc, explanation, output),
+    }
+}
+
+/// Tells why the words give no command, or the version that they call for.
+fn tell_no_command<O: Sink, F: Sink>(
+    alloc: Global,
+    fault: &WordsFault,
+    output: &mut O,
+    faults: &mut F,
+) -> u8
+    ensures { (words : List (List ℕ)) (sources : SourcesView) (input : SourceView) → ReadsWords words (Err fault.now)
+        → RunsNothing words (devices sources input (O.told output.old) (F.told faults.old))
+        (devices sources input (O.told output.new) (F.told faults.new)) result }
+{
+    match fault {
+        WordsFault::Wrong(error) => tell_wrong_words(alloc, error, faults),
+        WordsFault::Version => finish(write_version(output), faults),
+        WordsFault::Readings => tell_bad_readings(faults),
+        WordsFault::Memory => tell_fault(&Fault::Memory, faults),
     }
 }
 
@@ -115,37 +170,18 @@ fn run_wanted<
         (devices (S.told sources.new) (I.told input.new) (O.told output.new) (F.told faults.new)) servers.old servers.new result }
 {
     match read_words(alloc, words) {
-        Ok(Wanted::Plan(values)) => {
-            finish(run_plan(alloc, &values, sources, input, output), faults)
-        }
-        Ok(Wanted::Timeline(values)) => {
-            finish(run_timeline(alloc, &values, sources, output), faults)
-        }
-        Ok(Wanted::Run(file)) => finish(run_script(alloc, file, sources, input, output), faults),
-        Ok(Wanted::Check(file)) => finish(run_check(alloc, file, sources, input, output), faults),
-        Ok(Wanted::Upgrade(file)) => {
-            finish(run_upgrade(alloc, file, sources, input, output), faults)
-        }
-        Ok(Wanted::Node(values)) => finish(run_node(alloc, &values, servers, output), faults),
-        Ok(Wanted::Proxy(values)) => {
-            finish(run_proxy(alloc, &values, servers, sources, output), faults)
-        }
-        Ok(Wanted::Watch(values)) => {
-            finish(run_watch(alloc, &values, servers, sources, output), faults)
-        }
-        Ok(Wanted::Explain(explanation)) => {
-            finish(run_explain(alloc, &explanation, output), faults)
-        }
-        Err(WordsFault::Wrong(error)) => tell_wrong_words(alloc, &error, faults),
-        Err(WordsFault::Version) => finish(write_version(output), faults),
-        Err(WordsFault::Readings) => tell_bad_readings(faults),
-        Err(WordsFault::Memory) => tell_fault(&Fault::Memory, faults),
+        Ok(wanted) => finish(
+            give(alloc, servers, &wanted, sources, input, output),
+            faults,
+        ),
+        Err(fault) => tell_no_command(alloc, &fault, output, faults),
     }
 }
 
 /// Runs the command that the words ask for, of which the first names it, and gives the program's status. A node or a proxy
 /// is served by `servers`. Files come from `sources`; what the command is to print goes to `output`, and a fault to `faults`.
-/// Faults are looked for in this order: the words; then for a plan the file, the configuration, the request; for a timeline
+/// Faults are looked for in this order: the words; then for a plan the file and the
+/// configuration, or the pools and the schedule that its words say, and the request; for a timeline
 /// the file, the configuration; for a run, a check or an upgrade the file, or the input where none is named, and then the script
 /// or the transcript; for a node its capacity, the seed and the socket; for a proxy the file, the configuration, the socket; for a
 /// watch the file, the configuration, the addresses; last the output.
@@ -169,11 +205,9 @@ pub fn run_words<
     output: &mut O,
     faults: &mut F,
 ) -> u8
-    ensures { let before = machine
-        (S.told sources.old) (I.told input.old) (O.told output.old) (F.told faults.old) servers.old in
-        let after = machine
-        (S.told sources.new) (I.told input.new) (O.told output.new) (F.told faults.new) servers.new in
-        IsRunOf (map (λ word. word.now) words.now) before after result }
+    ensures { IsRunOf (map (λ word. word.now) words.now)
+        (machine (S.told sources.old) (I.told input.old) (O.told output.old) (F.told faults.old) servers.old)
+        (machine (S.told sources.new) (I.told input.new) (O.told output.new) (F.told faults.new) servers.new) result }
 {
     run_wanted(alloc, servers, words, sources, input, output, faults)
 }

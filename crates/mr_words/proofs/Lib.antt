@@ -3,6 +3,7 @@ pub mod CommandLemmas
 pub mod ListLemmas
 pub mod PlainWalk
 pub mod PlainPlan
+pub mod PlainSixWords
 pub mod PlainTimeline
 pub mod PlainFile
 pub mod PlainNode

@@ -7,11 +7,11 @@ use Rattle.clap.specs.Words.{Text}
 use Rattle.mr_words.specs.Words.{IsNumberWord, AreNumberWords}
 
 -- the piece at an index is the word there
-record IsPieceAt (words : List Text) (i : ℕ) (piece : Text) : Type 0 where
+pub record IsPieceAt (words : List Text) (i : ℕ) (piece : Text) : Type 0 where
   pub inside : i < length words
   pub reads : (d : Text) → slice_index_or words i d ≡ piece
 
-piece_at : (pieces lent : List (Bor Text)) (words : List Text) (i : ℕ) (p : Bor Text) (piece : Text)
+pub piece_at : (pieces lent : List (Bor Text)) (words : List Text) (i : ℕ) (p : Bor Text) (piece : Text)
     → map (λ (q : Bor Text). q.now) pieces ≡ words → lent ≡ pieces → i < length lent → piece ≡ (slice_index_or lent i p).now → IsPieceAt words i piece
 piece_at pieces lent words i p piece is same lt at =
     let within : i < length pieces = rw same at lt in

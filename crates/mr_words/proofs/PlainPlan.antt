@@ -1,4 +1,4 @@
--- That words which plainly say a plan are read as it.
+-- That words which plainly say a plan by its options are read as it.
 use Rattle.std.proofs.Common.{◌≡◌, ◌<◌, ◌^◌, ◌∙◌, ap, ap₂, refl, sym, subst, arith, List, [], ◌∷◌, Some, false, true, ℕ, codes}
 use Rattle.std.specs.Str.Parse.{IsNumeral, digits_value, without_leading_plus}
 use Rattle.clap.proofs.OnLiterals.{clap_on_literals}
@@ -11,8 +11,9 @@ use Rattle.clap.specs.Walk.{Held, Walk, walk, walked, walk_from, nothing_held, s
 use Rattle.clap.specs.Words.{Row, Text, fault_of, subcommand_of}
 use Rattle.mr_words.proofs.PlainWalk.{IsPlainWord, plain_word, standing, asking, value_walked, word_step, value_step, no_word_left}
 use Rattle.mr_words.specs.Command.{numbers, program_app, plan_app}
-use Rattle.mr_words.specs.Words.{IsNoOption, IsNumberWord, Say, SaysPlan}
-use Rattle.mr_words.specs.declared.words.PlanValues.{PlanValues}
+use Rattle.mr_words.specs.Words.{IsNoOption, IsNumberWord, Say, SaysFilePlan}
+use Rattle.std.specs.Borrow.{Bor}
+use Rattle.mr_words.specs.declared.plan_words.Planned.TheVariants.{InFile}
 use Rattle.mr_words.specs.declared.words.Wanted.TheVariants.{Plan}
 
 -- the command `plan` as it is built
@@ -112,13 +113,14 @@ pub record IsTakenNumber (word : Text) : Type 0 where
 pub number_is_taken : (word : Text) (number : ℕ) → IsNumberWord word number → IsTakenNumber word
 number_is_taken word number is = record { plain = plain_word word (number_word word is.digits); accepted = number_taken word number is }
 
--- words that plainly say a plan say it to `clap`
-pub plan_said : (said : List Text) (values : PlanValues) → SaysPlan said values → Say said (Plan values)
-plan_said said values says =
-    let config = values.config.now in
+-- words that plainly say a plan by its options say it to `clap`
+pub file_plan_said : (said : List Text) (path : Bor Text) (second : ℕ) → SaysFilePlan said path.now second
+    → Say said (Plan (record { planned = InFile path; at = second }))
+file_plan_said said path second says =
+    let config = path.now in
     let config_plain = plain_word config says.config_is_none in
     let at_plain = plain_word says.at (number_word says.at says.at_is.digits) in
-    let at_number = number_taken says.at values.at says.at_is in
+    let at_number = number_taken says.at second says.at_is in
     let rows : List Row = finished leaf.rules (held_4 config says.at) in
     record {
       fits = subst (λ (w : List Text). fault_of program_app w ≡ []) (sym says.words_are) (words_taken config says.at config_plain at_plain at_number);
@@ -126,6 +128,6 @@ plan_said said values says =
         rows,
         subst (λ (w : List Text). subcommand_of program_app w ≡ Some (codes "plan", rows)) (sym says.words_are)
             (rows_found config says.at config_plain at_plain at_number),
-        record { at = says.at; config_is = refl; at_row = refl; at_is = says.at_is },
+        (record { config_is = refl; at_is = record { word = says.at; is_row = refl; is_number = says.at_is } }, refl),
       );
     }

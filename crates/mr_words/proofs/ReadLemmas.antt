@@ -1,5 +1,5 @@
 -- What a parse by `clap` says of the words as a whole.
-use Rattle.std.proofs.Common.{◌≡◌, ◌∙◌, codes, refl, subst, sym, List, [], ◌∷◌, true, inl, inr, Result, Ok, Err, IsErrAnd}
+use Rattle.std.proofs.Common.{◌≡◌, ◌∙◌, codes, refl, subst, sym, ℕ, List, [], ◌∷◌, true, inl, inr, Result, Ok, Err, IsErrAnd}
 use Rattle.clap.proofs.OnLiterals.{clap_on_literals}
 use Rattle.clap.specs.Faults.{is_simple_and_free}
 use Rattle.clap.specs.Kinds.{Kinds, HasKind, IsAmong}
@@ -11,14 +11,17 @@ use Rattle.clap.specs.declared.error.kind.ErrorKind.TheVariants.{OutOfMemory, Di
 use Rattle.mr_words.proofs.PlainExplain.{explanation_said}
 use Rattle.mr_words.proofs.PlainFile.{check_said, run_said, upgrade_said}
 use Rattle.mr_words.proofs.PlainNode.{node_said}
-use Rattle.mr_words.proofs.PlainPlan.{plan_said}
+use Rattle.mr_words.proofs.PlainPlan.{file_plan_said}
 use Rattle.mr_words.proofs.PlainProxy.{proxy_said}
+use Rattle.mr_words.proofs.PlainSixWords.{six_words_said}
 use Rattle.mr_words.proofs.PlainTimeline.{timeline_said}
 use Rattle.mr_words.proofs.PlainWatch.{watch_said}
 use Rattle.mr_words.proofs.WordLemmas.{no_version_said, one_said, said_not_bad}
 use Rattle.mr_words.specs.Command.{program_app}
-use Rattle.mr_words.specs.Words.{FindsBadReadings, FindsCommand, Found, ReadsAs, ReadsWords, Say, SayNothing, SayVersionAlone, SaysPlainly, SaysVersion, SayWhat, TellsVersion}
+use Rattle.mr_words.specs.Words.{FindsBadReadings, FindsCommand, Found, ReadsAs, ReadsWords, Say, SayNothing, SayVersionAlone, SaysPlainly, SaysPlan, SaysVersion, SayWhat, TellsVersion}
 use Rattle.mr_words.specs.WordSteps.{GivesCommand, IsFaultOf}
+use Rattle.mr_words.specs.declared.plan_words.Planned.{Planned}
+use Rattle.mr_words.specs.declared.plan_words.Planned.TheVariants.{InFile, InWords}
 use Rattle.mr_words.specs.declared.words.Wanted.{Wanted}
 use Rattle.mr_words.specs.declared.words.Wanted.TheVariants.{Plan, Timeline, Run, Check, Upgrade, Node, Proxy, Watch, Explain}
 use Rattle.mr_words.specs.declared.words.WordsFault.{WordsFault}
@@ -95,9 +98,14 @@ words_fail words found fault (Err Readings) fits is gives h =
     words_say words found FindsBadReadings fits is (subst (λ (f : WordsFault). GivesCommand found (Err f)) (sym h) gives)
 words_fail words found fault (Err Memory) fits is gives h = tt
 
+-- words that plainly say a plan in one of its forms say it to `clap`
+plan_said : (words : List Text) (planned : Planned) (at : ℕ) → SaysPlan words planned at → Say words (Plan (record { planned = planned; at = at }))
+plan_said words (InFile path) at says = file_plan_said words path at says
+plan_said words (InWords migration) at says = six_words_said words migration at says
+
 -- words that plainly say a command say it to `clap`
 plainly_said : (words : List Text) (wanted : Wanted) → SaysPlainly words wanted → Say words wanted
-plainly_said words (Plan values) says = plan_said words values says
+plainly_said words (Plan values) says = plan_said words values.planned values.at says
 plainly_said words (Timeline values) says = timeline_said words values says.0 says.1 says.2
 plainly_said words (Run file) says = run_said words file says
 plainly_said words (Check file) says = check_said words file says

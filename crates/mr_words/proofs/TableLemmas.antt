@@ -33,7 +33,7 @@ use Rattle.mr_configs.specs.PlanError.{number_of_refusal as plan_number}
 use Rattle.mr_configs.specs.declared.error.PlanError.{PlanError}
 use Rattle.mr_configs.specs.declared.error.PlanError.TheVariants as plan
 use Rattle.mr_words.specs.Explain.{Told, HasRefusal, IsComplete, IsNamed, IsToldAs, explanation_of, is_of, lower_table, table, upper_table}
-use Rattle.mr_words.specs.Lines.{text_fault_line, node_fault_line, plan_fault_line}
+use Rattle.mr_words.specs.Lines.{text_fault_line, pool_fault_line, schedule_fault_line, node_fault_line, plan_fault_line}
 use Rattle.mr_words.specs.Names.{text_name, pool_name, clock_name, schedule_name, node_name, proxy_name, world_name, WorkersRefusal, of_worker, of_full_book, workers_number, workers_name, plan_name}
 
 -- what is found among rows by what they tell is found in what they tell
@@ -203,16 +203,16 @@ text_told text.Truncated = refl
 text_told text.Closed = refl
 text_told text.OutOfMemory = refl
 
--- each refusal of the layer has a row
-pool_known : (refusal : PoolError) → IsSome (explanation_of (codes "pools") (pool_number refusal))
-unfolding table lower_table upper_table
-pool_known pool.EmptyPool = refl
-pool_known pool.TooManyNodes = refl
-pool_known pool.BadName = refl
-pool_known pool.RepeatedName = refl
-pool_known pool.SharedName = refl
-pool_known pool.OutOfMemory = refl
-pool_known pool.TooManyPools = refl
+-- each refusal of the layer has a row, under the line of its fault
+pool_told : (refusal : PoolError) → IsToldAs (pool_fault_line refusal) (explanation_of (codes "pools") (pool_number refusal))
+unfolding table lower_table upper_table digits
+pool_told pool.EmptyPool = refl
+pool_told pool.TooManyNodes = refl
+pool_told pool.BadName = refl
+pool_told pool.RepeatedName = refl
+pool_told pool.SharedName = refl
+pool_told pool.OutOfMemory = refl
+pool_told pool.TooManyPools = refl
 
 -- each refusal of the layer has a row
 clock_known : (refusal : ClockError) → IsSome (explanation_of (codes "clock") (clock_number refusal))
@@ -221,13 +221,13 @@ clock_known clock.ClockFault = refl
 clock_known clock.NoSuchProxy = refl
 clock_known clock.OutOfMemory = refl
 
--- each refusal of the layer has a row
-schedule_known : (refusal : ScheduleError) → IsSome (explanation_of (codes "phases") (schedule_number refusal))
-unfolding table lower_table upper_table
-schedule_known schedule.ZeroInterval = refl
-schedule_known schedule.TooLate = refl
-schedule_known schedule.TooSoon = refl
-schedule_known schedule.TooManyHops = refl
+-- each refusal of the layer has a row, under the line of its fault
+schedule_told : (refusal : ScheduleError) → IsToldAs (schedule_fault_line refusal) (explanation_of (codes "phases") (schedule_number refusal))
+unfolding table lower_table upper_table digits
+schedule_told schedule.ZeroInterval = refl
+schedule_told schedule.TooLate = refl
+schedule_told schedule.TooSoon = refl
+schedule_told schedule.TooManyHops = refl
 
 -- each refusal of the layer has a row, under the line of its fault
 node_told : (refusal : NodeError) → IsToldAs (node_fault_line refusal) (explanation_of (codes "node") (node_number refusal))
@@ -298,9 +298,9 @@ there_by layer word number same e f h =
 
 each_told : (layer : List ℕ) (number : ℕ) (name : List ℕ) → IsNamed layer number name → IsSome (explanation_of layer number)
 each_told layer number name (inl h) = there_by layer (codes "text") number (text_number h.1.0) h.0 h.1.1 (is_there _ _ (text_told h.1.0))
-each_told layer number name (inr (inl h)) = there_by layer (codes "pools") number (pool_number h.1.0) h.0 h.1.1 (pool_known h.1.0)
+each_told layer number name (inr (inl h)) = there_by layer (codes "pools") number (pool_number h.1.0) h.0 h.1.1 (is_there _ _ (pool_told h.1.0))
 each_told layer number name (inr (inr (inl h))) = there_by layer (codes "clock") number (clock_number h.1.0) h.0 h.1.1 (clock_known h.1.0)
-each_told layer number name (inr (inr (inr (inl h)))) = there_by layer (codes "phases") number (schedule_number h.1.0) h.0 h.1.1 (schedule_known h.1.0)
+each_told layer number name (inr (inr (inr (inl h)))) = there_by layer (codes "phases") number (schedule_number h.1.0) h.0 h.1.1 (is_there _ _ (schedule_told h.1.0))
 each_told layer number name (inr (inr (inr (inr (inl h))))) = there_by layer (codes "node") number (node_number h.1.0) h.0 h.1.1 (is_there _ _ (node_told h.1.0))
 each_told layer number name (inr (inr (inr (inr (inr (inl h)))))) = there_by layer (codes "proxy") number (proxy_number h.1.0) h.0 h.1.1 (proxy_known h.1.0)
 each_told layer number name (inr (inr (inr (inr (inr (inr (inl h))))))) = there_by layer (codes "world") number (world_number h.1.0) h.0 h.1.1 (world_known h.1.0)
@@ -342,6 +342,8 @@ table_complete = record {
   );
   named = λ layer number. found_named layer number (explanation_of layer number) (what_is_found layer number);
   text = text_told;
+  pools = pool_told;
+  phases = schedule_told;
   node = node_told;
   plan = plan_told;
 }

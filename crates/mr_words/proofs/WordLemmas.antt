@@ -13,14 +13,20 @@ use Rattle.clap.specs.Words.{IsAmong, Row, Text, first_of, one_of, read_as, subc
 use Rattle.clap.specs.declared.parser.matches.ArgMatches.{ArgMatches}
 use Rattle.clap.specs.declared.parser.matches.ArgMatches.TheViews.{out-ArgMatches, out-SubCommand}
 use Rattle.clap.specs.declared.parser.matches.SubCommand.{SubCommand}
+use Rattle.mr_pools.specs.Hash.{name_of_hash}
+use Rattle.mr_pools.specs.declared.hash.NamedHash.{NamedHash}
+use Rattle.mr_pools.specs.declared.hash.NamedHash.TheVariants.{Sum, Fnv}
 use Rattle.mr_words.proofs.TableLemmas.{table_complete}
 use Rattle.mr_words.specs.Explain.{Told, explanation_of, told_by}
 use Rattle.mr_words.specs.declared.explain.Explanation.{Explanation}
-use Rattle.mr_words.specs.Words.{AgreesWith, AreNumberWords, AreReadings, FindsBadReadings, FindsCommand, Found, HasBadReadings, HasExplanation, HasNodeValues, HasPlan, HasProxyValues, HasTimeline, HasWatchValues, IsBoundOr, IsNumberList, IsNumberOr, IsNumberWord, Say, SayBadReadings, SayVersion, readings_in, without_end}
+use Rattle.mr_words.specs.Words.{AgreesWith, AreNumberWords, AreReadings, FindsBadReadings, FindsCommand, Found, HasBadReadings, HasExplanation, HasNodeValues, HasOptions, HasPlan, HasPlanned, HasProxyValues, HasSixWords, HasTimeline, HasWatchValues, IsBoundOr, IsNumberIn, IsNumberList, IsNumberOr, IsNumberWord, LacksOptions, LacksSixWords, SamePlanned, Say, SayBadReadings, SayVersion, readings_in, without_end}
 use Rattle.mr_words.specs.declared.service_words.NodeValues.{NodeValues}
 use Rattle.mr_words.specs.declared.service_words.ProxyValues.{ProxyValues}
 use Rattle.mr_words.specs.declared.watch_words.WatchValues.{WatchValues}
-use Rattle.mr_words.specs.declared.words.PlanValues.{PlanValues}
+use Rattle.mr_words.specs.declared.plan_words.MigrationWords.{MigrationWords}
+use Rattle.mr_words.specs.declared.plan_words.PlanValues.{PlanValues}
+use Rattle.mr_words.specs.declared.plan_words.Planned.{Planned}
+use Rattle.mr_words.specs.declared.plan_words.Planned.TheVariants.{InFile, InWords}
 use Rattle.mr_words.specs.declared.words.TimelineValues.{TimelineValues}
 use Rattle.mr_words.specs.declared.words.Wanted.{Wanted}
 use Rattle.mr_words.specs.declared.words.Wanted.TheVariants.{Plan, Timeline, Run, Check, Upgrade, Node, Proxy, Watch, Explain}
@@ -58,6 +64,20 @@ pub number_missing : (text : Option (List ℕ))
     → ((t : List ℕ) → text ≡ Some t → ¬ (IsNumeral 10 (without_leading_plus t) × (digits_value 10 (without_leading_plus t) < 2 ^ 64)))
     → (word : List ℕ) (number : ℕ) → text ≡ Some word → IsNumberWord word number → ⊥
 number_missing text unread word number is number_is = unread word is (number_is.digits, rw (← number_is.value) number_is.fits)
+
+-- the number under a name, and that there is none
+pub number_found_in : (name : Text) (rows : List Row) (text : Option Text) (number : ℕ) → text ≡ one_of name rows → (text ≡ None → Some number ≡ None)
+    → ((t : List ℕ) → text ≡ Some t
+    → (IsNumeral 10 (without_leading_plus t) × (digits_value 10 (without_leading_plus t) < 2 ^ 64)) × (number ≡ digits_value 10 (without_leading_plus t)))
+    → IsNumberIn name rows number
+number_found_in name rows text number is none value =
+    let read = number_read text number none value in
+    record { word = read.0; is_row = sym is ∙ read.1; is_number = read.2 }
+
+pub no_number_in : (name : Text) (rows : List Row) (text : Option Text) → text ≡ one_of name rows
+    → ((t : List ℕ) → text ≡ Some t → ¬ (IsNumeral 10 (without_leading_plus t) × (digits_value 10 (without_leading_plus t) < 2 ^ 64)))
+    → (number : ℕ) → ¬ IsNumberIn name rows number
+no_number_in name rows text is unread number has = number_missing text unread has.word number (is ∙ has.is_row) has.is_number
 
 -- what std's `parse` says of a text that it reads
 abbrev IsNumeral64 : List ℕ → Type 0
@@ -199,13 +219,52 @@ same_told rows told same is also =
     let number : told.number ≡ same.number = same_number _ _ _ _ word is.number_is also.number_is in
     same_inside told same (explanation_of told.layer told.number) is.is_told (ap₂ explanation_of layer number ∙ also.is_told)
 
+same_number_in : (name : Text) (rows : List Row) (number same : ℕ) → IsNumberIn name rows number → IsNumberIn name rows same → number ≡ same
+same_number_in name rows number same is also =
+    same_number _ _ _ _ (same_inside _ _ (one_of name rows) is.is_row also.is_row) is.is_number also.is_number
+
+-- no two hashes have one name
+same_hash : (hash same : NamedHash) → name_of_hash hash ≡ name_of_hash same → hash ≡ same
+same_hash Sum Sum e = refl
+same_hash Fnv Fnv e = refl
+same_hash Sum Fnv e = cc
+same_hash Fnv Sum e = cc
+
+-- the hash that a word names, and that it names none
+pub hash_named : (text : Option Text) (word : Text) (hash : Option NamedHash) → Some word ≡ text → IfSome hash (λ h. word ≡ name_of_hash h)
+    → IfSome hash (λ h. text ≡ Some (name_of_hash h))
+hash_named text word None is named = tt
+hash_named text word (Some h) is named = sym is ∙ ap (λ (t : Text). Some t) named
+
+pub no_hash_named : (text : Option Text) (word : Text) (hash : Option NamedHash) → Some word ≡ text
+    → IfNone hash ((h : NamedHash) → ¬ (word ≡ name_of_hash h)) → IfNone hash ((h : NamedHash) → ¬ (text ≡ Some (name_of_hash h)))
+no_hash_named text word (Some h) is unknown = tt
+no_hash_named text word None is unknown = λ h has. unknown h (same_inside word (name_of_hash h) text (sym is) has)
+
+-- rows hold one of the two forms of a plan, and one plan
+same_planned : (rows : List Row) (read values : Planned) (at same : ℕ) → HasPlanned rows read at → HasPlanned rows values same
+    → SamePlanned values read × (at ≡ same)
+same_planned rows (InFile read) (InFile path) at same is also =
+    (same_inside _ _ _ is.0.config_is also.0.config_is, same_number_in _ _ _ _ is.0.at_is also.0.at_is)
+same_planned rows (InFile read) (InWords words) at same is also = let never : Some words.old.now ≡ None = sym also.0.old_is ∙ is.1 in cc
+same_planned rows (InWords read) (InFile path) at same is also = let never : Some read.old.now ≡ None = sym is.0.old_is ∙ also.1 in cc
+same_planned rows (InWords read) (InWords words) at same is also =
+    let hash : name_of_hash read.hash ≡ name_of_hash words.hash = same_inside _ _ _ is.0.hash_is also.0.hash_is in (
+      (
+        same_inside _ _ _ is.0.old_is also.0.old_is,
+        same_inside _ _ _ is.0.new_is also.0.new_is,
+        same_number_in _ _ _ _ is.0.start_is also.0.start_is,
+        same_number_in _ _ _ _ is.0.interval_is also.0.interval_is,
+        same_hash _ _ hash,
+      ),
+      same_number_in _ _ _ _ is.0.at_is also.0.at_is,
+    )
+
 -- what was found is one command
 one_found : (found : Found) (read wanted : Wanted) → FindsCommand found read → FindsCommand found wanted → AgreesWith wanted read
 one_found found (Plan read) (Plan values) r p =
-    let also : HasPlan r.0 values = subst (λ (rows : List Row). HasPlan rows values) (same_rows found _ p.0 r.0 p.1 r.1) p.2 in (
-      same_inside _ _ _ r.2.config_is also.config_is,
-      same_number _ _ _ _ (same_inside _ _ _ r.2.at_row also.at_row) r.2.at_is also.at_is,
-    )
+    let also : HasPlan r.0 values = subst (λ (rows : List Row). HasPlan rows values) (same_rows found _ p.0 r.0 p.1 r.1) p.2 in
+    same_planned r.0 read.planned values.planned read.at values.at r.2 also
 one_found found (Timeline read) (Timeline values) r p =
     let also : HasTimeline r.0 values = subst (λ (rows : List Row). HasTimeline rows values) (same_rows found _ p.0 r.0 p.1 r.1) p.2 in (
       same_inside _ _ _ r.2.config_is also.config_is,
@@ -286,6 +345,34 @@ no_readings_given text none = subst (λ (o : Option Text). AreReadings o None) n
 pub record FindsNothing (found : Found) : Type 0 where
   pub no_command : (wanted : Wanted) → ¬ FindsCommand found wanted
   pub no_readings : ¬ FindsBadReadings found
+
+-- the words of a plan are of neither form where the first of the six is missing and an option is
+no_file_planned : (rows : List Row) → LacksSixWords rows → ((path : Text) (at : ℕ) → ¬ HasOptions rows path at) → (planned : Planned) (at : ℕ)
+    → ¬ HasPlanned rows planned at
+no_file_planned rows none lacks (InFile path) at has = lacks path.now at has.0
+no_file_planned rows none lacks (InWords words) at has = let never : Some words.old.now ≡ None = sym has.0.old_is ∙ none in cc
+
+pub no_file_plan : (rows : List Row) → LacksSixWords rows → ((path : Text) (at : ℕ) → ¬ HasOptions rows path at) → (values : PlanValues)
+    → ¬ HasPlan rows values
+no_file_plan rows none lacks values has = no_file_planned rows none lacks values.planned values.at has
+
+-- nor where the first is there and an option is too
+no_planned_beside : (rows : List Row) → ¬ LacksSixWords rows → ¬ LacksOptions rows → (planned : Planned) (at : ℕ) → ¬ HasPlanned rows planned at
+no_planned_beside rows some lacks (InFile path) at has = some has.1
+no_planned_beside rows some lacks (InWords words) at has = lacks has.1
+
+pub no_plan_beside : (rows : List Row) → ¬ LacksSixWords rows → ¬ LacksOptions rows → (values : PlanValues) → ¬ HasPlan rows values
+no_plan_beside rows some lacks values has = no_planned_beside rows some lacks values.planned values.at has
+
+-- nor where the first is there and another one is missing
+no_said_planned : (rows : List Row) → ¬ LacksSixWords rows → ((words : MigrationWords) (at : ℕ) → ¬ HasSixWords rows words at) → (planned : Planned) (at : ℕ)
+    → ¬ HasPlanned rows planned at
+no_said_planned rows some lacks (InFile path) at has = some has.1
+no_said_planned rows some lacks (InWords words) at has = lacks words at has.0
+
+pub no_said_plan : (rows : List Row) → ¬ LacksSixWords rows → ((words : MigrationWords) (at : ℕ) → ¬ HasSixWords rows words at) → (values : PlanValues)
+    → ¬ HasPlan rows values
+no_said_plan rows some lacks values has = no_said_planned rows some lacks values.planned values.at has
 
 plan_not_said : (found : Found) (rows : List Row) → found ≡ Some (codes "plan", rows) → ((values : PlanValues) → ¬ HasPlan rows values)
     → (wanted : Wanted) → ¬ FindsCommand found wanted

@@ -19,9 +19,21 @@ numbers = parser.Unsigned 0 18446744073709551615
 abbrev pub config_rule : Rule
 config_rule = option_rule (codes "config") None true
 
--- the second of a plan, which has to be there
+-- the option that names the file of a plan's configuration, in whose place words may stand
+abbrev pub planned_file_rule : Rule
+planned_file_rule = option_rule (codes "config") None false
+
+-- the second of a plan by a file
 abbrev pub at_rule : Rule
-at_rule = option_rule (codes "at") (Some numbers) true
+at_rule = option_rule (codes "at") (Some numbers) false
+
+-- one of the words that say a migration, which help gives one name
+abbrev pub said_rule : List ℕ → Option ValueParser → Rule
+said_rule name read_by = record (new_rule name) { value_names = 1; action = Some Set; parser = read_by }
+
+-- one of them that is a number
+abbrev pub said_number_rule : List ℕ → Rule
+said_number_rule name = said_rule name (Some numbers)
 
 -- the readings of clocks
 abbrev pub readings_rule : Rule
@@ -51,9 +63,17 @@ file_rule = record (new_rule (codes "file")) { value_names = 1; action = Some Se
 abbrev pub file_app : List ℕ → App
 file_app name = with_rule (new_app name) file_rule
 
--- the command `plan`
+-- the command `plan`: its two options, and six words in this order
 abbrev pub plan_app : App
-plan_app = with_rule (with_rule (new_app (codes "plan")) config_rule) at_rule
+plan_app =
+    let with_file = with_rule (new_app (codes "plan")) planned_file_rule in
+    let with_at = with_rule with_file at_rule in
+    let with_old = with_rule with_at (said_rule (codes "old") None) in
+    let with_new = with_rule with_old (said_rule (codes "new") None) in
+    let with_start = with_rule with_new (said_number_rule (codes "start")) in
+    let with_interval = with_rule with_start (said_number_rule (codes "interval")) in
+    let with_hash = with_rule with_interval (said_rule (codes "hash") None) in
+    with_rule with_hash (said_number_rule (codes "second"))
 
 -- the command `timeline`
 abbrev pub timeline_app : App

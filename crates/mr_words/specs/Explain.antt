@@ -18,7 +18,7 @@ use Rattle.mr_world.specs.WorldError.{number_of_refusal as world_number}
 use Rattle.mr_world.specs.declared.error.WorldError.{WorldError}
 use Rattle.mr_configs.specs.PlanError.{number_of_refusal as plan_number}
 use Rattle.mr_configs.specs.declared.error.PlanError.{PlanError}
-use Rattle.mr_words.specs.Lines.{text_fault_line, node_fault_line, plan_fault_line}
+use Rattle.mr_words.specs.Lines.{text_fault_line, pool_fault_line, schedule_fault_line, node_fault_line, plan_fault_line}
 use Rattle.mr_words.specs.Names.{text_name, pool_name, clock_name, schedule_name, node_name, proxy_name, world_name, WorkersRefusal, workers_number, workers_name, plan_name}
 use Rattle.mr_words.specs.declared.explain.Explanation.{Explanation}
 use Rattle.mr_words.specs.declared.explanations.TheConstants.{LOWER_ROWS, UPPER_ROWS}
@@ -95,5 +95,7 @@ pub record IsComplete (explanation : List ℕ → ℕ → Option Told) : Type 0 
   pub known : (layer : List ℕ) (number : ℕ) → IsSome (explanation layer number) ↔ HasRefusal layer number
   pub named : (layer : List ℕ) (number : ℕ) → IfSome (explanation layer number) (λ told. IsNamed layer number told.name)
   pub text : (refusal : TextError) → IsToldAs (text_fault_line refusal) (explanation (codes "text") (text_number refusal))
+  pub pools : (refusal : PoolError) → IsToldAs (pool_fault_line refusal) (explanation (codes "pools") (pool_number refusal))
+  pub phases : (refusal : ScheduleError) → IsToldAs (schedule_fault_line refusal) (explanation (codes "phases") (schedule_number refusal))
   pub node : (refusal : NodeError) → IsToldAs (node_fault_line refusal) (explanation (codes "node") (node_number refusal))
   pub plan : (refusal : PlanError) → IsToldAs (plan_fault_line refusal) (explanation (codes "plan") (plan_number refusal))

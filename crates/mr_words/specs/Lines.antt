@@ -2,6 +2,10 @@
 use Rattle.std.specs.Prelude.{ℕ, List, codes}
 use Rattle.mr_text.specs.declared.error.TextError.{TextError}
 use Rattle.mr_text.specs.declared.error.TextError.TheVariants.{LineTooLong, BadKey, BadNumber, WrongWords, DataTooLong, BadDataEnd, UnknownCommand, Truncated, Closed, OutOfMemory}
+use Rattle.mr_pools.specs.declared.error.PoolError.{PoolError}
+use Rattle.mr_pools.specs.declared.error.PoolError.TheVariants as pool
+use Rattle.mr_phases.specs.declared.error.ScheduleError.{ScheduleError}
+use Rattle.mr_phases.specs.declared.error.ScheduleError.TheVariants as schedule
 use Rattle.mr_node.specs.declared.error.NodeError.{NodeError}
 use Rattle.mr_node.specs.declared.error.NodeError.TheVariants as node
 use Rattle.mr_configs.specs.declared.error.PlanError.{PlanError}
@@ -19,6 +23,23 @@ text_fault_line (UnknownCommand closes) = codes "migctl: text 7 UnknownCommand\n
 text_fault_line Truncated = codes "migctl: text 8 Truncated\n"
 text_fault_line Closed = codes "migctl: text 9 Closed\n"
 text_fault_line OutOfMemory = codes "migctl: text 10 OutOfMemory\n"
+
+-- the line of each refusal of a pool or a routing
+abbrev pub pool_fault_line : PoolError → List ℕ
+pool_fault_line pool.EmptyPool = codes "migctl: pools 1 EmptyPool\n"
+pool_fault_line pool.TooManyNodes = codes "migctl: pools 2 TooManyNodes\n"
+pool_fault_line pool.BadName = codes "migctl: pools 3 BadName\n"
+pool_fault_line pool.RepeatedName = codes "migctl: pools 4 RepeatedName\n"
+pool_fault_line pool.SharedName = codes "migctl: pools 5 SharedName\n"
+pool_fault_line pool.OutOfMemory = codes "migctl: pools 6 OutOfMemory\n"
+pool_fault_line pool.TooManyPools = codes "migctl: pools 7 TooManyPools\n"
+
+-- the line of each refusal of a schedule
+abbrev pub schedule_fault_line : ScheduleError → List ℕ
+schedule_fault_line schedule.ZeroInterval = codes "migctl: phases 1 ZeroInterval\n"
+schedule_fault_line schedule.TooLate = codes "migctl: phases 2 TooLate\n"
+schedule_fault_line schedule.TooSoon = codes "migctl: phases 3 TooSoon\n"
+schedule_fault_line schedule.TooManyHops = codes "migctl: phases 4 TooManyHops\n"
 
 -- the line of each error of a node
 abbrev pub node_fault_line : NodeError → List ℕ

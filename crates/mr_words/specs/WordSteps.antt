@@ -56,3 +56,7 @@ no_such_fault = codes "no layer of this name has a fault of this number: 'migctl
 -- what is said where a service is given `--forever` beside what it stands in place of
 abbrev pub both_given : List ℕ
 both_given = codes "'--forever' stands in place of '--clients' and '--turns', and neither goes with it"
+
+-- what is said where `plan` is given neither of its forms, or parts of both
+abbrev pub neither_form : List ℕ
+neither_form = codes "'plan' takes --config and --at, or six words of which the fifth is sum or fnv1a32: 'migctl plan --help' shows both"

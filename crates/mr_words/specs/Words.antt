@@ -7,12 +7,16 @@ use Rattle.std.specs.Str.{bytes_eq}
 use Rattle.std.specs.Str.Parse.{IsNumeral, digits_value, without_leading_plus}
 use Rattle.clap.specs.Words.{IsAmong, Row, Text, all_of, fault_of, first_of, one_of, subcommand_of}
 use Rattle.clap.specs.declared.error.kind.ErrorKind.TheVariants.{DisplayVersion}
+use Rattle.mr_pools.specs.Hash.{name_of_hash}
 use Rattle.mr_words.specs.Command.{program_app}
 use Rattle.mr_words.specs.Explain.{Told, told_by, explanation_of}
+use Rattle.mr_words.specs.declared.plan_words.MigrationWords.{MigrationWords}
+use Rattle.mr_words.specs.declared.plan_words.PlanValues.{PlanValues}
+use Rattle.mr_words.specs.declared.plan_words.Planned.{Planned}
+use Rattle.mr_words.specs.declared.plan_words.Planned.TheVariants.{InFile, InWords}
 use Rattle.mr_words.specs.declared.service_words.NodeValues.{NodeValues}
 use Rattle.mr_words.specs.declared.service_words.ProxyValues.{ProxyValues}
 use Rattle.mr_words.specs.declared.watch_words.WatchValues.{WatchValues}
-use Rattle.mr_words.specs.declared.words.PlanValues.{PlanValues}
 use Rattle.mr_words.specs.declared.words.TimelineValues.{TimelineValues}
 use Rattle.mr_words.specs.declared.words.Wanted.{Wanted}
 use Rattle.mr_words.specs.declared.words.Wanted.TheVariants.{Plan, Timeline, Run, Check, Upgrade, Node, Proxy, Watch, Explain}
@@ -49,12 +53,47 @@ AreReadings _ _ = ⊥
 abbrev pub readings_in : TimelineValues → Option (List ℕ)
 readings_in values = option_map (λ numbers. numbers.items) values.readings
 
+-- the text of an option or the path of a file, if there was one
+abbrev pub path_in : Option (Bor (List ℕ)) → Option (List ℕ)
+path_in file = option_map (λ path. path.now) file
+
+-- the rows that a parse found hold this number under this name
+pub record IsNumberIn (name : Text) (rows : List Row) (number : ℕ) : Type 0 where
+  pub word : Text
+  pub is_row : one_of name rows ≡ Some word
+  pub is_number : IsNumberWord word number
+
+-- the rows that a parse found hold the file and the second of a plan
+pub record HasOptions (rows : List Row) (path : Text) (at : ℕ) : Type 0 where
+  pub config_is : first_of (codes "config") rows ≡ Some path
+  pub at_is : IsNumberIn (codes "at") rows at
+
+-- they hold neither
+pub record LacksOptions (rows : List Row) : Type 0 where
+  pub no_config : first_of (codes "config") rows ≡ None
+  pub no_at : first_of (codes "at") rows ≡ None
+
+-- they hold the six words that say a migration and the second of its plan: two pools, two numbers, the name of a hash, a number
+pub record HasSixWords (rows : List Row) (words : MigrationWords) (at : ℕ) : Type 0 where
+  pub old_is : first_of (codes "old") rows ≡ Some words.old.now
+  pub new_is : first_of (codes "new") rows ≡ Some words.new.now
+  pub start_is : IsNumberIn (codes "start") rows words.start
+  pub interval_is : IsNumberIn (codes "interval") rows words.interval
+  pub hash_is : first_of (codes "hash") rows ≡ Some (name_of_hash words.hash)
+  pub at_is : IsNumberIn (codes "second") rows at
+
+-- they hold none of the six, of which none stands there without the first
+abbrev pub LacksSixWords : List Row → Type 0
+LacksSixWords rows = first_of (codes "old") rows ≡ None
+
+-- they hold one of the two forms of a plan, and nothing of the other
+abbrev pub HasPlanned : List Row → Planned → ℕ → Type 0
+HasPlanned rows (InFile path) at = HasOptions rows path.now at × LacksSixWords rows
+HasPlanned rows (InWords words) at = HasSixWords rows words at × LacksOptions rows
+
 -- the rows that a parse found hold the values of a plan
-pub record HasPlan (rows : List Row) (values : PlanValues) : Type 0 where
-  pub at : List ℕ
-  pub config_is : first_of (codes "config") rows ≡ Some values.config.now
-  pub at_row : one_of (codes "at") rows ≡ Some at
-  pub at_is : IsNumberWord at values.at
+abbrev pub HasPlan : List Row → PlanValues → Type 0
+HasPlan rows values = HasPlanned rows values.planned values.at
 
 -- the rows that a parse found hold the values of a timeline
 pub record HasTimeline (rows : List Row) (values : TimelineValues) : Type 0 where
@@ -66,10 +105,6 @@ pub record HasBadReadings (rows : List Row) : Type 0 where
   pub text : List ℕ
   pub is : first_of (codes "readings") rows ≡ Some text
   pub bad : (numbers : List ℕ) → ¬ IsNumberList text numbers
-
--- the text of an option or the path of a file, if there was one
-abbrev pub path_in : Option (Bor (List ℕ)) → Option (List ℕ)
-path_in file = option_map (λ path. path.now) file
 
 -- the rows that a parse found name this file, or none
 abbrev pub HasFile : List Row → Option Text → Type 0
@@ -228,11 +263,28 @@ IsNoOption [] = ⊤
 IsNoOption (byte ∷ _) = byte ≢ 45
 
 -- the words are `plan` and its two options, and the file's name doesn't look like an option
-pub record SaysPlan (words : List Text) (values : PlanValues) : Type 0 where
+pub record SaysFilePlan (words : List Text) (path : Text) (second : ℕ) : Type 0 where
   pub at : Text
-  pub words_are : words ≡ codes "plan" ∷ codes "--config" ∷ values.config.now ∷ codes "--at" ∷ at ∷ []
-  pub at_is : IsNumberWord at values.at
-  pub config_is_none : IsNoOption values.config.now
+  pub words_are : words ≡ codes "plan" ∷ codes "--config" ∷ path ∷ codes "--at" ∷ at ∷ []
+  pub at_is : IsNumberWord at second
+  pub config_is_none : IsNoOption path
+
+-- the words are `plan` and the six that say a migration and a second, and no pool looks like an option
+pub record SaysSixWords (words : List Text) (migration : MigrationWords) (second : ℕ) : Type 0 where
+  pub start : Text
+  pub interval : Text
+  pub at : Text
+  pub words_are : words ≡ codes "plan" ∷ migration.old.now ∷ migration.new.now ∷ start ∷ interval ∷ name_of_hash migration.hash ∷ at ∷ []
+  pub start_is : IsNumberWord start migration.start
+  pub interval_is : IsNumberWord interval migration.interval
+  pub at_is : IsNumberWord at second
+  pub old_is_none : IsNoOption migration.old.now
+  pub new_is_none : IsNoOption migration.new.now
+
+-- the words plainly are one of the two forms of a plan
+abbrev pub SaysPlan : List Text → Planned → ℕ → Type 0
+SaysPlan words (InFile path) at = SaysFilePlan words path.now at
+SaysPlan words (InWords migration) at = SaysSixWords words migration at
 
 -- the words are `timeline` and its options, of which the readings may be left out, and no value looks like an option
 abbrev pub SaysTimeline : List Text → Text → Option Text → Type 0
@@ -344,7 +396,7 @@ pub record SaysExplain (words : List Text) (told : Told) : Type 0 where
 
 -- the words plainly are this command
 abbrev pub SaysPlainly : List Text → Wanted → Type 0
-SaysPlainly words (Plan values) = SaysPlan words values
+SaysPlainly words (Plan values) = SaysPlan words values.planned values.at
 SaysPlainly words (Timeline values) =
     (readings : Option Text) × SaysTimeline words values.config.now readings × AreReadings readings (readings_in values)
 SaysPlainly words (Run file) = SaysFile (codes "run") words (path_in file)
@@ -355,10 +407,26 @@ SaysPlainly words (Proxy values) = SaysProxyAlone words values ⊎ SaysProxy wor
 SaysPlainly words (Watch values) = SaysWatch words values
 SaysPlainly words (Explain explanation) = SaysExplain words (told_by explanation)
 
+-- both plan for the same: for the migrations of one file, or for one migration of the same words
+abbrev pub SamePlanned : Planned → Planned → Type 0
+SamePlanned (InFile path) (InFile read) = read.now ≡ path.now
+SamePlanned (InWords words) (InWords read) = (read.old.now ≡ words.old.now) × (read.new.now ≡ words.new.now)
+    × (read.start ≡ words.start) × (read.interval ≡ words.interval) × (read.hash ≡ words.hash)
+SamePlanned _ _ = ⊥
+
+-- both timelines are of one file and of the same readings
+abbrev pub SameTimeline : TimelineValues → TimelineValues → Type 0
+SameTimeline values read = (read.config.now ≡ values.config.now) × (readings_in read ≡ readings_in values)
+
+-- both watches are of one file and of the same addresses, and are shown in the same way
+abbrev pub SameWatch : WatchValues → WatchValues → Type 0
+SameWatch values read = (read.config.now ≡ values.config.now) × (read.once ≡ values.once) × (read.json ≡ values.json)
+    × (addresses_in read ≡ addresses_in values)
+
 -- both are the same command with the same values
 abbrev pub AgreesWith : Wanted → Wanted → Type 0
-AgreesWith (Plan values) (Plan read) = (read.config.now ≡ values.config.now) × (read.at ≡ values.at)
-AgreesWith (Timeline values) (Timeline read) = (read.config.now ≡ values.config.now) × (readings_in read ≡ readings_in values)
+AgreesWith (Plan values) (Plan read) = SamePlanned values.planned read.planned × (read.at ≡ values.at)
+AgreesWith (Timeline values) (Timeline read) = SameTimeline values read
 AgreesWith (Run file) (Run read) = path_in read ≡ path_in file
 AgreesWith (Check file) (Check read) = path_in read ≡ path_in file
 AgreesWith (Upgrade file) (Upgrade read) = path_in read ≡ path_in file
@@ -369,8 +437,7 @@ AgreesWith (Proxy values) (Proxy read) = (read.config.now ≡ values.config.now)
     × (read.room ≡ values.room) × (read.clients ≡ values.clients) × (read.turns ≡ values.turns)
     × (read.leg_timeout ≡ values.leg_timeout) × (read.idle_timeout ≡ values.idle_timeout)
     × (path_in read.metrics ≡ path_in values.metrics)
-AgreesWith (Watch values) (Watch read) = (read.config.now ≡ values.config.now) × (read.once ≡ values.once) × (read.json ≡ values.json)
-    × (addresses_in read ≡ addresses_in values)
+AgreesWith (Watch values) (Watch read) = SameWatch values read
 AgreesWith (Explain explanation) (Explain read) = told_by read ≡ told_by explanation
 AgreesWith _ _ = ⊥
 

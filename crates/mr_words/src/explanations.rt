@@ -83,7 +83,7 @@ pub static LOWER_ROWS: [Row<'static>; 29] = [
         "pools",
         3,
         "BadName",
-        "A node's name is empty, has more than 255 bytes, or holds a comma or a byte that isn't visible ASCII. Look for spaces, commas and other letters in the lists of servers.",
+        "A node's name is empty, has more than 255 bytes, or holds a comma or a byte that isn't visible ASCII. Look for spaces, commas and other letters in the lists of servers, and for a comma too many between the names of a plan.",
     ),
     (
         "pools",
@@ -131,13 +131,13 @@ pub static LOWER_ROWS: [Row<'static>; 29] = [
         "phases",
         1,
         "ZeroInterval",
-        "The interval of a migration is 0 seconds, and its two middle phases need at least 1. Look at interval in the route.",
+        "The interval of a migration is 0 seconds, and its two middle phases need at least 1. Look at interval in the route, or among the words of a plan.",
     ),
     (
         "phases",
         2,
         "TooLate",
-        "The migration would end, at its start and twice its interval, after second 18446744073709551615. Look at start_time and interval in the route; both are in seconds.",
+        "The migration would end, at its start and twice its interval, after second 18446744073709551615. Look at start_time and interval in the route, or at start and interval among the words of a plan; both are in seconds.",
     ),
     (
         "phases",

@@ -23,16 +23,21 @@ pub const PROGRAM_NOTES: &str = notes!(
     docs/FORMATS.md says all of both, and docs/OPERATING.md how a migration is run.\n\
     Results go to the standard output, help to the standard error. 'migctl explain' says what the line of a fault means.",
     ", 3 not accepted by 'check'",
-    "printf 'delete k\\r\\n' | migctl plan --config examples/fleet.json --at 1000"
+    "printf 'delete k\\r\\n' | migctl plan 7001,7002 7101,7102,7103 1000 100 sum 1000"
 );
+
+/// How `plan` is called: with a configuration's file, or with six words.
+pub const PLAN_USAGE: &str = "migctl plan --config <file> --at <seconds>\n       \
+    migctl plan <old> <new> <start> <interval> <hash> <at>";
 
 /// The notes of `plan`.
 pub const PLAN_NOTES: &str = notes!(
-    "Seconds are whole seconds since the epoch, 1970-01-01 00:00:00 UTC.\n\
+    "The six words are a configuration of one migration, which needs no file; several in a row need one.\n\
+    Seconds are whole seconds since the epoch, 1970-01-01 00:00:00 UTC.\n\
     The standard input holds one request in memcached's text protocol: a key has at most 250 bytes, a value\n\
     at most 1,048,576. What follows it is ignored. Of several migrations in a row, the phase is printed with the\n\
     hop that it is of.",
-    "printf 'delete k\\r\\n' | migctl plan --config examples/fleet.json --at 1000"
+    "printf 'delete k\\r\\n' | migctl plan 7001,7002 7101,7102,7103 1000 100 sum 1000"
 );
 
 /// The notes of `timeline`.

@@ -1,9 +1,11 @@
 //! The lines that are printed of refusals: the layer that refuses, and the number and the name of the refusal.
 ghost use Rattle.std.specs.Prelude.{◌≡◌};
-ghost use Rattle.mr_words.specs.Lines.{text_fault_line, node_fault_line, plan_fault_line};
+ghost use Rattle.mr_words.specs.Lines.{text_fault_line, pool_fault_line, schedule_fault_line, node_fault_line, plan_fault_line};
 
 use mr_configs::PlanError;
 use mr_node::NodeError;
+use mr_phases::ScheduleError;
+use mr_pools::PoolError;
 use mr_text::TextError;
 
 /// The line of a refusal of `mr_text`.
@@ -21,6 +23,33 @@ pub fn text_line(refusal: TextError) -> &'static str
         TextError::Truncated => "migctl: text 8 Truncated\n",
         TextError::Closed => "migctl: text 9 Closed\n",
         TextError::OutOfMemory => "migctl: text 10 OutOfMemory\n",
+    }
+}
+
+/// The line of a refusal of `mr_pools`.
+pub fn pool_line(refusal: PoolError) -> &'static str
+    ensures { result.now ≡ pool_fault_line refusal }
+{
+    match refusal {
+        PoolError::EmptyPool => "migctl: pools 1 EmptyPool\n",
+        PoolError::TooManyNodes => "migctl: pools 2 TooManyNodes\n",
+        PoolError::BadName => "migctl: pools 3 BadName\n",
+        PoolError::RepeatedName => "migctl: pools 4 RepeatedName\n",
+        PoolError::SharedName => "migctl: pools 5 SharedName\n",
+        PoolError::OutOfMemory => "migctl: pools 6 OutOfMemory\n",
+        PoolError::TooManyPools => "migctl: pools 7 TooManyPools\n",
+    }
+}
+
+/// The line of a refusal of `mr_phases`.
+pub fn schedule_line(refusal: ScheduleError) -> &'static str
+    ensures { result.now ≡ schedule_fault_line refusal }
+{
+    match refusal {
+        ScheduleError::ZeroInterval => "migctl: phases 1 ZeroInterval\n",
+        ScheduleError::TooLate => "migctl: phases 2 TooLate\n",
+        ScheduleError::TooSoon => "migctl: phases 3 TooSoon\n",
+        ScheduleError::TooManyHops => "migctl: phases 4 TooManyHops\n",
     }
 }
 

@@ -7,8 +7,8 @@ use std::alloc::{AllocError, Global};
 /// What stands between the members of a list.
 const SEPARATOR: char = ',';
 
-/// The pieces of a text between its commas, empty ones too.
-fn split_at_commas<'a>(alloc: Global, text: &'a str) -> Result<Vec<&'a str>, AllocError>
+/// The pieces of a text between its commas, empty ones too: one more than it has commas.
+pub fn split_at_commas<'a>(alloc: Global, text: &'a str) -> Result<Vec<&'a str>, AllocError>
     ensures { IfOk result (λ pieces. map (λ piece. piece.now) pieces.items ≡ members_of text.now) }
 {
     text.split(SEPARATOR).collect(alloc)

@@ -24,13 +24,25 @@ pub struct WatchValues<'a> {
 }
 
 impl<'a> WatchValues<'a> {
-    ghost use Rattle.mr_words.specs.Words.{addresses_in};
+    ghost use Rattle.mr_words.specs.Words.{SameWatch, addresses_in};
 
     /// Where services tell their metrics.
     pub fn addresses(&self) -> &[&'a str]
         ensures { map (λ address. address.now) result.now ≡ addresses_in self.now }
     {
         self.addresses.as_slice()
+    }
+
+    /// Equal values.
+    pub fn copy(&self) -> Result<WatchValues<'a>, AllocError>
+        ensures { IfOk result (SameWatch self.now) }
+    {
+        Ok(WatchValues {
+            config: self.config,
+            once: self.once,
+            json: self.json,
+            addresses: self.addresses.clone()?,
+        })
     }
 }
 

@@ -1,16 +1,17 @@
 //! The words of the command line.
 ghost use Rattle.std.specs.Prelude.{◌≡◌, ◌≢◌, None, Some, false, map, IfOk, IsOkAnd, IfSome, IfNone, codes, option_map};
 ghost use Rattle.clap.specs.Words.{AddsSubcommand, app_of, found_of, rows_of, rule_of, subcommand_name_of, subcommand_rows_of};
-ghost use Rattle.mr_words.specs.Command.{at_rule, file_app, word_rule, plan_app, timeline_app, run_app, check_app, upgrade_app, explain_app, program_app};
+ghost use Rattle.mr_words.specs.Command.{file_app, word_rule, timeline_app, run_app, check_app, upgrade_app, explain_app, program_app};
 ghost use Rattle.mr_words.specs.Explain.{told_by};
-ghost use Rattle.mr_words.specs.Words.{HasPlan, HasExplanation, ReadsWords, SaysPlainly, SaysVersion, ReadsAs, TellsVersion};
-ghost use Rattle.mr_words.specs.WordSteps.{IsFaultOf, GivesReadings, GivesTimeline, GivesCommand, both_given, no_such_fault};
+ghost use Rattle.mr_words.specs.Words.{AgreesWith, HasExplanation, ReadsWords, SaysPlainly, SaysVersion, ReadsAs, TellsVersion};
+ghost use Rattle.mr_words.specs.WordSteps.{IsFaultOf, GivesReadings, GivesTimeline, GivesCommand, both_given, neither_form, no_such_fault};
 
 use crate::explain::{Explanation, find_explanation};
 use crate::help::{
-    CHECK_NOTES, EXPLAIN_NOTES, PLAN_NOTES, PROGRAM_NOTES, RUN_NOTES, TIMELINE_NOTES, UPGRADE_NOTES,
+    CHECK_NOTES, EXPLAIN_NOTES, PROGRAM_NOTES, RUN_NOTES, TIMELINE_NOTES, UPGRADE_NOTES,
 };
 use crate::options::{config_option, option};
+use crate::plan_words::{PlanValues, plan_command, plan_values};
 use crate::readings::numbers_in;
 use crate::service_words::{
     NodeValues, ProxyValues, node_command, node_values, proxy_command, proxy_values,
@@ -21,15 +22,6 @@ use clap::error::ErrorKind;
 use clap::{Arg, ArgAction, ArgMatches, Command, Error, value_parser};
 use std::alloc::{AllocError, Global};
 
-/// The values of the command `plan`.
-#[derive(Clone, Copy, Debug)]
-pub struct PlanValues<'a> {
-    /// The path of the configuration's file.
-    pub config: &'a str,
-    /// The moment of the plan, in seconds since the epoch.
-    pub at: u64,
-}
-
 /// The values of the command `timeline`.
 #[derive(Debug, Drop)]
 pub struct TimelineValues<'a> {
@@ -39,8 +31,8 @@ pub struct TimelineValues<'a> {
     pub readings: Option<Vec<u64>>,
 }
 
-impl TimelineValues<'_> {
-    ghost use Rattle.mr_words.specs.Words.{readings_in};
+impl<'a> TimelineValues<'a> {
+    ghost use Rattle.mr_words.specs.Words.{SameTimeline, readings_in};
 
     /// What clocks read, where it was given.
     pub fn readings(&self) -> Option<&[u64]>
@@ -50,6 +42,18 @@ impl TimelineValues<'_> {
             Some(readings) => Some(readings.as_slice()),
             None => None,
         }
+    }
+
+    /// Equal values.
+    pub fn copy(&self) -> Result<TimelineValues<'a>, AllocError>
+        ensures { IfOk result (SameTimeline self.now) }
+    {
+        let readings = match &self.readings {
+            Some(readings) => Some(readings.clone()?),
+            None => None,
+        };
+        let config = self.config;
+        Ok(TimelineValues { config, readings })
     }
 }
 
@@ -74,6 +78,25 @@ pub enum Wanted<'a> {
     Watch(WatchValues<'a>),
     /// What a fault means.
     Explain(Explanation<'static>),
+}
+
+impl<'a> Wanted<'a> {
+    /// The same command with equal values.
+    pub fn copy(&self) -> Result<Wanted<'a>, AllocError>
+        ensures { IfOk result (AgreesWith self.now) }
+    {
+        match self {
+            Wanted::Plan(values) => Ok(Wanted::Plan(*values)),
+            Wanted::Timeline(values) => Ok(Wanted::Timeline(values.copy()?)),
+            Wanted::Run(file) => Ok(Wanted::Run(*file)),
+            Wanted::Check(file) => Ok(Wanted::Check(*file)),
+            Wanted::Upgrade(file) => Ok(Wanted::Upgrade(*file)),
+            Wanted::Node(values) => Ok(Wanted::Node(*values)),
+            Wanted::Proxy(values) => Ok(Wanted::Proxy(*values)),
+            Wanted::Watch(values) => Ok(Wanted::Watch(values.copy()?)),
+            Wanted::Explain(explanation) => Ok(Wanted::Explain(*explanation)),
+        }
+    }
 }
 
 /// Why the words give no command.
@@ -111,31 +134,6 @@ impl From<Error> for WordsFault {
             WordsFault::Wrong(error)
         }
     }
-}
-
-/// The option that says when the request of a plan arrives.
-fn at_option<'a>(alloc: Global) -> Arg<'a>
-    ensures rule { rule_of result ≡ at_rule }
-    ensures local { result.global ≡ false }
-{
-    let at = option(
-        alloc,
-        "at",
-        "seconds",
-        "When the request arrives, in seconds since the epoch",
-    );
-    at.required(true).value_parser(value_parser!(u64))
-}
-
-/// The command `plan`.
-fn plan_command<'a>(alloc: Global) -> Result<Command<'a>, AllocError>
-    ensures { IfOk result (λ command. app_of command ≡ plan_app) }
-{
-    Command::new(alloc, "plan")
-        .about("Prints where the request on the standard input goes")
-        .after_help(PLAN_NOTES)
-        .arg(config_option(alloc))?
-        .arg(at_option(alloc))
 }
 
 /// The command `timeline`.
@@ -263,17 +261,6 @@ fn program<'a>(alloc: Global) -> Result<Command<'a>, AllocError>
     )
 }
 
-/// The values of the command `plan`, where each of them was found.
-fn plan_values<'a>(matches: &ArgMatches<'a>) -> Option<PlanValues<'a>>
-    ensures found { IfSome result (HasPlan (rows_of (found_of matches.now))) }
-    ensures missing { IfNone result ((values : PlanValues) → ¬ HasPlan (rows_of (found_of matches.now)) values) }
-{
-    Some(PlanValues {
-        config: matches.get_str("config")?,
-        at: matches.get_one("at")?,
-    })
-}
-
 /// The readings among the values of the command `timeline`, where they were given.
 fn readings_of(alloc: Global, matches: &ArgMatches) -> Result<Option<Vec<u64>>, WordsFault>
     ensures { GivesReadings (rows_of (found_of matches.now)) result }
@@ -363,15 +350,20 @@ fn wanted_of<'a>(alloc: Global, matches: &ArgMatches<'a>) -> Result<Option<Wante
     Ok(None)
 }
 
-/// Why no command has these values, though the command line took each of them: `explain` names no fault, or a service is
-/// given `--forever` beside what it stands in place of.
+/// Why no command has these values, though the command line took each of them: `explain` names no fault, a plan is given
+/// neither of its forms or parts of both, or a service is given `--forever` beside what it stands in place of.
 fn refusal_of_values(matches: &ArgMatches) -> &'static str
     ensures explain { (subcommand_name_of matches.now ≡ Some (codes "explain")) → (result.now ≡ no_such_fault) }
-    ensures service { (subcommand_name_of matches.now ≢ Some (codes "explain")) → (result.now ≡ both_given) }
+    ensures plan { (subcommand_name_of matches.now ≡ Some (codes "plan")) → (result.now ≡ neither_form) }
+    ensures service { (subcommand_name_of matches.now ≢ Some (codes "explain"))
+        → (subcommand_name_of matches.now ≢ Some (codes "plan")) → (result.now ≡ both_given) }
 {
-    match matches.subcommand_matches("explain") {
+    if matches.subcommand_matches("explain").is_some() {
+        return "no layer of this name has a fault of this number: 'migctl explain --help' names the layers";
+    }
+    match matches.subcommand_matches("plan") {
         Some(_) =>
-            "no layer of this name has a fault of this number: 'migctl explain --help' names the layers",
+            "'plan' takes --config and --at, or six words of which the fifth is sum or fnv1a32: 'migctl plan --help' shows both",
         None =>
             "'--forever' stands in place of '--clients' and '--turns', and neither goes with it",
     }

@@ -83,6 +83,13 @@ def plan_of(source, request):
     return planned(source, compact(config).encode(), configs.hops_of(config), request)
 
 
+def said(source, request):
+    """A plan by six words, which are good or have one or two of the mistakes that words may have."""
+    words, hop = configs.six_words(source)
+    at = source.choice((configs.reading_about(source, (hop,)),) * 5 + (0, configs.GREATEST))
+    return ["plan", *words, str(at)], {}, request
+
+
 def timed(source, config, hops):
     """A timeline by the bytes of a configuration, often with readings about the bounds of a schedule."""
     words = ["timeline", "--config", FILE]
@@ -200,6 +207,8 @@ KINDS = {
     "plan, valid request": Kind(lambda source: plan_of(source, requests.valid_request(source)), drawn=8, chain=18),
     "plan, refused request": Kind(lambda source: plan_of(source, requests.refused_request(source)), drawn=7),
     "plan, altered request": Kind(lambda source: plan_of(source, requests.altered_request(source)), drawn=5),
+    "plan, six words": Kind(lambda source: said(source, requests.valid_request(source)), drawn=6),
+    "plan, six words and another request": Kind(lambda source: said(source, requests.altered_request(source)), drawn=2),
     "configuration, valid": Kind(valid_config, drawn=4, chain=6),
     "configuration, refused": Kind(lambda source: configured(source, configs.refused_config(source)), drawn=8, chain=12),
     "configuration, altered": Kind(altered_valid_config, drawn=8, chain=10),

@@ -77,6 +77,43 @@ def drawn_hops(source, count):
     return found
 
 
+def six_words(source):
+    """The words of a migration, but for the second of a request, and its hop. In half of them there are mistakes."""
+    old, new = source.choice((1, 2, 3)), source.choice((1, 2, 3, 5))
+    nodes = names(source, old + new)
+    pools = [nodes[:old], nodes[old:]]
+    hop = drawn_hops(source, 1)[0]
+    if source.random() < 0.5:
+        for mistake in source.sample(MISTAKES_IN_POOLS, source.choice((0, 1, 1, 2))):
+            mistake(source, pools)
+        hop = source.choice((hop, hop, hop._replace(interval=0), Hop(GREATEST - 1, 1), Hop(source.choice(STARTS), GREATEST)))
+    zeros = "0" * source.choice((0, 0, 0, 3))
+    return [*map(",".join, pools), zeros + str(hop.start), str(hop.interval), source.choice(("sum", "fnv1a32"))], hop
+
+
+def has_a_bad_name(source, pools):
+    bad = source.choice([name for name in BAD_NAMES if "\0" not in name and "," not in name])
+    pool = source.choice(pools)
+    pool.insert(source.randrange(len(pool) + 1), bad)
+
+
+def has_a_repeated_name(source, pools):
+    pool = source.choice(pools)
+    pool.append(source.choice(pool))
+
+
+def has_a_shared_name(source, pools):
+    old, new = source.sample(pools, 2)
+    new.insert(source.randrange(len(new) + 1), source.choice(old))
+
+
+def has_too_many_names(source, pools):
+    source.choice(pools).extend(str(number) for number in range(1024))
+
+
+MISTAKES_IN_POOLS = (has_a_bad_name, has_a_repeated_name, has_a_shared_name, has_too_many_names)
+
+
 def reading_about(source, hops):
     """A reading about one of the bounds of some migrations."""
     bound = source.choice(source.choice(hops).bounds())

@@ -17,6 +17,7 @@ use std::thread::Threads;
 use std::time::Clock;
 
 mod arguments;
+mod copies;
 mod devices;
 mod files_at;
 mod memory;

@@ -3,21 +3,67 @@
 use super::{FLEET, HELD, UPGRADED, is};
 use crate::tests::must;
 use mr_configs::{Config, PlanError};
+use mr_pools::NamedHash;
 use mr_scripts::upgrade_script;
 use mr_test_support::{at_last, grant_memory, refuse_memory};
 use mr_text::{Key, OverWriter, Request};
-use mr_tool::{PrintFault, Wanted, WordsFault, read_words, write_plan};
+use mr_tool::{
+    MigrationWords, PlanValues, Planned, PrintFault, Wanted, WordsFault, read_words, write_plan,
+};
 use std::alloc::Global;
 use std::env::Env;
 use std::process::Abort;
 
 const PLAN: &[&str] = &["plan", "--config", "fleet.json", "--at", "1000"];
 
+const SIX_WORDS: &[&str] = &[
+    "plan",
+    "7001,7002",
+    "7101,7102,7103",
+    "1000",
+    "100",
+    "sum",
+    "999",
+];
+
 #[test]
 fn refused_memory_reads_words_later(rt: HostRuntime) {
     let read = at_last!(&rt, read_words(rt.alloc(), PLAN), Err(WordsFault::Memory));
     match must(&rt, read) {
-        Wanted::Plan(values) => is(&rt, (values.config, values.at), ("fleet.json", 1000)),
+        Wanted::Plan(
+            PlanValues {
+                planned: Planned::InFile(path),
+                at,
+            },
+        ) => is(&rt, (path, at), ("fleet.json", 1000)),
+        _ => rt.panic("another command"),
+    }
+}
+
+/// Asserts what six words say.
+fn expect_migration(rt: &impl Abort, words: &MigrationWords) {
+    is(rt, (words.old, words.new), ("7001,7002", "7101,7102,7103"));
+    is(rt, (words.start, words.interval), (1000, 100));
+    is(rt, words.hash, NamedHash::Sum);
+}
+
+#[test]
+fn refused_memory_reads_six_words_later(rt: HostRuntime) {
+    let read = at_last!(
+        &rt,
+        read_words(rt.alloc(), SIX_WORDS),
+        Err(WordsFault::Memory)
+    );
+    match must(&rt, read) {
+        Wanted::Plan(
+            PlanValues {
+                planned: Planned::InWords(words),
+                at,
+            },
+        ) => {
+            expect_migration(&rt, &words);
+            is(&rt, at, 999);
+        }
         _ => rt.panic("another command"),
     }
 }

@@ -22,12 +22,48 @@ enum Left {
 /// A run: its words and its input, how often it asks for a file, and what it leaves.
 type Row = (&'static [&'static str], &'static [u8], u32, Left);
 
-static ROWS: [Row; 17] = [
+static ROWS: [Row; 21] = [
     (
         &["plan", "--config", "fleet.json", "--at", "1000"],
         b"delete k\r\n",
         1,
         Left::Wrote(b"phase both-read-old at 1000\nleg 0 old 7002\nleg 1 new 7103\n"),
+    ),
+    (
+        &[
+            "plan",
+            "7001,7002",
+            "7101,7102,7103",
+            "1000",
+            "100",
+            "sum",
+            "1000",
+        ],
+        b"delete k\r\n",
+        0,
+        Left::Wrote(b"phase both-read-old at 1000\nleg 0 old 7002\nleg 1 new 7103\n"),
+    ),
+    (
+        &["plan", "7001", "7001", "1000", "100", "sum", "0"],
+        b"get k\r\n",
+        0,
+        Left::Told(1, b"migctl: pools 5 SharedName\n"),
+    ),
+    (
+        &["plan", "7001", "7101", "1000", "0", "sum", "0"],
+        b"get k\r\n",
+        0,
+        Left::Told(1, b"migctl: phases 1 ZeroInterval\n"),
+    ),
+    (
+        &["plan", "7001", "7101", "1000", "100", "crc", "0"],
+        b"get k\r\n",
+        0,
+        Left::Told(
+            2,
+            b"error: 'plan' takes --config and --at, or six words of which the fifth is sum or fnv1a32: \
+            'migctl plan --help' shows both\n\nUsage: migctl <COMMAND>\n\nFor more information, try '--help'.\n",
+        ),
     ),
     (
         &["timeline", "--config", "fleet.json"],

@@ -1,0 +1,33 @@
+-- What the pieces of a word between its commas say of the names that are made of them.
+use Rattle.std.proofs.Common.{◌≡◌, ℕ, ◌+◌, ◌<◌, ◌∙◌, ap, refl, subst, List, [], ◌∷◌, ◌++◌, All, length, take, map, slice_index_or}
+use Rattle.std.proofs.lemmas.List.{take_more}
+use Rattle.std.proofs.lemmas.List.Elements.{All-push}
+use Rattle.std.specs.Borrow.{Bor}
+use Rattle.mr_pools.specs.NodeName.{IsNodeName}
+use Rattle.mr_words.proofs.ListLemmas.{IsPieceAt, piece_at}
+
+-- the names so far are the pieces so far, and each of these can name a node
+abbrev pub AreMade : List (List ℕ) → ℕ → List (List ℕ) → Type 0
+AreMade words i made = (made ≡ take i words) × All IsNodeName (take i words)
+
+names_more : (words made more : List (List ℕ)) (i : ℕ) (piece name : List ℕ) → IsPieceAt words i piece → IsNodeName piece → name ≡ piece
+    → more ≡ made ++ name ∷ [] → AreMade words i made → AreMade words (i + 1) more
+names_more words made more i piece name at is same pushed so_far =
+    let next : take (i + 1) words ≡ take i words ++ piece ∷ [] =
+    take_more words i [] at.inside ∙ ap (λ (w : List ℕ). take i words ++ w ∷ []) (at.reads []) in
+    (rw (pushed, next, same, so_far.0) refl, rw next (All-push IsNodeName (take i words) piece so_far.1 is))
+
+-- one more name
+pub name_made : (pieces lent : List (Bor (List ℕ))) (words : List (List ℕ)) (i : ℕ) (p : Bor (List ℕ)) (bytes name : List ℕ) (made more : List (List ℕ))
+    → map (λ (q : Bor (List ℕ)). q.now) pieces ≡ words → lent ≡ pieces → i < length lent → bytes ≡ (slice_index_or lent i p).now
+    → IsNodeName bytes × (name ≡ bytes) → more ≡ made ++ name ∷ [] → AreMade words i made → AreMade words (i + 1) more
+name_made pieces lent words i p bytes name made more is same lt piece_is named pushed so_far =
+    names_more words made more i bytes name (piece_at pieces lent words i p bytes is same lt piece_is) named.0 named.1 pushed so_far
+
+-- a piece that can name no node
+pub name_refused : (pieces lent : List (Bor (List ℕ))) (words : List (List ℕ)) (i : ℕ) (p : Bor (List ℕ)) (bytes : List ℕ)
+    → map (λ (q : Bor (List ℕ)). q.now) pieces ≡ words → lent ≡ pieces → i < length lent → bytes ≡ (slice_index_or lent i p).now → ¬ IsNodeName bytes
+    → ¬ All IsNodeName words
+name_refused pieces lent words i p bytes is same lt piece_is none all =
+    let at = piece_at pieces lent words i p bytes is same lt piece_is in
+    none (subst IsNodeName (at.reads []) (all i [] at.inside))
