@@ -41,6 +41,10 @@ impl Model for One {
 
 /// A join of the replies of a request's legs. `Joining<Two>` becomes `Joining<One>` by a first reply, and that becomes
 /// `Joined` by the reply of the side that is left: one reply alone can't finish what awaits two.
+///
+/// It is for whoever holds the two legs of one delete by their sides. A proxy doesn't: an answer lends its legs with their
+/// replies as one list, which a session compares with where its legs went, and a join has no such list. So a delete under
+/// way keeps its replies beside its legs, and no code of the program makes a `Joining`.
 #[derive(Debug, Drop)]
 pub struct Joining<S> {
     state: S,

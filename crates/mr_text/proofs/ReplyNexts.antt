@@ -2,7 +2,7 @@
 use Rattle.std.proofs.Common.{◌≡◌, ◌≢◌, ℕ, ◌+◌, ◌≤◌, List, [], ◌++◌, length, take, drop, true, false, Option, Some, None, Result, Ok, Err, refl, sym, ◌∙◌, ap, subst, arith, inl, inr, length-append}
 use Rattle.std.proofs.Math.Seq.{drop-append_seam}
 use Rattle.std.proofs.lemmas.List.{drop-drop}
-use Rattle.mr_text.specs.Replies.{SpellsReply, RefusesReply, SkipsNone, HoldsItem, MayWantMemory, NextReplyIs, HasReadPart, HasReadAll, ReplyBegunAfter, is_no_last}
+use Rattle.mr_text.specs.Replies.{SpellsReply, RefusesReply, SkipsNone, HoldsItem, MayWantMemory, NextReplyIs, HasReadPart, HasReadAll, LacksMemoryAt, ReplyBegunAfter, is_no_last}
 use Rattle.mr_text.specs.Stream.{ReaderView, StandsFor, Becomes, NextIs, HoldsFew}
 use Rattle.mr_text.specs.steps.Reading.StretchReading.{Waits, Gives, Refused}
 use Rattle.mr_text.specs.steps.ReplyReading.{items_reading, as_reply, reply_reading}
@@ -90,6 +90,9 @@ module _ (old now new : StreamView) (still : old.closed ≡ false) (on : ReadsOn
   part_so : HasReadPart (all_of now) (length now.front) → (front : List ℕ) → front ≡ now.front → HasReadPart (all_of old) (length front)
   part_so part front is = subst (HasReadPart (all_of old)) (ap length (sym is)) (subst (λ s. HasReadPart s (length now.front)) on.kept part)
 
+  lacks_so : LacksMemoryAt (all_of now) (length now.front) → (front : List ℕ) → front ≡ now.front → LacksMemoryAt (all_of old) (length front)
+  lacks_so lacks front is = subst (LacksMemoryAt (all_of old)) (ap length (sym is)) (subst (λ s. LacksMemoryAt s (length now.front)) on.kept lacks)
+
   ends_inside : (refusal : TextError) → reply_reading (all_of old) ≡ Waits → HasReadPart (all_of now) (length now.front) → StreamWaits {Item = Reply} now new (Err refusal)
       → IsNextReply (reader_of old) (reader_of new) (Err refusal)
   ends_inside refusal e part h =
@@ -124,14 +127,14 @@ module _ (old now new : StreamView) (still : old.closed ≡ false) (on : ReadsOn
 
   -- memory for what may be copied
   pub reply_lacks : (items_of : reply_reading (all_of old) ≡ as_reply (items_reading MAX_ITEMS (all_of old))) → MayCopy old.ended (items_reading MAX_ITEMS (all_of old)) → HoldsItem (all_of old)
-      → HasReadPart (all_of now) (length now.front) → new ≡ now → IsNextReply (reader_of old) (reader_of new) (Err OutOfMemory)
-  reply_lacks items_of may item part is = record {
+      → LacksMemoryAt (all_of now) (length now.front) → new ≡ now → IsNextReply (reader_of old) (reader_of new) (Err OutOfMemory)
+  reply_lacks items_of may item lacks is = record {
     answer = λ rest stands. (
       still,
       subst (MayWantMemory old.ended) stands (holds (items_reading MAX_ITEMS (all_of old)) refl may),
       record { stands = ap all_of is ∙ stands_so rest stands; is_ended = ap (λ v. v.ended) is ∙ on.ended; is_closed = ap (λ v. v.closed) is ∙ on.closed ∙ still },
     );
-    begun = (let more = on.further in let same = ap (λ v. length v.front) is in omega arith, part_so part new.front (ap (λ v. v.front) is));
+    begun = (let more = on.further in let same = ap (λ v. length v.front) is in omega arith, lacks_so lacks new.front (ap (λ v. v.front) is));
     short = λ none. cc;
   }
     where
@@ -151,9 +154,9 @@ module _ (old now new : StreamView) (still : old.closed ≡ false) (on : ReadsOn
       holds (Refused refusal size) e may = absurd may
 
 -- a reply that is a line by itself, of which nothing was kept
-pub lone_lacks : (old : StreamView) (reply : Reply) (size : ℕ) → old.closed ≡ false → reply_reading (all_of old) ≡ Gives reply size → HasReadPart (all_of old) (length old.front)
+pub lone_lacks : (old : StreamView) (reply : Reply) (size : ℕ) → old.closed ≡ false → reply_reading (all_of old) ≡ Gives reply size → LacksMemoryAt (all_of old) (length old.front)
     → IsNextReply (reader_of old) (reader_of old) (Err OutOfMemory)
-lone_lacks old reply size still e part = record {
+lone_lacks old reply size still e lacks = record {
   answer = λ rest stands. (
     still,
     inl (
@@ -164,7 +167,7 @@ lone_lacks old reply size still e part = record {
     ),
     record { stands = stands; is_ended = refl; is_closed = still },
   );
-  begun = (omega arith, part);
+  begun = (omega arith, lacks);
   short = λ none. cc;
 }
 
@@ -176,7 +179,8 @@ reply_refused old new refusal still e part is = record {
       (reply_refusing (reader_of old) (reader_of new) rest refusal still (subst (λ s. reply_reading s ≡ Refused refusal 0) stands e)
       (record { stands = ap all_of is ∙ stands; is_ended = ap (λ v. v.ended) is; is_closed = ap (λ v. v.closed) is }))
       (reply_refuses (all_of old) refusal 0 e);
-  begun = begun refusal (omega (arith, ap (λ v. length v.front) is)) (ap (λ v. length v.front) is) (subst (HasReadPart (all_of old)) (ap (λ v. length v.front) (sym is)) part);
+  begun = begun refusal (omega (arith, ap (λ v. length v.front) is)) (ap (λ v. length v.front) is) (subst (HasReadPart (all_of old)) (ap (λ v. length v.front) (sym is)) part)
+      (reply_refuses (all_of old) refusal 0 e);
   short = λ none. cc;
 }
   where
@@ -195,17 +199,17 @@ reply_refused old new refusal still e part is = record {
     answer OutOfMemory rest h so = absurd so
 
     begun : (refusal : TextError) → length old.front ≤ length new.front → length new.front ≡ length old.front → HasReadPart (all_of old) (length new.front)
-        → ReplyBegunAfter (reader_of old) (reader_of new) (Err refusal)
-    begun (UnknownCommand closes) more same part = (more, part)
-    begun LineTooLong more same part = (more, part)
-    begun BadKey more same part = (more, part)
-    begun BadNumber more same part = (more, part)
-    begun WrongWords more same part = (more, part)
-    begun DataTooLong more same part = (more, part)
-    begun BadDataEnd more same part = (more, part)
-    begun Truncated more same part = (more, part)
-    begun Closed more same part = same
-    begun OutOfMemory more same part = (more, part)
+        → RefusedSo RefusesReply SkipsNone (all_of old) refusal 0 → ReplyBegunAfter (reader_of old) (reader_of new) (Err refusal)
+    begun (UnknownCommand closes) more same part so = (more, part)
+    begun LineTooLong more same part so = (more, part)
+    begun BadKey more same part so = (more, part)
+    begun BadNumber more same part so = (more, part)
+    begun WrongWords more same part so = (more, part)
+    begun DataTooLong more same part so = (more, part)
+    begun BadDataEnd more same part so = (more, part)
+    begun Truncated more same part so = (more, part)
+    begun Closed more same part so = same
+    begun OutOfMemory more same part so = absurd so
 
 pub reply_closed : (old new : ReaderView) → old.closed ≡ true → new ≡ old → IsNextReply old new (Err Closed)
 reply_closed old new closed is = record {
@@ -262,4 +266,4 @@ next_from old now new result still on h = record {
     begun (Err BadDataEnd) is g = part g
     begun (Err Truncated) is g = part g
     begun (Err Closed) is g = absurd (let closed : now.closed ≡ true = is.0 in cc)
-    begun (Err OutOfMemory) is g = part g
+    begun (Err OutOfMemory) is g = (let further = on.further in let more = g.0 in omega arith, subst (λ s. LacksMemoryAt s new.begun) on.kept g.1)

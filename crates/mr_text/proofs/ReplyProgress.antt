@@ -4,7 +4,7 @@ use Rattle.std.proofs.Math.Seq.{take-append_seam, drop-append_seam}
 use Rattle.std.proofs.lemmas.List.{length-take-le, take-append-drop, drop-drop, take_all}
 use Rattle.mr_lines.specs.Words.{words_of}
 use Rattle.mr_text.specs.Requests.{block_end}
-use Rattle.mr_text.specs.Replies.{IsItemLine, SpellsItem, BeginsWithItems, HoldsItem, IsAnItemLine, HasReadPart, HasReadAll, cause_of}
+use Rattle.mr_text.specs.Replies.{IsItemLine, SpellsItem, BeginsWithItems, HoldsItem, IsAnItemLine, HasReadPart, HasReadAll, HasReadToBlock, cause_of}
 use Rattle.mr_text.specs.steps.BegunItem.{SaidItem, IsLineSoFar, HasRead, is_begun}
 use Rattle.mr_text.specs.steps.ReplySteps.{IsStepAhead, IsAhead, SaysFirst}
 use Rattle.mr_text.specs.steps.ReplyView.{reply_line_of}
@@ -302,6 +302,29 @@ holds_item front unread [] said h e =
     )
 holds_item front unread (item ∷ items) said h e =
     (item, h.begins.1 ++ unread, (h.begins.0, h.begins.1 ++ unread, ap (λ s. s ++ unread) h.begins.2 ∙ append_assoc h.begins.0 h.begins.1 unread, h.begins.3, refl))
+
+-- up to its block
+pub read_to_block : (front unread : List ℕ) (items : List Item) (said : SaidItem) → HasRead front items (Some said) → block_reading said.block_length unread ≡ Ok true
+    → HasReadToBlock (front ++ unread) (length front)
+unfolding read_part
+read_to_block front unread items said h e =
+    let whole = item_whole h.line unread said.key said.flags said.block_length h.is_line.0 h.is_line.1 e in
+    record {
+      part = read_part front unread items (Some said) h;
+      has_line = λ none. (let some = line_some h.line said.key said.flags said.block_length h.is_line.0 in let empty = ap length none in omega arith);
+      is_whole = (
+        record { key = said.key; flags = said.flags; block = take said.block_length unread },
+        drop (said.block_length + 2) unread,
+        (
+          h.line ++ take (said.block_length + 2) unread,
+          drop (said.block_length + 2) unread,
+          ap (λ s. h.line ++ s) (sym (take-append-drop (said.block_length + 2) unread))
+              ∙ sym (append_assoc h.line (take (said.block_length + 2) unread) (drop (said.block_length + 2) unread)),
+          whole,
+          refl,
+        ),
+      );
+    }
 
 -- one more line, and one more block
 pub line_read : (front unread : List ℕ) (items : List Item) (said : SaidItem) (size : ℕ) → HasRead front items None → length items < MAX_ITEMS

@@ -1,13 +1,13 @@
 -- What reading on comes to, from what stands in the bytes that weren't read.
-use Rattle.std.proofs.Common.{◌≡◌, ◌≢◌, ℕ, ◌+◌, ◌-◌, ◌*◌, ◌<◌, ◌≤◌, Bool, true, false, List, [], ◌∷◌, ◌++◌, length, take, drop, Option, Some, None, Result, Ok, Err, refl, sym, ◌∙◌, ap, subst, arith, append_assoc, length-append, length-drop}
+use Rattle.std.proofs.Common.{◌≡◌, ◌≢◌, ℕ, ◌+◌, ◌-◌, ◌*◌, ◌<◌, ◌≤◌, Bool, true, false, List, [], ◌∷◌, ◌++◌, length, take, drop, Option, Some, None, Result, Ok, Err, refl, sym, ◌∙◌, ap, subst, arith, inl, inr, append_assoc, length-append, length-drop}
 use Rattle.std.proofs.lemmas.List.{take-append-drop}
 use Rattle.std.specs.declared.alloc.AllocError.{AllocError}
 use Rattle.mr_text.specs.Limits.{MAX_BLOCK, MAX_ITEMS}
-use Rattle.mr_text.specs.Replies.{IsItemLine, HoldsItem, HasReadPart}
+use Rattle.mr_text.specs.Replies.{IsItemLine, HoldsItem, HasReadPart, HasReadToBlock}
 use Rattle.mr_text.specs.steps.BegunItem.{SaidItem, HasRead, is_begun}
 use Rattle.mr_text.specs.steps.Reading.{StretchReading, line_reading, block_reading}
 use Rattle.mr_text.specs.steps.Reading.StretchReading.{Waits, Gives, Refused}
-use Rattle.mr_text.specs.steps.ReplyReading.{step_reading, items_reading, as_reply, reply_reading}
+use Rattle.mr_text.specs.steps.ReplyReading.{step_reading, with_items, items_reading, as_reply, reply_reading}
 use Rattle.mr_text.specs.steps.ReplyReading.Step.{EndStep}
 use Rattle.mr_text.specs.steps.ReplyProgress.{IsProgress, IsNextReply, FirstLineIs, LineTaken, MayCopy, ReadsOn, TakesStep, all_of, has_begun, steps_of}
 use Rattle.mr_text.specs.steps.ReplySteps.{IsAhead, SaysFirst, lone_reply}
@@ -23,7 +23,10 @@ use Rattle.mr_text.specs.declared.reading.unfinished_reply.UnfinishedReply.{Unfi
 use Rattle.mr_text.specs.declared.reply.Reply.{Reply}
 use Rattle.mr_text.specs.declared.reply.Reply.TheVariants.{Items}
 use Rattle.mr_text.proofs.ReplyNexts.{reply_gives, reply_waits, reply_truncated, reply_lacks, lone_lacks, reply_refused}
-use Rattle.mr_text.proofs.ReplyProgress.{ReadTo, begun_reads, begun_to, block_read, first_waits, front_none, front_some, holds_item, item_refused, item_waits, line_read, line_short, next_waits, read_all_blocks, read_all_lines, read_part, to_ahead, to_end, to_refused, to_waits}
+use Rattle.mr_text.proofs.ReplyProgress.{ReadTo, begun_reads, begun_to, block_read, first_waits, front_none, front_some, holds_item, item_refused, item_waits, line_read, line_short, next_waits, read_all_blocks, read_all_lines, read_part, read_to_block, to_ahead, to_end, to_refused, to_waits}
+use Rattle.mr_text.proofs.Reached.{one_more}
+use Rattle.mr_text.proofs.ReplyReading.{item_first}
+use Rattle.mr_text.proofs.ReplySteps.{item_found}
 use Rattle.mr_text.proofs.ShortRequests.{block_waits}
 
 -- a fact of a number and of bytes, where both go by other names
@@ -84,7 +87,10 @@ module _ (old : UnfinishedReply) (said : SaidItem) (h : IsProgress old) (is : ol
   block_lacks there new a b c e = record {
     progress = moved old new h (ap (λ v. v.front) a) b c;
     reads_on = subst (ReadsOn old.stream) (sym a) (reads_same old.stream);
-    step = holds_item old.stream.front old.stream.unread old.items.items said progress there;
+    step = (
+      holds_item old.stream.front old.stream.unread old.items.items said progress there,
+      subst (λ s. HasReadToBlock (all_of s) (length s.front)) (sym a) (read_to_block old.stream.front old.stream.unread old.items.items said progress there),
+    );
   }
 
   pub block_takes : block_reading said.block_length old.stream.unread ≡ Ok true → (new : UnfinishedReply) → new.stream ≡ with_read (said.block_length + 2) old.stream
@@ -213,6 +219,30 @@ lone_is_read bytes said.Error size says reply e = (let read = says.2 in let one 
 lone_is_read bytes (said.ClientError text) size says reply e = (let read = says.2 in let one = says.1 in cc)
 lone_is_read bytes (said.ServerError text) size says reply e = (let read = says.2 in let one = says.1 in cc)
 
+-- and begins with no item
+no_items : (line : SaidLine) (item : Item) (items : List Item) → lone_reply line ≢ Some (Items (item ∷ items))
+no_items (said.Item key flags block_length) item items e = cc
+no_items said.End item items e = cc
+no_items said.Stored item items e = cc
+no_items said.Deleted item items e = cc
+no_items said.NotFound item items e = cc
+no_items said.Error item items e = cc
+no_items (said.ClientError text) item items e = cc
+no_items (said.ServerError text) item items e = cc
+
+gives_no_items : (line : SaidLine) (reply : Reply) (size : ℕ) (item : Item) (front : ℕ) (r : StretchReading (List Item)) → lone_reply line ≡ Some reply
+    → Gives reply size ≢ as_reply (with_items (item ∷ []) front r)
+gives_no_items line reply size item front Waits lone e = cc
+gives_no_items line reply size item front (Gives items n) lone e = no_items line item items (lone ∙ ap Some (let same : reply ≡ Items (item ∷ items) = cc in same))
+gives_no_items line reply size item front (Refused refusal n) lone e = cc
+
+lone_no_item : (bytes : List ℕ) (line : SaidLine) (reply : Reply) (size : ℕ) → lone_reply line ≡ Some reply → reply_reading bytes ≡ Gives reply size → ¬ HoldsItem bytes
+lone_no_item bytes line reply size lone read (item, after, (front, behind, splits, spells, rest)) =
+    let first = item_first item [] bytes after (front, behind, splits, spells, rest) in
+    let step = ap (step_reading MAX_ITEMS) splits ∙ item_found MAX_ITEMS front behind item (omega arith) spells in
+    let one = one_more MAX_ITEMS bytes item (length front) (omega arith) step in
+    gives_no_items line reply size item (length front) (items_reading (MAX_ITEMS - 1) (drop (length front) bytes)) lone (sym read ∙ first ∙ ap as_reply one)
+
 -- the first line of a reply
 module _ (old : UnfinishedReply) (h : IsProgress old) (still : old.stream.closed ≡ false) (nothing : has_begun old ≡ false) where
   none_said : old.said ≡ None
@@ -248,8 +278,12 @@ module _ (old : UnfinishedReply) (h : IsProgress old) (still : old.stream.closed
             (ap reply_reading all_unread ∙ e ∙ ap (Gives reply) (let none = ap length front in let same : size ≡ length old.stream.front + size = omega arith in same)) a,
       )
 
-  pub first_lacks : (reply : Reply) (size : ℕ) → reply_reading old.stream.unread ≡ Gives reply size → FirstLineIs old old (Err OutOfMemory)
-  first_lacks reply size e = (h, lone_lacks old.stream reply size still (ap reply_reading all_unread ∙ e) part)
+  pub first_lacks : (line : SaidLine) (reply : Reply) (size : ℕ) → lone_reply line ≡ Some reply → reply_reading old.stream.unread ≡ Gives reply size
+      → FirstLineIs old old (Err OutOfMemory)
+  first_lacks line reply size lone e =
+      let read = ap reply_reading all_unread ∙ e in
+      let nothing_read = ap length (front_none old.stream.front old.items.items old.said h nothing) in
+      (h, lone_lacks old.stream reply size still read (inr (nothing_read, lone_no_item (all_of old.stream) line reply size lone read)))
 
   pub first_refused : (new : UnfinishedReply) (refusal : TextError) → reply_reading old.stream.unread ≡ Refused refusal 0 → new.stream ≡ record old.stream { closed = true }
       → new.said ≡ old.said → new.items.items ≡ old.items.items → FirstLineIs old new (Err refusal)
@@ -288,7 +322,7 @@ module _ (old between now : UnfinishedReply) (h : IsProgress old) (still : old.s
       → IsNextReply (reader_of old.stream) (reader_of now.stream) (Err OutOfMemory)
   items_lack e may taken =
       reply_lacks old.stream now.stream now.stream still (reads_on_by old.stream between.stream now.stream before taken.reads_on) reads_items may
-      (subst HoldsItem before.kept taken.step) (read_part now.stream.front now.stream.unread now.items.items now.said taken.progress) refl
+      (subst HoldsItem before.kept taken.step.0) (inl taken.step.1) refl
 
 -- the reply of items, where nothing is copied
 module _ (old : UnfinishedReply) (h : IsProgress old) (still : old.stream.closed ≡ false) (begun : has_begun old ≡ true) where

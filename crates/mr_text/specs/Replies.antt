@@ -212,9 +212,20 @@ pub record HasReadAll (bytes : List ℕ) (count : ℕ) : Type 0 where
   pub no_line : part.line ≡ [] → ¬ HasLineFeed part.after
   pub no_block : ¬ HoldsItem (part.line ++ part.after)
 
+-- so many bytes are read of a reply, up to the block of an item that is whole
+pub record HasReadToBlock (bytes : List ℕ) (count : ℕ) : Type 0 where
+  pub part : HasReadPart bytes count
+  pub has_line : part.line ≢ []
+  pub is_whole : HoldsItem (part.line ++ part.after)
+
+-- where memory was refused: at a block that is next, or at a reply of one line, of which nothing is read
+abbrev pub LacksMemoryAt : List ℕ → ℕ → Type 0
+LacksMemoryAt bytes count = HasReadToBlock bytes count ⊎ ((count ≡ 0) × ¬ HoldsItem bytes)
+
 -- how much `next` has read of a reply that isn't whole
 abbrev pub ReplyBegunAfter : (old new : ReaderView) → Result (Option Reply) TextError → Type 0
 ReplyBegunAfter old new (Ok (Some reply)) = new.begun ≡ 0
 ReplyBegunAfter old new (Ok None) = HasReadAll old.kept new.begun
 ReplyBegunAfter old new (Err Closed) = new.begun ≡ old.begun
+ReplyBegunAfter old new (Err OutOfMemory) = (old.begun ≤ new.begun) × LacksMemoryAt old.kept new.begun
 ReplyBegunAfter old new (Err refusal) = (old.begun ≤ new.begun) × HasReadPart old.kept new.begun

@@ -2,7 +2,7 @@
 use Rattle.std.specs.Prelude.{◌≡◌, ℕ, ◌+◌, ◌-◌, ◌*◌, ◌<◌, ◌≤◌, Bool, true, false, List, ◌++◌, length, Option, Some, None, Result, Ok, Err}
 use Rattle.std.specs.declared.alloc.AllocError.{AllocError}
 use Rattle.mr_text.specs.Limits.{MAX_ITEMS, MAX_HELD}
-use Rattle.mr_text.specs.Replies.{HoldsItem, HasReadAll, NextReplyIs, ReplyBegunAfter}
+use Rattle.mr_text.specs.Replies.{HoldsItem, HasReadAll, HasReadToBlock, NextReplyIs, ReplyBegunAfter}
 use Rattle.mr_text.specs.Stream.{ReaderView, StandsFor, HoldsFew}
 use Rattle.mr_text.specs.steps.BegunItem.{SaidItem, HasRead, is_begun}
 use Rattle.mr_text.specs.steps.Reading.{StretchReading}
@@ -90,7 +90,7 @@ StepReads old new step.Waits =
 
 abbrev pub StepTaken : UnfinishedReply → UnfinishedReply → Result ReadStep AllocError → Type 0
 StepTaken old new (Ok s) = StepReads old new s
-StepTaken old new (Err e) = HoldsItem (all_of old.stream)
+StepTaken old new (Err e) = HoldsItem (all_of old.stream) × HasReadToBlock (all_of new.stream) (length new.stream.front)
 
 pub record TakesStep (old new : UnfinishedReply) (result : Result ReadStep AllocError) : Type 0 where
   pub progress : IsProgress new

@@ -1,5 +1,6 @@
 //! A device that fails when it is told to, for tests.
-ghost use Rattle.std.specs.Prelude.{◌≡◌, ◌≢◌, ◌-◌, ◌==◌, false, IsErr, None, []};
+ghost use Rattle.std.specs.Prelude.{◌≡◌, ◌-◌, ◌==◌, IsErr};
+ghost use Rattle.mr_text.specs.FailsAt.{TakesTurn, sink_told, source_told};
 ghost use Rattle.mr_text.specs.Sink.{IsOneWrite};
 ghost use Rattle.mr_text.specs.Source.{IsOneRead};
 
@@ -68,19 +69,12 @@ impl<D> FailsAt<D> {
 }
 
 impl<D: Source> Source for FailsAt<D> {
-    ghost told = { λ f. record { taken = (D.told f.inner).taken; left = (D.told f.inner).left; reads = f.calls; failures = f.failures; least_room = f.least_room } };
+    ghost told = { source_told D.told };
 
     fn read(&mut self, buffer: &mut [u8]) -> Result<usize, ReadFault>
-        ensures read { IsOneRead buffer.new
-            (record { taken = (D.told self.old.inner).taken; left = (D.told self.old.inner).left; reads = self.old.calls; failures = self.old.failures; least_room = self.old.least_room })
-            result
-            (record { taken = (D.told self.new.inner).taken; left = (D.told self.new.inner).left; reads = self.new.calls; failures = self.new.failures; least_room = self.new.least_room }) }
-
-        // The turn to fail comes once and leaves the device alone. Every other call is one of the device.
-        ensures until { self.new.until ≡ self.old.until - 1 }
-        ensures turn { self.old.until ≡ 1 → IsErr result }
-        ensures idle { self.old.until ≡ 1 → self.new.inner ≡ self.old.inner }
-        ensures device { self.old.until ≢ 1 → IsOneRead buffer.new (D.told self.old.inner) result (D.told self.new.inner) }
+        ensures read { IsOneRead buffer.new (source_told D.told self.old) result (source_told D.told self.new) }
+        ensures turn { TakesTurn (IsErr result)
+            (IsOneRead buffer.new (D.told self.old.inner) result (D.told self.new.inner)) self.old self.new }
     {
         self.calls.add_one();
         self.least_room.meet(buffer.len());
@@ -97,17 +91,12 @@ impl<D: Source> Source for FailsAt<D> {
 }
 
 impl<D: Sink> Sink for FailsAt<D> {
-    ghost told = { λ f. record { written = (D.told f.inner).written; handed = f.handed; calls = f.calls; failures = f.failures; last_failed = f.last_failed; contents = (D.told f.inner).contents } };
+    ghost told = { sink_told D.told };
 
     fn write_all(&mut self, bytes: &[u8]) -> Result<(), WriteFault>
-        ensures write { IsOneWrite bytes.now
-            (record { written = (D.told self.old.inner).written; handed = self.old.handed; calls = self.old.calls; failures = self.old.failures; last_failed = self.old.last_failed; contents = (D.told self.old.inner).contents })
-            result
-            (record { written = (D.told self.new.inner).written; handed = self.new.handed; calls = self.new.calls; failures = self.new.failures; last_failed = self.new.last_failed; contents = (D.told self.new.inner).contents }) }
-        ensures until { self.new.until ≡ self.old.until - 1 }
-        ensures turn { self.old.until ≡ 1 → IsErr result }
-        ensures idle { self.old.until ≡ 1 → self.new.inner ≡ self.old.inner }
-        ensures device { self.old.until ≢ 1 → IsOneWrite bytes.now (D.told self.old.inner) result (D.told self.new.inner) }
+        ensures write { IsOneWrite bytes.now (sink_told D.told self.old) result (sink_told D.told self.new) }
+        ensures turn { TakesTurn (IsErr result)
+            (IsOneWrite bytes.now (D.told self.old.inner) result (D.told self.new.inner)) self.old self.new }
     {
         self.calls.add_one();
         self.handed.extend(bytes);

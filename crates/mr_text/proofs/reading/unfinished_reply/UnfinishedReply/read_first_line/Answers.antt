@@ -28,7 +28,7 @@ returns-in_default c =
     let read = lone_is_read c.as_slice.result.now i.line i.size h.0 c.lone_reply.ensures.lone.0 c.lone_reply.ensures.lone.1 in
     let e = subst (λ s. reply_reading s ≡ Gives c.lone_reply.ensures.lone.0 i.size) (c.as_slice.ensures ∙ ap (λ s. s.unread) c.line_end-end.ensures.same) read in
     subst (λ s. FirstLineIs old (record { stream = s; said = old.said; items = old.items }) (Err OutOfMemory)) (sym c.line_end-end.ensures.same)
-    (first_lacks old c.requires.progress c.requires.going_on c.requires.nothing c.lone_reply.ensures.lone.0 i.size e)
+    (first_lacks old c.requires.progress c.requires.going_on c.requires.nothing i.line c.lone_reply.ensures.lone.0 i.size c.lone_reply.ensures.lone.1 e)
 
 pub returns-in-Ok-Some-Item-default : goal.returns-in-Ok-Some-Item-default
 returns-in-Ok-Some-Item-default c =
