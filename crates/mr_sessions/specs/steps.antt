@@ -5,3 +5,4 @@ pub mod ClientCounts
 pub mod Destinations
 pub mod Exchange
 pub mod Reading
+pub mod Standing

@@ -12,6 +12,7 @@ ghost use Rattle.mr_sessions.specs.ClientSession.{ClientSessionIs, FewAreGivenUp
 ghost use Rattle.mr_sessions.specs.steps.ClientCounts.{ClientCounts};
 ghost use Rattle.mr_sessions.specs.steps.ClientStep.{AskedSo, AnsweredSo, RefusalToldSo, ClientRefusalIs, ClientRequestIs, ClientStepIs};
 ghost use Rattle.mr_sessions.specs.steps.Destinations.{most_legs};
+ghost use Rattle.mr_sessions.specs.steps.Standing.{standing};
 
 use crate::carrying::carry_request;
 use crate::faults::worker_error_of;
@@ -82,8 +83,8 @@ fn ask<C: Carrier, D: Desk<C>, K: Clock, W: Sink, L: Carriers<C>, R: Wait>(
     requires legs { most_legs request.now ≤ vec_capacity log.old.destinations }
     requires answer { D.recorded ≡ true → length log.old.answers.items + 1 ≤ vec_capacity log.old.answers }
     ensures { AskedSo (desk_rules K.reads K.failures C.gave D.recorded)
-        (station clock.old (account log.old.share log.old.answers.items (L.told carriers.old)) (W.told writer.old))
-        (station clock.new (account log.new.share log.new.answers.items (L.told carriers.new)) (W.told writer.new))
+        (standing clock.old log.old (L.told carriers.old) (W.told writer.old))
+        (standing clock.new log.new (L.told carriers.new) (W.told writer.new))
         request.now result }
 {
     match desk.issue(rt, &mut log.share, clock, request) {
@@ -112,8 +113,8 @@ fn answer_request<C: Carrier, D: Desk<C>, K: Clock, W: Sink, L: Carriers<C>, R: 
     request: &Request,
 ) -> Result<SessionStep, WorkerError>
     ensures { ClientRequestIs (desk_rules K.reads K.failures C.gave D.recorded)
-        (station clock.old (account log.old.share log.old.answers.items (L.told carriers.old)) (W.told writer.old))
-        (station clock.new (account log.new.share log.new.answers.items (L.told carriers.new)) (W.told writer.new))
+        (standing clock.old log.old (L.told carriers.old) (W.told writer.old))
+        (standing clock.new log.new (L.told carriers.new) (W.told writer.new))
         request.now result }
 {
     if let Request::Quit = request {
@@ -154,8 +155,8 @@ fn answer_next<C: Carrier, D: Desk<C>, K: Clock, W: Sink, L: Carriers<C>, R: Wai
     requires { requests.old.closed ≡ false }
     ensures { (rest : List ℕ) → StandsFor requests.old rest
         → ClientStepIs (desk_rules K.reads K.failures C.gave D.recorded)
-        (station clock.old (account log.old.share log.old.answers.items (L.told carriers.old)) (W.told writer.old))
-        (station clock.new (account log.new.share log.new.answers.items (L.told carriers.new)) (W.told writer.new))
+        (standing clock.old log.old (L.told carriers.old) (W.told writer.old))
+        (standing clock.new log.new (L.told carriers.new) (W.told writer.new))
         requests.old.ended rest requests.new result }
 {
     match requests.next() {
@@ -179,8 +180,8 @@ fn serve_until_end<C: Carrier, D: Desk<C>, K: Clock, S: Source, W: Sink, L: Carr
 ) -> Result<Ended, WorkerError>
     ensures session { ClientSessionIs (desk_rules K.reads K.failures C.gave D.recorded)
         (S.told reader.old) (S.told reader.new)
-        (station clock.old (account log.old.share log.old.answers.items (L.told carriers.old)) (W.told writer.old))
-        (station clock.new (account log.new.share log.new.answers.items (L.told carriers.new)) (W.told writer.new))
+        (standing clock.old log.old (L.told carriers.old) (W.told writer.old))
+        (standing clock.new log.new (L.told carriers.new) (W.told writer.new))
         result }
     ensures counts { ClientCounts turns (S.told reader.old) (S.told reader.new) result }
 {

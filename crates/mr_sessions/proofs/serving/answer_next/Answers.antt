@@ -3,9 +3,9 @@ use Rattle.mr_text.specs.Requests.{SpellsRequest, RefusesRequest, SkipsLine, is_
 use Rattle.mr_text.specs.Stream.{NextIs}
 use Rattle.mr_text.specs.declared.error.TextError.{TextError}
 use Rattle.mr_text.specs.declared.request.Request.{Request}
-use Rattle.mr_node.specs.Session.{station}
 use Rattle.mr_sessions.specs.Account.{account}
 use Rattle.mr_sessions.specs.Asking.{desk_rules}
+use Rattle.mr_sessions.specs.steps.Standing.{standing}
 use Rattle.mr_sessions.proofs.StepLemmas.{client_step, client_refusal}
 use Rattle.mr_sessions.proofs.serving.answer_next.Goals as goal
 
@@ -23,8 +23,8 @@ returns-in-Ok-Some g c rest stands =
     (c.in-Ok-Some.is ∙ ap (λ (o : Option Request). Ok o) c.in-Ok-Some.field-0-is) (c.next.ensures.answer rest stands) in
     client_step (desk_rules g.K.Clock.reads g.K.Clock.failures g.C.Carrier.gave g.D.Desk.recorded)
     rest c.args.requests.now c.next.new.self
-    (station c.args.clock.now (account c.args.log.now.share c.args.log.now.answers.items (g.L.Carriers.told c.args.carriers.now)) (g.W.Sink.told c.args.writer.now))
-    (station c.answer_request.new.clock (account c.answer_request.new.log.share c.answer_request.new.log.answers.items (g.L.Carriers.told c.answer_request.new.carriers)) (g.W.Sink.told c.answer_request.new.writer))
+    (standing c.args.clock.now c.args.log.now (g.L.Carriers.told c.args.carriers.now) (g.W.Sink.told c.args.writer.now))
+    (standing c.answer_request.new.clock c.answer_request.new.log (g.L.Carriers.told c.answer_request.new.carriers) (g.W.Sink.told c.answer_request.new.writer))
     c.in-Ok-Some.request c.answer_request.result next c.answer_request.ensures
 
 pub returns-in-Err : goal.returns-in-Err

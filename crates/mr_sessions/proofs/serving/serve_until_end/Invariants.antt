@@ -1,9 +1,8 @@
 use Rattle.std.proofs.Common.{◌+◌, ◌*◌, length}
-use Rattle.mr_node.specs.Session.{station}
 use Rattle.mr_node.proofs.CountLemmas.{ReadSoFar}
 use Rattle.mr_node.proofs.SessionLemmas.{UnderWay}
-use Rattle.mr_sessions.specs.Account.{account}
 use Rattle.mr_sessions.specs.Asking.{AsksDesk}
+use Rattle.mr_sessions.specs.steps.Standing.{standing}
 use Rattle.mr_sessions.proofs.serving.serve_until_end.Given as goal
 
 -- what was read so far was served, and the reader didn't fail
@@ -11,11 +10,9 @@ abbrev pub invariant-session : goal.invariant-session
 invariant-session g l = record {
   so : UnderWay (AsksDesk g.K.Clock.reads g.K.Clock.failures g.C.Carrier.gave g.D.Desk.recorded)
       (g.S.Source.told l.initial.reader)
-      (station l.initial.clock
-      (account l.initial.log.share l.initial.log.answers.items (g.L.Carriers.told l.initial.carriers))
-      (g.W.Sink.told l.initial.writer))
+      (standing l.initial.clock l.initial.log (g.L.Carriers.told l.initial.carriers) (g.W.Sink.told l.initial.writer))
       (g.S.Source.told l.reader)
-      (station l.clock (account l.log.share l.log.answers.items (g.L.Carriers.told l.carriers)) (g.W.Sink.told l.writer))
+      (standing l.clock l.log (g.L.Carriers.told l.carriers) (g.W.Sink.told l.writer))
       l.requests l.ended;
   read : ReadSoFar l.fn.turns l.turns_left l.ended (g.S.Source.told l.initial.reader) (g.S.Source.told l.reader);
 }
