@@ -1,5 +1,5 @@
 -- The lists of a script, counted before they are made.
-use Rattle.std.proofs.Common.{rules, ◌≡◌, ℕ, suc, List, [], ◌∷◌, length, map, Ok, Err, Result, refl, sym, ap, ◌∙◌}
+use Rattle.std.proofs.Common.{rules, ◌≡◌, ◌≤◌, ℕ, suc, List, [], ◌∷◌, length, map, Ok, Err, Result, IsErrAnd, inr, refl, sym, ap, ◌∙◌}
 use Rattle.std.proofs.lemmas.List.{length-map}
 use Rattle.std.specs.Prelude.{IsOk}
 use Rattle.serde_json.specs.Data.{Data}
@@ -9,15 +9,17 @@ use Rattle.serde_json.specs.declared.value.Value.{Value}
 use Rattle.mr_world.specs.declared.event.Event.{Event}
 use Rattle.mr_shown.specs.declared.format.Format.{Format}
 use Rattle.mr_configs.specs.Checking.{◌>>=◌}
-use Rattle.mr_configs.specs.Config.{ConfigView}
+use Rattle.mr_configs.specs.Config.{ConfigView, IsJson}
 use Rattle.mr_scripts.specs.Events.{events_of}
 use Rattle.mr_configs.specs.Fields.{list_of}
+use Rattle.mr_scripts.specs.Limits.{most_bytes}
 use Rattle.mr_scripts.specs.Lists.{all_of}
-use Rattle.mr_scripts.specs.Script.{ScriptParts, count_in, counts_check}
+use Rattle.mr_scripts.specs.Script.{ScriptParts, ScriptView, ReadsScript, count_in, counts_check, script_of}
 use Rattle.mr_scripts.specs.ScriptDraft.{script_between, parts_between, parts_drafted, IsScriptReady}
 use Rattle.mr_scripts.specs.SetupDraft.{setup_between, setup_drafted}
 use Rattle.mr_scripts.specs.Setups.{held_of, proxy_of, checked_setup}
 use Rattle.mr_configs.specs.declared.error.PlanError.{PlanError}
+use Rattle.mr_configs.specs.declared.error.PlanError.TheVariants.{OutOfMemory}
 use Rattle.mr_scripts.specs.declared.script.ScriptDraft.{ScriptDraft}
 use Rattle.mr_configs.proofs.CheckingLemmas.{taken}
 use Rattle.mr_scripts.proofs.HomeLemmas.{read_as}
@@ -83,3 +85,11 @@ parts_ready draft ready = both (setup_drafted draft.format draft.setup) (events_
     both (Ok setup) (Ok events) setup_is events_are = (record { format = draft.format; setup = setup; events = events }, refl)
     both (Ok setup) (Err refusal) setup_is events_are = absurd (cc)
     both (Err refusal) events setup_is events_are = absurd (cc)
+
+-- memory is refused for a script that was looked at whole
+pub lacks_memory : (bytes : List ℕ) (json : Value) (draft : ScriptDraft) (result : Result ScriptView PlanError) → length bytes ≤ most_bytes
+    → IsJson bytes (view json) → script_of (view json) ≡ parts_drafted draft → IsScriptReady draft
+    → IsErrAnd result (λ e. e ≡ OutOfMemory) → ReadsScript bytes result
+lacks_memory bytes json draft (Ok script) few is_json says ready is = absurd is
+lacks_memory bytes json draft (Err refusal) few is_json says ready is =
+    let (parts, drafted) = parts_ready draft ready in inr (few, inr (view json, is_json, inr (is, (parts, says ∙ drafted))))
