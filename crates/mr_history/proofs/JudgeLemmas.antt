@@ -265,5 +265,8 @@ module _ (history : List Entry) (formed : IsWellFormed history) (get : OpId) (it
       convicted = found'.2;
     }
 
+pub nothing_before : (history : List Entry) → AreFreshBefore history 0
+nothing_before history = record { fresh = λ get item issue answer index hit below. absurd (omega arith) }
+
 pub all_safe : (history : List Entry) → AreFreshBefore history (length history) → IsSafe history
 all_safe history fresh' get item issue answer index hit = fresh'.fresh get item issue answer index hit (at_within hit.answered)

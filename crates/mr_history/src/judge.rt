@@ -1,23 +1,17 @@
-//! The judge of a history, by an index over it, in time that is nearly linear.
-ghost use Rattle.std.specs.Prelude.{◌≡◌, ◌+◌, ◌<◌, ◌≤◌, length, IfOk, IfErr, MatchOption};
-ghost use Rattle.mr_text.specs.declared.reply.Reply.TheVariants.{Items};
-ghost use Rattle.mr_history.specs.declared.entry.Entry.TheVariants.{Answered};
-ghost use Rattle.mr_history.specs.declared.error.HistoryError.TheVariants.{OutOfMemory};
+//! The judge of a history: nested searches through its entries, which take no memory.
+ghost use Rattle.std.specs.Prelude.{◌+◌, ◌<◌, ◌≤◌, length, MatchOption};
 ghost use Rattle.mr_history.specs.History.{IsWellFormed};
 ghost use Rattle.mr_history.specs.Places.{At};
+ghost use Rattle.mr_text.specs.declared.reply.Reply.TheVariants.{Items};
+ghost use Rattle.mr_history.specs.declared.entry.Entry.TheVariants.{Answered};
 ghost use Rattle.mr_history.specs.Judgement.{Judges, FindsItem, AreFreshBefore};
-ghost use Rattle.mr_history.specs.steps.Index.{IsIndexOf};
 
-use crate::convict::find_convict;
 use crate::entry::Entry;
-use crate::error::HistoryError;
 use crate::history::History;
-use crate::index::Index;
 use crate::op_id::OpId;
-use crate::search::last_stored;
+use crate::search::{first_convict, issue_of_get, last_stored};
 use crate::verdict::Verdict;
 use mr_text::{Item, Reply};
-use std::alloc::{AllocError, Global};
 
 /// What was found of one item of an answer.
 #[derive(Clone, Copy)]
@@ -30,147 +24,103 @@ pub(crate) enum Finding {
     Outdated(OpId),
 }
 
-/// Judges an item of the answer to a get by passes over the entries.
-fn find_item(
-    alloc: Global,
-    entries: &[Entry],
-    item: &Item,
-    issue: usize,
-    answer: usize,
-) -> Result<Finding, AllocError>
+/// Judges an item of the answer to a get.
+fn judge_item(entries: &[Entry], item: &Item, issue: usize, answer: usize) -> Finding
     requires well_formed { IsWellFormed entries.now }
     requires issued { issue < answer }
     requires answered { answer ≤ length entries.now }
-    ensures { IfOk result (FindsItem entries.now item.now issue answer) }
+    ensures { FindsItem entries.now item.now issue answer result }
 {
     let Some(stored) = last_stored(&entries[..answer], item) else {
-        return Ok(Finding::Unstored);
+        return Finding::Unstored;
     };
     if issue <= stored {
-        return Ok(Finding::Fresh);
+        return Finding::Fresh;
     }
-    Ok(
-        match find_convict(alloc, &entries[stored..issue], &item.key)? {
-            Some(delete) => Finding::Outdated(delete),
-            None => Finding::Fresh,
-        },
-    )
-}
-
-/// The same by the index over the entries before the answer, where it shows that the item is fresh.
-fn judge_item<'a>(
-    alloc: Global,
-    entries: &'a [Entry],
-    index: &Index<'a>,
-    item: &'a Item,
-    issue: usize,
-    answer: usize,
-) -> Result<Finding, AllocError>
-    requires well_formed { IsWellFormed entries.now }
-    requires indexed { IsIndexOf entries.now answer index.now }
-    requires issued { issue < answer }
-    requires answered { answer ≤ length entries.now }
-    ensures { IfOk result (FindsItem entries.now item.now issue answer) }
-{
-    if index.shows_fresh(item, issue) {
-        return Ok(Finding::Fresh);
+    match first_convict(&entries[stored..issue], &item.key) {
+        Some(delete) => Finding::Outdated(delete),
+        None => Finding::Fresh,
     }
-    find_item(alloc, entries, item, issue, answer)
 }
 
 /// Judges the items of the answer to a get, where each hit before it is fresh. None where these are fresh too.
 fn judge_items<'a>(
-    alloc: Global,
-    entries: &'a [Entry],
-    index: &Index<'a>,
+    entries: &[Entry],
     get: OpId,
     items: &'a [Item],
     answer: usize,
-) -> Result<Option<Verdict<'a>>, AllocError>
+) -> Option<Verdict<'a>>
     requires well_formed { IsWellFormed entries.now }
-    requires indexed { IsIndexOf entries.now answer index.now }
     requires fresh { AreFreshBefore entries.now answer }
     requires answered { At entries.now answer (Answered get (Items items.now)) }
-    ensures { IfOk result (λ found. MatchOption found (AreFreshBefore entries.now (answer + 1)) (Judges entries.now)) }
+    ensures { MatchOption result (AreFreshBefore entries.now (answer + 1)) (Judges entries.now) }
 {
-    let Some(issue) = index.issue_of_get(get) else {
-        return Ok(None);
+    let Some(issue) = issue_of_get(entries, get) else {
+        return None;
     };
     for item in items {
-        match judge_item(alloc, entries, index, item, issue, answer)? {
+        match judge_item(entries, item, issue, answer) {
             Finding::Fresh => {}
             Finding::Unstored => {
-                return Ok(Some(Verdict::Invented {
+                return Some(Verdict::Invented {
                     get,
                     key: &item.key,
-                }));
+                });
             }
             Finding::Outdated(delete) => {
-                return Ok(Some(Verdict::Stale {
+                return Some(Verdict::Stale {
                     get,
                     key: &item.key,
                     delete,
-                }));
+                });
             }
         }
     }
-    Ok(None)
+    None
 }
 
 /// The same of an answer of any kind.
 fn judge_reply<'a>(
-    alloc: Global,
-    entries: &'a [Entry],
-    index: &Index<'a>,
+    entries: &[Entry],
     op: OpId,
     reply: &'a Reply,
     answer: usize,
-) -> Result<Option<Verdict<'a>>, AllocError>
+) -> Option<Verdict<'a>>
     requires well_formed { IsWellFormed entries.now }
-    requires indexed { IsIndexOf entries.now answer index.now }
     requires fresh { AreFreshBefore entries.now answer }
     requires answered { At entries.now answer (Answered op reply.now) }
-    ensures { IfOk result (λ found. MatchOption found (AreFreshBefore entries.now (answer + 1)) (Judges entries.now)) }
+    ensures { MatchOption result (AreFreshBefore entries.now (answer + 1)) (Judges entries.now) }
 {
     match reply {
-        Reply::Items(items) => judge_items(alloc, entries, index, op, items.as_slice(), answer),
-        _ => Ok(None),
+        Reply::Items(items) => judge_items(entries, op, items.as_slice(), answer),
+        _ => None,
     }
 }
 
 /// The same of any entry.
-fn judge_entry<'a>(
-    alloc: Global,
-    entries: &'a [Entry],
-    index: &Index<'a>,
-    place: usize,
-) -> Result<Option<Verdict<'a>>, AllocError>
+fn judge_entry(entries: &[Entry], place: usize) -> Option<Verdict<'_>>
     requires well_formed { IsWellFormed entries.now }
-    requires indexed { IsIndexOf entries.now place index.now }
     requires within { place < length entries.now }
     requires fresh { AreFreshBefore entries.now place }
-    ensures { IfOk result (λ found. MatchOption found (AreFreshBefore entries.now (place + 1)) (Judges entries.now)) }
+    ensures { MatchOption result (AreFreshBefore entries.now (place + 1)) (Judges entries.now) }
 {
     match &entries[place] {
-        Entry::Answered { op, reply } => judge_reply(alloc, entries, index, *op, reply, place),
-        _ => Ok(None),
+        Entry::Answered { op, reply } => judge_reply(entries, *op, reply, place),
+        _ => None,
     }
 }
 
 /// Whether each hit was stored before its answer, and after the issue of every delete of its key that was acknowledged
-/// before the get was issued; else the first bad hit, by the place of its answer and then that of its item. It takes memory
-/// for an index, and time that is nearly linear in the bytes of the history. Its one refusal is OutOfMemory.
-pub fn judge_history(alloc: Global, history: &History) -> Result<Verdict<'_>, HistoryError>
-    ensures judged { IfOk result (Judges history.now.entries) }
-    ensures refused { IfErr result (λ e. e ≡ OutOfMemory) }
+/// before the get was issued; else the first bad hit, by the place of its answer and then that of its item. It takes no
+/// memory, and time by the cube of the history's length at worst.
+pub fn judge_history(history: &History) -> Verdict<'_>
+    ensures { Judges history.now.entries result }
 {
     let entries = history.entries();
-    let mut index = Index::new(alloc, entries);
     for place in 0..entries.len() {
-        if let Some(verdict) = judge_entry(alloc, entries, &index, place)? {
-            return Ok(verdict);
+        if let Some(verdict) = judge_entry(entries, place) {
+            return verdict;
         }
-        index.read_next(alloc)?;
     }
-    Ok(Verdict::Safe)
+    Verdict::Safe
 }

@@ -1,8 +1,8 @@
 //! Searches in a list of entries. None of them takes memory.
-ghost use Rattle.std.specs.Prelude.{◌≡◌, MatchOption};
+ghost use Rattle.std.specs.Prelude.{◌≡◌, length, position, MatchOption};
 ghost use Rattle.std.specs.List.{list_any};
 ghost use Rattle.mr_history.specs.OpIds.{is_same_op};
-ghost use Rattle.mr_history.specs.steps.Tests.{is_issued, is_answered, is_get, is_issued_get, is_stored, acknowledges, issued_delete, NonePasses, LastPasses};
+ghost use Rattle.mr_history.specs.steps.Tests.{is_issued, is_answered, is_get, is_issued_get, is_stored, acknowledges, is_acknowledged, issued_delete, NonePasses, LastPasses, NoConvict, FirstConvict};
 
 use crate::entry::Entry;
 use crate::op_id::{OpId, is_same_op};
@@ -57,6 +57,18 @@ pub(crate) fn acknowledges(reply: &Reply) -> bool
     }
 }
 
+fn is_acknowledged(entry: &Entry, op: OpId) -> bool
+    ensures { result ≡ is_acknowledged op entry.now }
+{
+    match entry {
+        Entry::Answered {
+            op: answered,
+            reply,
+        } => acknowledges(reply) && is_same_op(*answered, op),
+        _ => false,
+    }
+}
+
 pub(crate) fn is_stored(entry: &Entry, item: &Item) -> bool
     ensures { result ≡ is_stored item.now entry.now }
 {
@@ -103,6 +115,20 @@ pub(crate) fn was_answered(entries: &[Entry], op: OpId) -> bool
     entries.iter().any(|entry| is_answered(entry, op))
 }
 
+/// Whether the delete was acknowledged.
+fn was_acknowledged(entries: &[Entry], delete: OpId) -> bool
+    ensures { result ≡ list_any (is_acknowledged delete) entries.now }
+{
+    entries.iter().any(|entry| is_acknowledged(entry, delete))
+}
+
+/// The place of the op's Issued entry, where it is a get.
+pub(crate) fn issue_of_get(entries: &[Entry], get: OpId) -> Option<usize>
+    ensures { result ≡ position (is_issued_get get) entries.now }
+{
+    entries.iter().position(|entry| is_issued_get(entry, get))
+}
+
 /// The last place that stored the item.
 pub(crate) fn last_stored(entries: &[Entry], item: &Item) -> Option<usize>
     ensures { MatchOption result
@@ -114,6 +140,22 @@ pub(crate) fn last_stored(entries: &[Entry], item: &Item) -> Option<usize>
         place -= 1;
         if is_stored(&entries[place], item) {
             return Some(place);
+        }
+    }
+    None
+}
+
+/// Of the deletes of the key that are issued and acknowledged among the entries, the one issued first.
+pub(crate) fn first_convict(entries: &[Entry], key: &Key) -> Option<OpId>
+    ensures { MatchOption result
+        (NoConvict entries.now key.now (length entries.now))
+        (FirstConvict entries.now key.now) }
+{
+    for entry in entries {
+        if let Some(delete) = delete_of(entry, key) {
+            if was_acknowledged(entries, delete) {
+                return Some(delete);
+            }
         }
     }
     None

@@ -3,7 +3,7 @@ ghost use Rattle.std.specs.Prelude.{◌≡◌, IfOk};
 ghost use Rattle.mr_history.specs.Judgement.{Judges};
 ghost use Rattle.mr_shown.specs.Verdict.{JudgesSo};
 
-use mr_history::{HistoryError, OpId, Verdict, judge_history};
+use mr_history::{HistoryError, OpId, Verdict, judge_indexed};
 use mr_text::Key;
 use mr_world::World;
 use std::alloc::{AllocError, Global};
@@ -56,7 +56,7 @@ impl KeptVerdict {
     pub fn on(alloc: Global, world: &World) -> Result<KeptVerdict, AllocError>
         ensures { IfOk result (JudgesSo world.now.history) }
     {
-        match judge_history(alloc, world.history()) {
+        match judge_indexed(alloc, world.history()) {
             Ok(verdict) => keep_verdict(&verdict),
             Err(HistoryError::OutOfMemory) => Err(AllocError),
         }

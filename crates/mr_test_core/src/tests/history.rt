@@ -7,7 +7,7 @@ mod told;
 
 use super::{count_is, holds, is};
 use mr_history::{
-    Author, Entry, History, HistoryError, OpId, Verdict, judge_history,
+    Author, Entry, History, HistoryError, OpId, Verdict, judge_history, judge_indexed,
 };
 use mr_phases::Side;
 use mr_text::{Block, Item, ItemList, Key, KeyList, Reply, Request};

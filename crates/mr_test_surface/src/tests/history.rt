@@ -1,7 +1,7 @@
 //! What happened, entry by entry, and what it says of acknowledged deletes.
 use super::text::key;
 use mr_history::{
-    Author, Entry, History, HistoryError, OpId, Verdict, judge_history,
+    Author, Entry, History, HistoryError, OpId, Verdict, judge_history, judge_indexed,
 };
 use mr_text::Block;
 use std::alloc::Global;
@@ -35,7 +35,8 @@ fn held_item(alloc: Global) -> Result<Entry, Fail> {
 fn a_history_is_judged(rt: HostRuntime) -> Result<(), Fail> {
     let history = roomy_history(rt.alloc())?;
     assert!(rt; history.fits(&held_item(rt.alloc())?));
-    let verdict = judge_history(rt.alloc(), &history)?;
-    assert!(rt; matches!(verdict, Verdict::Safe));
+    assert!(rt; matches!(judge_history(&history), Verdict::Safe));
+    let indexed = judge_indexed(rt.alloc(), &history)?;
+    assert!(rt; matches!(indexed, Verdict::Safe));
     Ok(())
 }

@@ -63,12 +63,12 @@ fn refused_memory_copies_a_history_later(rt: HostRuntime) {
     let history = stale_history(&rt, rt.alloc());
     let copy = must(&rt, at_last!(&rt, history.copy(), Err(AllocError)));
     count_is(&rt, 4, copy.entries().len(), 6);
-    is_said(&rt, 5, &must(&rt, words_judged(rt.alloc(), &copy)), &STALE);
+    is_said(&rt, 5, &words_of_verdict(judge_history(&copy)), &STALE);
 }
 
-/// What is said of a history.
+/// What is said of a history by way of an index.
 fn words_judged(alloc: Global, history: &History) -> Result<Said, HistoryError> {
-    Ok(words_of_verdict(judge_history(alloc, history)?))
+    Ok(words_of_verdict(judge_indexed(alloc, history)?))
 }
 
 #[test]

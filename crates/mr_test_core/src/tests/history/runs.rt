@@ -202,11 +202,15 @@ fn write(rt: &impl Abort, alloc: Global, history: &mut History, entries: &[(Told
     }
 }
 
-/// Asserts what is said of a history.
+/// Asserts what is said of a history, without and with an index.
 fn shows(rt: &impl Abort, alloc: Global, row: usize, history: &History, run: &Run) {
     count_is(rt, row, history.entries().len(), run.length);
-    let verdict = must(rt, judge_history(alloc, history));
-    is_said(rt, row, &words_of_verdict(verdict), &run.verdict);
+    for verdict in [
+        judge_history(history),
+        must(rt, judge_indexed(alloc, history)),
+    ] {
+        is_said(rt, row, &words_of_verdict(verdict), &run.verdict);
+    }
 }
 
 /// Asserts which entries of a run fit, and what is said of the history then, and of its copy.

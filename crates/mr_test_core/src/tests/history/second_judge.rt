@@ -1,4 +1,4 @@
-//! The judge beside the definition's own words: every hit, every Stored entry, every delete.
+//! Both judges beside the definition's own words: every hit, every Stored entry, every delete.
 use super::dice::Dice;
 use super::told::*;
 use super::*;
@@ -144,14 +144,16 @@ fn add_all(
     }
 }
 
-/// Asserts that a random history is judged by the definition, and gives the verdict's word.
+/// Asserts that a random history is judged by the definition, with an index too, and gives the verdict's word.
 fn is_judged(rt: &impl Abort, alloc: Global, row: usize, dice: &mut Dice) -> &'static str {
     let mut history = must(rt, History::new(alloc));
     let mut entries = Vec::new(alloc);
     add_all(rt, alloc, dice, &mut history, &mut entries);
     count_is(rt, row, history.entries().len(), entries.len());
-    let verdict = words_of_verdict(must(rt, judge_history(alloc, &history)));
+    let verdict = words_of_verdict(judge_history(&history));
     is_said(rt, row, &verdict, &judge_slowly(&entries));
+    let indexed = must(rt, judge_indexed(alloc, &history));
+    is_said(rt, row, &words_of_verdict(indexed), &verdict);
     verdict.0
 }
 

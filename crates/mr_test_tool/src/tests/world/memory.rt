@@ -87,7 +87,7 @@ fn refused_memory_plays_each_event_later(rt: HostRuntime) {
         let note = step_at_last(&rt, rt.alloc(), &mut world, row);
         holds(&rt, note == row.1, "what an event comes to");
     }
-    shows(&rt, rt.alloc(), &world, &NEAR_CLOCKS.shown);
+    shows(&rt, &world, &NEAR_CLOCKS.shown);
 }
 
 /// The events of the run, from one of them on.
@@ -118,7 +118,7 @@ fn run_at_last(rt: &(impl Abort + Env), alloc: Global, world: &mut World) {
 fn refused_memory_plays_on_from_the_refused_event(rt: HostRuntime) {
     let mut world = must(&rt, NEAR_CLOCKS.fleet.world(rt.alloc()));
     run_at_last(&rt, rt.alloc(), &mut world);
-    shows(&rt, rt.alloc(), &world, &NEAR_CLOCKS.shown);
+    shows(&rt, &world, &NEAR_CLOCKS.shown);
 }
 
 #[test]

@@ -30,11 +30,10 @@ pub struct Run {
 }
 
 /// Asserts what a world shows.
-pub fn shows(rt: &impl Abort, alloc: Global, world: &World, shown: &Shown) {
+pub fn shows(rt: &impl Abort, world: &World, shown: &Shown) {
     holds(rt, says(world.history(), shown.told), "the history");
     holds(rt, premises(world) == shown.premises, "the premises");
-    let verdict = must(rt, verdict(alloc, world));
-    holds(rt, verdict == shown.verdict, "the verdict");
+    holds(rt, verdict(world) == shown.verdict, "the verdict");
     holds(rt, count_sent(world) == shown.sent, "how many were sent");
 }
 
@@ -52,7 +51,7 @@ pub fn goes(rt: &impl Abort, alloc: Global, run: &Run) {
 fn goes_in(rt: &impl Abort, alloc: Global, world: &mut World, run: &Run) {
     let other = must(rt, first_other(alloc, world, run.rows));
     none_comes_to_another(rt, other);
-    shows(rt, alloc, world, &run.shown);
+    shows(rt, world, &run.shown);
 }
 
 /// Asserts that there is no place of a move that comes to something else.

@@ -1,7 +1,7 @@
 use Rattle.std.proofs.Common.{◌-◌, take, drop, length, subst, MatchOption}
 use Rattle.mr_history.specs.steps.Tests.{NoConvict, FirstConvict}
 use Rattle.mr_history.proofs.JudgeLemmas.{unstored, stored_last, fresh, fresh_behind, none_convicts, first_convicts}
-use Rattle.mr_history.proofs.judge.find_item.Goals as goal
+use Rattle.mr_history.proofs.indexed.find_item.Goals as goal
 
 pub returns-in_default : goal.returns-in_default
 returns-in_default c = unstored _ _ _ c.in_default.ensures
