@@ -1,6 +1,7 @@
 //! Running a fleet.
 ghost use Rattle.std.specs.Prelude.{◌≡◌, ◌≤◌, [], map, length, IfOk, IfErr, vec_len, vec_capacity};
 ghost use denote.Param.Send.{IsSend, IsSync};
+ghost use Rattle.mr_desks.specs.declared.error.WorkerError.TheVariants.{OutOfMemory};
 
 use crate::ending::Ending;
 use crate::fleet_end::FleetEnd;
@@ -8,7 +9,7 @@ use crate::fleet_proxy::FleetProxy;
 use crate::room::{FleetRoom, Prepared, ProxyRoom};
 use crate::threads::{Underway, join_all, start_all};
 use mr_clock::Clock;
-use mr_desks::{Carrier, Gate, RecordedProxy};
+use mr_desks::{Carrier, Gate, RecordedProxy, WorkerError};
 use mr_text::{Sink, Source};
 use std::alloc::Global;
 use std::sync::Wait;
@@ -153,9 +154,9 @@ fn run_in<
 /// It waits for all of them. Then the book of each proxy is closed by what its clients issued and took. The proxies are
 /// answered in order, and the clients of each in order.
 ///
-/// The room for all that is answered is made before any thread is; where it is refused the proxies come back as they were. A
-/// carrier whose thread couldn't be made loses its legs. A client whose thread couldn't be made, for want of memory too, ends
-/// with NoThread, and no other is the worse for it.
+/// The room for all that is answered is made before any thread is; OutOfMemory where it is refused, and the proxies come back
+/// beside it as they were. A carrier whose thread couldn't be made loses its legs. A client whose thread couldn't be made, for
+/// want of memory too, ends with NoThread, and no other is the worse for it.
 pub fn run_fleet<
     C: Carrier + Send + Drop,
     K: Clock + Send + Drop,
@@ -168,15 +169,15 @@ pub fn run_fleet<
     alloc: Global,
     proxies: Vec<FleetProxy<C, K, S, W>>,
     gate: &G,
-) -> Result<Vec<FleetEnd<C, K, S, W>>, Vec<FleetProxy<C, K, S, W>>>
+) -> Result<Vec<FleetEnd<C, K, S, W>>, (WorkerError, Vec<FleetProxy<C, K, S, W>>)>
     ensures openings { IfOk result
         (λ ends. map (λ end. end.opening.value) ends.items ≡ map (λ proxy. proxy.desk) proxies.items) }
     ensures clients { IfOk result
         (λ ends. map (λ end. vec_len end.ends) ends.items ≡ map (λ proxy. vec_len proxy.clients) proxies.items) }
-    ensures back { IfErr result (λ back. back ≡ proxies) }
+    ensures refused { IfErr result (λ refused. refused ≡ (OutOfMemory, proxies)) }
 {
     match FleetRoom::new(alloc, &proxies) {
         Ok(room) => Ok(run_in(rt, alloc, room, proxies, gate)),
-        Err(_) => Err(proxies),
+        Err(_) => Err((WorkerError::OutOfMemory, proxies)),
     }
 }

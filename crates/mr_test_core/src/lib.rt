@@ -1,6 +1,6 @@
-//! The tests of the text protocol (`mr_text`), and of the crates that a proxy's core is made of: `mr_phases`, `mr_pools`,
-//! `mr_clock`, `mr_join`, `mr_history`, `mr_node` and `mr_proxy`. They are a crate of their own, so that they are proved over
-//! the libraries and these aren't proved with them again.
+//! The tests of what stands on texts, schedules and pools: of `mr_clock`, `mr_join`, `mr_history`, a node (`mr_node`) and the
+//! core of a proxy (`mr_proxy`). They are a crate of their own, so that they are proved over the libraries and these aren't
+//! proved with them again.
 #![tactic(auto)]
 
 #[cfg(test)]

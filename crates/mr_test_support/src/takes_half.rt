@@ -24,6 +24,19 @@ impl TakesHalf {
             fails_at,
         }
     }
+
+    /// Whether it has what is to be left of a text that was written in so many calls, by what was told of it: all of it, if
+    /// none of them was to fail; else a beginning, and no call came behind the one that failed.
+    pub fn has_left(&self, has_failed: bool, text: &[u8], calls: usize) -> bool {
+        let fails = self.fails_at <= calls;
+        let made = if fails {
+            self.fails_at.saturating_add(1)
+        } else {
+            calls
+        };
+        let is_cut = self.kept.len() < text.len();
+        has_failed == fails && self.calls == made && is_cut == fails && text.starts_with(&self.kept)
+    }
 }
 
 impl Write for TakesHalf {

@@ -1,6 +1,7 @@
 //! What nodes answer, in few words.
-use super::{equal_bytes, must};
+use super::must;
 use mr_join::LegReply;
+use mr_test_support::equal_bytes;
 use mr_text::{Block, Cause};
 use std::alloc::Global;
 use std::process::Abort;
@@ -20,7 +21,8 @@ pub enum Came {
 
 /// Data of so many equal bytes.
 fn block(rt: &impl Abort, alloc: Global, byte: u8, count: usize) -> Block {
-    must(rt, Block::new(alloc, &equal_bytes(rt, alloc, byte, count)))
+    let bytes = must(rt, equal_bytes(alloc, byte, count));
+    must(rt, Block::new(alloc, &bytes))
 }
 
 /// The reply that this is.

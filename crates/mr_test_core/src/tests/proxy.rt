@@ -10,19 +10,21 @@ ghost use Rattle.std.specs.Prelude.{◌≢◌};
 ghost use Rattle.mr_text.specs.declared.request.Request.{Request};
 
 use super::leg_replies::{Came, reply_of};
-use super::{Rule, are, bytes_of_rule, count_is, holds, is, leaves, number_is, routing, says};
+use super::{are, bytes_of_rule, count_is, holds, is, number_is, says};
 use crate::tests::must;
 use mr_history::OpId;
 use mr_phases::Schedule;
 use mr_pools::NamedHash;
 use mr_proxy::{Answer, Issued, LegId, ProxyCore, Taken};
+use mr_test_support::{Rule, routing};
 use mr_text::{Block, Key, KeyList, Request};
 use std::alloc::Global;
 use std::process::Abort;
 
 fn core_of(rt: &impl Abort, alloc: Global, incarnation: u64, room: u64) -> ProxyCore {
     let schedule = must(rt, Schedule::new(1000, 100));
-    let routing = routing(rt, alloc, NamedHash::Sum);
+    let new: [&[u8]; 3] = [b"7101", b"7102", b"7103"];
+    let routing = must(rt, routing(alloc, &new, NamedHash::Sum));
     ProxyCore::new(alloc, 0, incarnation, routing, schedule, room)
 }
 

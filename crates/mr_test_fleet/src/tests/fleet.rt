@@ -5,12 +5,13 @@ mod many;
 mod memory;
 mod phases;
 
-use super::{is, is_at, must, recorded_proxy};
+use super::{is, is_at, must};
 use mr_clock::Clock;
 use mr_desks::{Carrier, Gate, Share};
 use mr_fleet::{FleetClient, FleetEnd, FleetProxy, run_fleet};
 use mr_node::Ended;
 use mr_proxy::Answer;
+use mr_test_nodes::recorded_proxy;
 use mr_text::{Sink, Source};
 use std::alloc::Global;
 use std::process::Abort;

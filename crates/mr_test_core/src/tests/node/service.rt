@@ -1,10 +1,10 @@
 //! What a service answers to texts, and what it leaves where a device fails.
 use super::devices::{AMPLE, Given, Left, Pieces, Shown, serve_input};
 use super::{are, count_is, expiry, is};
-use crate::tests::{Rule, bytes_of_rule, must};
+use crate::tests::{bytes_of_rule, must};
 use mr_clock::{Clock, ListClock};
 use mr_node::{CacheNode, Ended, NodeError};
-use mr_test_support::TakesHalf;
+use mr_test_support::{Rule, TakesHalf};
 use mr_text::Key;
 use std::alloc::Global;
 use std::cell::Cell;

@@ -1,5 +1,5 @@
 //! What a client reads of an answer, in how many calls it goes out, and what is left where one of them fails.
-use super::{Asked, Came, Rule, answer_to, are, bytes_of_rule, leaves};
+use super::{Asked, Came, Rule, answer_to, are, bytes_of_rule, holds};
 use crate::tests::must;
 use mr_proxy::Answer;
 use mr_test_support::{TakesHalf, reply_text};
@@ -21,10 +21,12 @@ fn is_written(
     for call in 1..calls.saturating_add(2) {
         let mut sink = OverWriter::new(TakesHalf::new(alloc, call));
         let has_failed = answer.write(&mut sink).is_err();
-        leaves(rt, row, has_failed, &sink.into_inner(), text, calls);
+        let has_left = sink.into_inner().has_left(has_failed, text, calls);
+        holds(rt, row, has_left, true);
         let mut sink = OverWriter::new(TakesHalf::new(alloc, call));
         let has_failed = answer.send(&mut buffer, &mut sink).is_err();
-        leaves(rt, row, has_failed, &sink.into_inner(), text, calls);
+        let has_left = sink.into_inner().has_left(has_failed, text, calls);
+        holds(rt, row, has_left, true);
     }
 }
 

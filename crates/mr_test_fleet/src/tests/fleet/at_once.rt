@@ -2,12 +2,13 @@
 ghost use Rattle.std.specs.Prelude.{◌≡◌, [], false};
 
 use super::{proxy_of, run, went_well};
-use crate::tests::{Nodes, ToNode, carriers_to_all, is, is_at, make_nodes, must};
+use crate::tests::{is, is_at, must};
 use mr_clock::FixedClock;
 use mr_desks::{Carrier, Gate};
 use mr_fleet::{FleetClient, FleetEnd, FleetProxy};
 use mr_node::NodeCommand;
 use mr_proxy::LegSheet;
+use mr_test_nodes::{Nodes, ToNode, carriers_to_all, make_nodes};
 use mr_text::{GhostBytes, GhostCount, OverReader, Sink, Source, WriteFault};
 use std::alloc::Global;
 use std::io::Read;

@@ -1,13 +1,12 @@
 //! Fleets of more proxies, more clients and more keys than a small number of each, and the place of each key.
 use super::{NEW, went_well};
-use crate::tests::{
-    Nodes, ToNode, carriers_to_all, core_with_room, is, is_at, make_nodes, must, or_no_memory,
-};
+use crate::tests::{is, is_at, must};
 use mr_clock::{Clock, FixedClock};
 use mr_desks::{Carrier, OpenGate, RecordedProxy, SharedNode};
 use mr_fleet::{FleetClient, FleetEnd, FleetProxy, run_fleet};
 use mr_join::LegReply;
 use mr_node::Perform;
+use mr_test_nodes::{Nodes, ToNode, carriers_to_all, core_with_room, make_nodes, or_no_memory};
 use mr_text::{Key, OverReader, OverWriter, Source};
 use std::alloc::{AllocError, Global};
 use std::process::Abort;

@@ -1,11 +1,12 @@
 //! A fleet that is refused memory: its proxies come back before any thread is made; or each client is told what it may be told
 //! and each book stands, whatever was refused while it ran.
 use super::proxy_of;
-use crate::tests::{Nodes, ToNode, carriers_to_all, is, make_nodes, must};
+use crate::tests::{is, must};
 use mr_clock::FixedClock;
 use mr_desks::{Carrier, CloseError, OpenGate, WorkerError};
 use mr_fleet::{FleetClient, FleetEnd, FleetProxy, run_fleet};
 use mr_node::Ended;
+use mr_test_nodes::{Nodes, ToNode, carriers_to_all, make_nodes};
 use mr_test_support::{grant_memory, refuse_memory};
 use mr_text::{OverReader, OverWriter};
 use std::alloc::Global;
@@ -96,7 +97,8 @@ fn run_at_last<'x, R: Threads + Wait + Abort + Sync + Env>(
     let first = run_fleet(rt, alloc, proxies, &OpenGate);
     grant_memory(rt);
     match first {
-        Err(back) => {
+        Err((refusal, back)) => {
+            is(rt, "a refusal", &refusal, &WorkerError::OutOfMemory);
             let ends = must(rt, run_fleet(rt, alloc, back, &OpenGate));
             is(rt, "the first end", &ended(rt, ends), &Some(0));
         }

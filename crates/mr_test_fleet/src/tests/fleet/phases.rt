@@ -1,9 +1,10 @@
 //! Many clients at once, while the migration goes through all four phases.
 use super::{goes_well, proxy_of};
-use crate::tests::{Nodes, ToNode, carriers_to_all, is, make_nodes, must};
+use crate::tests::{is, must};
 use mr_clock::{Clock, ClockFault};
 use mr_desks::OpenGate;
 use mr_fleet::{FleetClient, FleetProxy};
+use mr_test_nodes::{Nodes, ToNode, carriers_to_all, make_nodes};
 use mr_text::{OverReader, OverWriter};
 use std::alloc::{AllocError, Global};
 use std::io;

@@ -1,11 +1,11 @@
 //! Carriers that reach their nodes by sockets, where memory to make them is refused: made again, each dials its own node.
 use super::TURNS;
 use super::connections::get;
-use crate::tests::{is, is_at, must, pool};
+use crate::tests::{is, is_at, must};
 use mr_desks::{Carrier, WorkerError};
 use mr_pools::{NamedHash, NodeName, Routing};
 use mr_sockets::{SocketCarrier, node_carriers};
-use mr_test_support::{at_last, grant_memory, refuse_memory};
+use mr_test_support::{at_last, grant_memory, pool, refuse_memory};
 use std::alloc::{AllocError, Global};
 use std::env::Env;
 use std::io;
