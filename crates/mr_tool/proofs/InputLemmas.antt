@@ -6,7 +6,7 @@ use Rattle.mr_text.specs.Source.{SourceView, AreOffered, least_with}
 use Rattle.mr_tool.specs.InputSteps.{AddsPiece, BringsInput}
 use Rattle.mr_tool.specs.Input.{FailsWhole, Takes, TakesWhole, most_taken}
 use Rattle.mr_tool.specs.declared.fault.Fault.{Fault}
-use Rattle.mr_tool.specs.declared.fault.Fault.TheVariants.{Memory, Input, Output, File, Net, Plan, Node, Text}
+use Rattle.mr_tool.specs.declared.fault.Fault.TheVariants.{Memory, Input, Output, File, Net, Plan, Pools, Phases, Node, Text}
 
 consumes_nothing : (left : Option (List ℕ)) → Consumes left left []
 consumes_nothing None = tt
@@ -102,4 +102,6 @@ module _ (before now after : SourceView) (early bytes : List ℕ) (h : Takes ear
       fails (Plan refusal) adds = absurd adds
       fails (Text refusal) adds = absurd adds
       fails (Net line) adds = absurd adds
+      fails (Pools refusal) adds = absurd adds
+      fails (Phases refusal) adds = absurd adds
       fails (Node refusal) adds = absurd adds

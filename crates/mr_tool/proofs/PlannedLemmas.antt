@@ -1,10 +1,14 @@
 -- What the pieces of a word between its commas say of the names that are made of them.
-use Rattle.std.proofs.Common.{◌≡◌, ℕ, ◌+◌, ◌<◌, ◌∙◌, ap, refl, subst, List, [], ◌∷◌, ◌++◌, All, length, take, map, slice_index_or}
+use Rattle.std.proofs.Common.{◌≡◌, ℕ, ◌+◌, ◌<◌, ◌∙◌, ap, refl, subst, List, [], ◌∷◌, ◌++◌, All, length, take, map, slice_index_or, inr, IfOk, IfErr, Result, Ok, Err}
 use Rattle.std.proofs.lemmas.List.{take_more}
 use Rattle.std.proofs.lemmas.List.Elements.{All-push}
 use Rattle.std.specs.Borrow.{Bor}
 use Rattle.mr_pools.specs.NodeName.{IsNodeName}
+use Rattle.mr_pools.specs.Routing.{IsRoutingOf, RoutingView}
+use Rattle.mr_pools.specs.declared.error.PoolError.{PoolError}
+use Rattle.mr_tool.specs.PlannedConfig.{RefusesRouting, SaysPool, SaysRouting}
 use Rattle.mr_words.proofs.ListLemmas.{IsPieceAt, piece_at}
+use Rattle.mr_words.specs.declared.plan_words.MigrationWords.{MigrationWords}
 
 -- the names so far are the pieces so far, and each of these can name a node
 abbrev pub AreMade : List (List ℕ) → ℕ → List (List ℕ) → Type 0
@@ -31,3 +35,15 @@ pub name_refused : (pieces lent : List (Bor (List ℕ))) (words : List (List ℕ
 name_refused pieces lent words i p bytes is same lt piece_is none all =
     let at = piece_at pieces lent words i p bytes is same lt piece_is in
     none (subst IsNodeName (at.reads []) (all i [] at.inside))
+
+-- the routing of two pools that words say, or why there is none
+pub routing_is_said : (words : MigrationWords) (old new : List (List ℕ)) (result : Result RoutingView PoolError) → SaysPool words.old.now (Ok old)
+    → SaysPool words.new.now (Ok new) → IsRoutingOf old new words.hash result → IfOk result (λ routing. SaysRouting words (Ok routing))
+routing_is_said words old new (Ok routing) old_is new_is is = record { old = old; new = new; old_is = old_is; new_is = new_is; is_routing = is }
+routing_is_said words old new (Err refusal) old_is new_is is = tt
+
+pub routing_is_refused : (words : MigrationWords) (old new : List (List ℕ)) (result : Result RoutingView PoolError) → SaysPool words.old.now (Ok old)
+    → SaysPool words.new.now (Ok new) → IsRoutingOf old new words.hash result → IfErr result (RefusesRouting words)
+routing_is_refused words old new (Ok routing) old_is new_is is = tt
+routing_is_refused words old new (Err refusal) old_is new_is is =
+    inr (inr (record { old = old; new = new; old_is = old_is; new_is = new_is; is_routing = is }))

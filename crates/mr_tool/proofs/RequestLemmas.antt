@@ -10,7 +10,7 @@ use Rattle.mr_text.specs.declared.request.Request.{Request}
 use Rattle.mr_text.specs.declared.error.TextError.{TextError}
 use Rattle.mr_text.specs.declared.error.TextError.TheVariants.{LineTooLong, BadKey, BadNumber, WrongWords, DataTooLong, BadDataEnd, UnknownCommand, Truncated, Closed, OutOfMemory}
 use Rattle.mr_tool.specs.declared.fault.Fault.{Fault}
-use Rattle.mr_tool.specs.declared.fault.Fault.TheVariants.{Memory, Input, Output, File, Net, Plan, Node, Text}
+use Rattle.mr_tool.specs.declared.fault.Fault.TheVariants.{Memory, Input, Output, File, Net, Plan, Pools, Phases, Node, Text}
 use Rattle.mr_tool.specs.Input.{HoldsNoRequest, Hold, IsNextOf, HasRead, Completes, ReadsRequest, most_reads}
 use Rattle.mr_text.proofs.ShortRequests.{nothing_unfinished, unfinished_short}
 
@@ -108,6 +108,8 @@ completed before after (Err Output) h holds = absurd holds
 completed before after (Err (File line)) h holds = absurd holds
 completed before after (Err (Plan refusal)) h holds = absurd holds
 completed before after (Err (Net line)) h holds = absurd holds
+completed before after (Err (Pools refusal)) h holds = absurd holds
+completed before after (Err (Phases refusal)) h holds = absurd holds
 completed before after (Err (Node refusal)) h holds = absurd holds
 completed before after (Err (Text LineTooLong)) h holds = h
 completed before after (Err (Text BadKey)) h holds = h
@@ -181,6 +183,8 @@ few_reads before after (Err Output) h = few h.early h.piece before after h.read
 few_reads before after (Err (File line)) h = few h.early h.piece before after h.read
 few_reads before after (Err (Plan refusal)) h = few h.early h.piece before after h.read
 few_reads before after (Err (Net line)) h = few h.early h.piece before after h.read
+few_reads before after (Err (Pools refusal)) h = few h.early h.piece before after h.read
+few_reads before after (Err (Phases refusal)) h = few h.early h.piece before after h.read
 few_reads before after (Err (Node refusal)) h = few h.early h.piece before after h.read
 few_reads before after (Err (Text LineTooLong)) h = few h.early h.piece before after h.read
 few_reads before after (Err (Text BadKey)) h = few h.early h.piece before after h.read

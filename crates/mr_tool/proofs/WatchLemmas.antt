@@ -17,7 +17,7 @@ use Rattle.mr_tool.specs.WatchCommand.{WatchGives, Watches, end_of_watch, given_
 use Rattle.mr_tool.specs.WatchedWords.{AreAddresses, RefusesWord}
 use Rattle.mr_tool.specs.declared.ended.Ended.{Ended}
 use Rattle.mr_tool.specs.declared.fault.Fault.{Fault}
-use Rattle.mr_tool.specs.declared.fault.Fault.TheVariants.{Memory, Input, Output, File, Net, Plan, Node, Text}
+use Rattle.mr_tool.specs.declared.fault.Fault.TheVariants.{Memory, Input, Output, File, Net, Plan, Pools, Phases, Node, Text}
 
 -- what came of a watch of the configuration is what the command gives
 module _ (values : WatchValues) (screen : Screen) (loaded : Loaded) (digest : List ℕ) (before after : Devices)
@@ -70,6 +70,8 @@ watch_refused values screen loaded before after fault result is loads unread unw
     failed (Plan refusal) refuses = absurd refuses.is_fault
     failed Output refuses = absurd refuses.is_fault
     failed Input refuses = absurd refuses.is_fault
+    failed (Pools refusal) refuses = absurd refuses.is_fault
+    failed (Phases refusal) refuses = absurd refuses.is_fault
     failed (Node refusal) refuses = absurd refuses.is_fault
     failed (Text refusal) refuses = absurd refuses.is_fault
 
@@ -87,5 +89,7 @@ watch_lacks values screen before after fault result is lacks unread unwritten =
     failed Output lacks = absurd lacks
     failed Input lacks = absurd lacks
     failed (Net line) lacks = absurd lacks
+    failed (Pools refusal) lacks = absurd lacks
+    failed (Phases refusal) lacks = absurd lacks
     failed (Node refusal) lacks = absurd lacks
     failed (Text refusal) lacks = absurd lacks

@@ -1,5 +1,5 @@
 -- That both forms of a plan say the same.
-use Rattle.std.specs.Prelude.{◌≡◌, ◌↔◌, ℕ, Result, Ok, Err}
+use Rattle.std.specs.Prelude.{◌≡◌, ◌↔◌, ℕ, List, Result, Ok}
 use Rattle.std.specs.Borrow.{Bor}
 use Rattle.mr_configs.specs.Config.{ConfigView}
 use Rattle.mr_tool.specs.Devices.{Devices}
@@ -22,7 +22,7 @@ plan_at planned at = record { planned = planned; at = at }
 abbrev pub with_files : SourcesView → Devices → Devices
 with_files files devices = record devices { sources = files }
 
--- The words say this configuration, and the file at this path, as it was loaded, holds it.
+-- the words say this configuration, and the file at this path, as it was loaded, holds it
 pub record SayTheSame (path : Bor (List ℕ)) (words : MigrationWords) (config : ConfigView) (before loaded : SourcesView) : Type 0 where
   pub said : SaysConfig words (Ok config)
   pub held : LoadsConfig path.now before (Ok config) loaded

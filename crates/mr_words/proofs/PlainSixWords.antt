@@ -1,5 +1,5 @@
 -- That the six words which plainly say a plan are read as it.
-use Rattle.std.proofs.Common.{◌≡◌, ◌∙◌, ap, refl, sym, subst, suc, List, [], ◌∷◌, Some, ℕ, codes}
+use Rattle.std.proofs.Common.{◌≡◌, ◌∙◌, ap, refl, sym, subst, suc, List, [], ◌∷◌, None, Some, false, ℕ, codes}
 use Rattle.std.specs.Prelude.{fold}
 use Rattle.clap.proofs.OnLiterals.{clap_on_literals}
 use Rattle.clap.specs.Faults.{walk_fault, turn_fault}

@@ -4,7 +4,7 @@ use Rattle.clap.proofs.OnLiterals.{clap_on_literals}
 use Rattle.clap.specs.Faults.{walk_fault, turn_fault, settle_fault, defaults_fault, check_fault, level_fault}
 use Rattle.clap.specs.Kinds.{Kinds, or_else}
 use Rattle.clap.specs.Simple.{Shape, built_leaf, inherited, marked_built, with_leaf_noted}
-use Rattle.clap.specs.Walk.{Held, Walk, idle, positional, walk, walked, walk_from, nothing_held, settled, finished}
+use Rattle.clap.specs.Walk.{Held, Walk, positional, walk, walked, walk_from, nothing_held, settled, finished}
 use Rattle.clap.specs.Words.{Row, Text, fault_of, subcommand_of}
 use Rattle.mr_words.proofs.PlainWalk.{IsPlainWord, plain_word, standing, asking, value_walked, word_step, value_step, no_word_left}
 use Rattle.mr_words.specs.Command.{program_app, watch_app}
