@@ -1,12 +1,15 @@
 -- What the pieces of a word between its commas say of the names that are made of them.
-use Rattle.std.proofs.Common.{◌≡◌, ℕ, ◌+◌, ◌<◌, ◌∙◌, ap, refl, subst, List, [], ◌∷◌, ◌++◌, All, length, take, map, slice_index_or, inr, IfOk, IfErr, Result, Ok, Err}
+use Rattle.std.proofs.Common.{◌≡◌, ℕ, ◌+◌, ◌<◌, ◌∙◌, ap, refl, subst, List, [], ◌∷◌, ◌++◌, All, length, take, map, slice_index_or, inl, inr, ◌⊎◌, sym, IfOk, IfErr, IsErrAnd, Result, Ok, Err}
 use Rattle.std.proofs.lemmas.List.{take_more}
 use Rattle.std.proofs.lemmas.List.Elements.{All-push}
 use Rattle.std.specs.Borrow.{Bor}
+use Rattle.std.specs.Prelude.{Vec}
 use Rattle.mr_pools.specs.NodeName.{IsNodeName}
 use Rattle.mr_pools.specs.Routing.{IsRoutingOf, RoutingView}
 use Rattle.mr_pools.specs.declared.error.PoolError.{PoolError}
-use Rattle.mr_tool.specs.PlannedConfig.{RefusesRouting, SaysPool, SaysRouting}
+use Rattle.mr_pools.specs.declared.error.PoolError.TheVariants.{BadName, OutOfMemory}
+use Rattle.mr_tool.specs.PlannedConfig.{RefusesRouting, SaysNames, SaysPool, SaysRouting}
+use Rattle.mr_tool.specs.PlannedSteps.{MakesNames}
 use Rattle.mr_words.proofs.ListLemmas.{IsPieceAt, piece_at}
 use Rattle.mr_words.specs.declared.plan_words.MigrationWords.{MigrationWords}
 
@@ -35,6 +38,17 @@ pub name_refused : (pieces lent : List (Bor (List ℕ))) (words : List (List ℕ
 name_refused pieces lent words i p bytes is same lt piece_is none all =
     let at = piece_at pieces lent words i p bytes is same lt piece_is in
     none (subst IsNodeName (at.reads []) (all i [] at.inside))
+
+-- why a word says no names
+pub names_refused : {Z : Type 0} (word bytes : List ℕ) (result : Result (Vec (List ℕ) Z) PoolError) (refusal : PoolError)
+    → IsErrAnd result (λ other. other ≡ refusal)
+    → ((refusal ≡ BadName) × ¬ IsNodeName bytes) ⊎ ((refusal ≡ OutOfMemory) × IsNodeName bytes)
+    → (¬ IsNodeName bytes → ¬ SaysNames word) → MakesNames word result
+names_refused word bytes (Ok names) refusal is why bad = absurd is
+names_refused {Z = Z} word bytes (Err other) refusal is (inl none) bad =
+    subst (λ (e : PoolError). MakesNames {Z = Z} word (Err e)) (sym (is ∙ none.0)) (bad none.1)
+names_refused {Z = Z} word bytes (Err other) refusal is (inr memory) bad =
+    subst (λ (e : PoolError). MakesNames {Z = Z} word (Err e)) (sym (is ∙ memory.0)) tt
 
 -- the routing of two pools that words say, or why there is none
 pub routing_is_said : (words : MigrationWords) (old new : List (List ℕ)) (result : Result RoutingView PoolError) → SaysPool words.old.now (Ok old)
