@@ -71,6 +71,21 @@ impl ProxyLoop {
         self.front.core()
     }
 
+    /// How many links there are.
+    pub fn links(&self) -> usize
+        ensures { result ≡ length self.now.links }
+    {
+        self.links.len()
+    }
+
+    /// How many places for clients there are.
+    pub fn places(&self) -> usize
+        ensures inboxes { result ≤ length self.now.inboxes }
+        ensures clients { result ≤ length self.now.front.clients }
+    {
+        self.inboxes.len().min(self.front.places())
+    }
+
     /// One more place for a client, which is the last. For want of memory nothing changes.
     pub fn add_place(&mut self) -> Result<(), AllocError>
         ensures added { OnOk result (self.new ≡ with_place self.old) }

@@ -1,0 +1,6 @@
+-- What the driver's pure helpers answer.
+pub mod Addresses
+pub mod Loads
+pub mod Reading
+pub mod Times
+pub mod Writing
