@@ -88,7 +88,7 @@ def commands_are_served():
 
 @case
 def a_pipeline_leaves_turns_to_others():
-    with closing(some_node()) as node, Proxy([node.address]) as proxy:
+    with closing(some_node()) as node, Proxy([node.address], room=64) as proxy:
         proxy.ask(set_of("k", VALUE), STORED)
         pipelining, other = proxy.client(), proxy.client()
         waits = []
@@ -107,7 +107,7 @@ def a_pipeline_leaves_turns_to_others():
                 waits.append(time.monotonic() - begun)
 
         in_threads(send, take, ask)
-        check_true("many answers come beside a pipeline", len(waits) >= 5)
+        check_true(f"many answers come beside a pipeline: {len(waits)}", len(waits) >= 20)
         check_true(f"an answer beside a pipeline comes soon: {max(waits):.3f} s", max(waits) < 2)
 
 
@@ -141,8 +141,8 @@ def replies_come_in_any_pieces():
 @case
 def requests_come_in_any_pieces():
     with closing(StoreNode()) as node, Proxy([node.address]) as proxy:
-        text = set_of("k", "ab\r\ncd", flags=9) + get_of("k") + delete_of("k")
-        wanted = STORED + hits(("k", "ab\r\ncd", 9 if False else 0)) + DELETED
+        text = set_of("k", "ab\r\ncd") + get_of("k") + delete_of("k")
+        wanted = STORED + hits(("k", "ab\r\ncd")) + DELETED
         for at in range(1, len(text)):
             client = proxy.client()
             client.send(text[:at])
@@ -304,7 +304,7 @@ def clients_come_and_go():
         check("files that are open once all have gone", before, proxy.open_files())
 
 
-@case
+@case(quick=False)
 def a_client_that_never_reads_hinders_nobody():
     with closing(some_node()) as node, Proxy([node.address]) as proxy:
         proxy.ask(set_of("large", LARGEST), STORED)
@@ -348,7 +348,7 @@ def a_slow_reader_gets_all():
         in_threads(send, take)
 
 
-@case
+@case(quick=False)
 def large_values_beside_small_ones():
     with closing(some_node()) as node, Proxy([node.address]) as proxy:
         large, small = proxy.client(), proxy.client()
@@ -483,25 +483,15 @@ def a_phase_begins_within_a_pipeline():
         start = int(time.time()) + 2
         with Proxy([old.address], [new.address], start=start, interval=1) as proxy:
             client = proxy.client()
-            count = [0]
-
-            def send():
-                while time.time() < start + 2.5:
-                    client.send(*[delete_of(f"k{count[0] + n}") + get_of(f"k{count[0] + n}") for n in range(10)])
-                    count[0] += 10
-                    time.sleep(0.01)
-
-            def take():
-                taken = 0
-                while time.time() < start + 2.5 or taken < count[0]:
-                    if taken == count[0]:
-                        time.sleep(0.002)
-                        continue
+            sent = taken = 0
+            while time.time() < start + 2.5 or taken < sent:
+                if time.time() < start + 2.5 and sent < taken + 50:
+                    client.send(*[delete_of(f"k{sent + n}") + get_of(f"k{sent + n}") for n in range(10)])
+                    sent += 10
+                else:
                     client.expect(NOT_FOUND + MISS)
                     taken += 1
-
-            in_threads(send, take)
-        names = [f"k{n}".encode() for n in range(count[0])]
+        names = [f"k{n}".encode() for n in range(sent)]
         at_old = [words[1] for words in old.asked(b"delete")]
         at_new = [words[1] for words in new.asked(b"delete")]
         check("the deletes at the old pool are the first ones", names[: len(at_old)], at_old)
@@ -625,7 +615,7 @@ def it_ends_when_it_was_told_to():
             clients[0].quit()
             clients[1].stop_sending()
             clients[1].expect_end()
-            clients[2].ask(b"get " + b"k" * 251 + b"\r\n", b"CLIENT_ERROR key too long\r\n")
+            clients[2].ask(b"get " + b"k" * 251 + b"\r\n", b"CLIENT_ERROR bad key\r\n")
             clients[2].expect_end()
             clients[3].ask(get_of("k"), MISS)
             clients[3].reset()

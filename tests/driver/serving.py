@@ -170,7 +170,7 @@ class Memcached:
     def __init__(self):
         self.place = place_at("127.0.0.1")
         self.address = self.place.address()
-        words = ["-l", "127.0.0.1", "-p", str(self.place.port), "-U", "0", "-m", "256", "-t", "1", "-u", "root"]
+        words = ["-l", "127.0.0.1", "-p", str(self.place.port), "-U", "0", "-m", "256", "-I", "4m", "-t", "1", "-u", "root"]
         self.place.close()
         self.child = CHILDREN.start(
             [shutil.which("memcached"), *words], stdin=subprocess.DEVNULL, stdout=subprocess.DEVNULL, stderr=subprocess.DEVNULL

@@ -1,5 +1,4 @@
 -- What the driver's pure helpers answer.
-pub mod Addresses
 pub mod Loads
 pub mod Reading
 pub mod Times

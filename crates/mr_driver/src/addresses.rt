@@ -1,6 +1,4 @@
 //! The addresses of the nodes of a routing.
-ghost use Rattle.std.specs.Prelude.{◌≡◌, IfOk};
-ghost use Rattle.mr_driver.specs.Addresses.{AreAddresses};
 
 use mr_pools::{NodeName, Routing};
 use mr_sockets::node_address;

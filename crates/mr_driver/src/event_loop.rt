@@ -80,12 +80,23 @@ impl<'a, R: Net + Clock> Drop for EventLoop<'a, R> {
     }
 }
 
-impl<'a, R: Net + Clock> EventLoop<'a, R> {
-    /// The token of a link's events.
-    fn link_token(number: usize) -> Token {
-        Token(number.saturating_add(1))
+/// Dials the node of a link.
+pub(crate) fn dial_link<R: Net>(
+    rt: &R,
+    poll: &Poll,
+    link: &mut Link,
+    machine: &mut ProxyLoop,
+    number: usize,
+    now: u64,
+) {
+    if number < machine.links() {
+        machine.on_link_dialed(number);
     }
+    let token = Token(number.saturating_add(1));
+    link.dial(rt, poll.registry(), token, now);
+}
 
+impl<'a, R: Net + Clock> EventLoop<'a, R> {
     /// The token of a seat's events: those of the mail and of the links come before it.
     fn seat_token(&self, seat: usize) -> Token {
         Token(seat.saturating_add(self.links.len()).saturating_add(1))
@@ -122,7 +133,7 @@ impl<'a, R: Net + Clock> EventLoop<'a, R> {
     /// The link to a node has broken.
     fn break_link(&mut self, number: usize) {
         if number < self.machine.links() {
-            self.machine.on_link_broken(number);
+            self.machine.on_link_broken(number, self.now);
         }
         self.end_link(number);
     }
@@ -138,7 +149,7 @@ impl<'a, R: Net + Clock> EventLoop<'a, R> {
             Some(true) => {
                 link.stage = Stage::Up(self.now);
                 if number < self.machine.links() {
-                    self.machine.on_link_up(number);
+                    self.machine.on_link_up(number, self.now);
                 }
             }
         }
@@ -195,7 +206,10 @@ impl<'a, R: Net + Clock> EventLoop<'a, R> {
             let _ = self.ready_links.push_back(number);
         }
         if count > 0 && number < self.machine.links() {
-            match self.machine.on_link_bytes(number, &input[..count]) {
+            match self
+                .machine
+                .on_link_bytes(number, self.now, &input[..count])
+            {
                 LinkEnd::Whole => {}
                 _ => self.end_link(number),
             }
@@ -236,8 +250,14 @@ impl<'a, R: Net + Clock> EventLoop<'a, R> {
             link.end(self.now);
         }
         if link.is_due(self.now) {
-            let token = Self::link_token(number);
-            link.dial(self.rt, self.poll.registry(), token, self.now);
+            dial_link(
+                self.rt,
+                &self.poll,
+                link,
+                &mut self.machine,
+                number,
+                self.now,
+            );
         }
         if link.is_timed() {
             self.is_timed = true;
@@ -279,7 +299,7 @@ impl<'a, R: Net + Clock> EventLoop<'a, R> {
         if self.seats.try_remove(key).is_some() {
             self.tally.clients.fetch_sub(1, Ordering::SeqCst);
             if key < self.machine.places() {
-                self.machine.refresh(key);
+                self.machine.on_client_left(key);
             }
         }
     }
@@ -306,6 +326,9 @@ impl<'a, R: Net + Clock> EventLoop<'a, R> {
         let both = Interest::READABLE | Interest::WRITABLE;
         self.poll.registry().register(&mut stream, token, both)?;
         let _ = self.seats.insert(Seat::new(stream, self.now));
+        if key < self.machine.places() {
+            self.machine.on_client_came(key);
+        }
         Ok(())
     }
 
@@ -395,10 +418,7 @@ impl<'a, R: Net + Clock> EventLoop<'a, R> {
         let reading = self.clocks.reading();
         match reading {
             Some(reading) if key < self.machine.places() => {
-                match self
-                    .machine
-                    .on_client_bytes(key, reading, self.now, bytes)
-                {
+                match self.machine.on_client_bytes(key, reading, self.now, bytes) {
                     Ok(pause) => self.stand(key, pause),
                     Err(_) => self.drop_client(key),
                 }
@@ -627,14 +647,6 @@ impl<'a, R: Net + Clock> EventLoop<'a, R> {
         self.write_links();
         self.tell_seats();
         Ok(())
-    }
-}
-
-/// The sockets of links that are dialled now.
-pub(crate) fn dial_links<R: Net>(rt: &R, poll: &Poll, links: &mut [Link]) {
-    for number in 0..links.len() {
-        let token = Token(number.saturating_add(1));
-        links[number].dial(rt, poll.registry(), token, 0);
     }
 }
 

@@ -3,7 +3,7 @@
 use crate::accepting::accept_all;
 use crate::addresses::node_addresses;
 use crate::doors::{Door, Side, open_door};
-use crate::event_loop::{dial_links, run_loop};
+use crate::event_loop::{dial_link, run_loop};
 use crate::link::Link;
 use crate::times::bound_of;
 use mr_loop::ProxyLoop;
@@ -52,10 +52,12 @@ fn links_of(alloc: Global, machine: &ProxyLoop) -> Result<Vec<Link>, AllocError>
 }
 
 /// Dials the nodes of a machine, so that there are descriptors for its links before clients have them.
-fn plan<R: Net>(rt: &R, alloc: Global, machine: ProxyLoop) -> io::Result<(Planned, Door)> {
+fn plan<R: Net>(rt: &R, alloc: Global, mut machine: ProxyLoop) -> io::Result<(Planned, Door)> {
     let (side, door) = open_door(rt, alloc)?;
     let mut links = links_of(alloc, &machine)?;
-    dial_links(rt, &side.poll, links.as_mut_slice());
+    for number in 0..links.len() {
+        dial_link(rt, &side.poll, &mut links[number], &mut machine, number, 0);
+    }
     let planned = Planned {
         side,
         links,
@@ -105,9 +107,7 @@ fn served_at(doors: &[Door]) -> u64 {
 ///
 /// Each loop has a thread and a link to each of its machine's nodes; the caller's thread accepts, and hands each client to the loop
 /// that has the fewest. Where a loop can't be started, nobody is accepted.
-pub fn serve<
-    R: Net<Listener = TcpListener, Stream = TcpStream> + Threads + Wait + Clock + Sync,
->(
+pub fn serve<R: Net<Listener = TcpListener, Stream = TcpStream> + Threads + Wait + Clock + Sync>(
     rt: &R,
     alloc: Global,
     listener: &TcpListener,

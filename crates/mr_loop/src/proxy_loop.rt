@@ -97,6 +97,25 @@ impl ProxyLoop {
         Ok(())
     }
 
+    /// A client came.
+    pub fn on_client_came(&mut self, client: usize)
+        requires inbox { client < length self.old.inboxes }
+        requires client { client < length self.old.front.clients }
+    {
+        self.refresh(client);
+    }
+
+    /// A client left.
+    pub fn on_client_left(&mut self, client: usize)
+        requires inbox { client < length self.old.inboxes }
+        requires client { client < length self.old.front.clients }
+    {
+        self.refresh(client);
+    }
+
+    /// A dial begins.
+    pub fn on_link_dialed(&mut self, _node: usize) {}
+
     /// A client came to a place, or left it: what was sent and asked there is gone. Its requests stay under way until their
     /// legs are in, and are told to nobody.
     pub fn refresh(&mut self, client: usize)
@@ -220,7 +239,7 @@ impl ProxyLoop {
     }
 
     /// A connection to a node was made.
-    pub fn on_link_up(&mut self, node: usize)
+    pub fn on_link_up(&mut self, node: usize, _now: u64)
         requires { node < length self.old.links }
         ensures { LinkComesUp node self.old self.new }
     {
@@ -230,7 +249,7 @@ impl ProxyLoop {
     }
 
     /// Bytes came over the link to a node.
-    pub fn on_link_bytes(&mut self, node: usize, piece: &[u8]) -> LinkEnd
+    pub fn on_link_bytes(&mut self, node: usize, _now: u64, piece: &[u8]) -> LinkEnd
         requires { node < length self.old.links }
         ensures { LinkBytes node piece.now self.old result self.new }
     {
@@ -238,7 +257,7 @@ impl ProxyLoop {
     }
 
     /// The link to a node broke.
-    pub fn on_link_broken(&mut self, node: usize)
+    pub fn on_link_broken(&mut self, node: usize, _now: u64)
         requires { node < length self.old.links }
         ensures { LinkBreaks node self.old self.new }
     {

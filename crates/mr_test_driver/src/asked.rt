@@ -86,8 +86,21 @@ fn number_of(word: &String) -> Result<u64, Misuse> {
 impl<'a> Asked<'a> {
     /// What these words ask, of which the first is the program's name.
     pub(crate) fn of(words: &'a [String]) -> Result<Asked<'a>, Misuse> {
-        let [_, listen, loops, clients, room, start, interval, leg_millis, client_seconds, most_legs, most_unread, old, new] =
-            words
+        let [
+            _,
+            listen,
+            loops,
+            clients,
+            room,
+            start,
+            interval,
+            leg_millis,
+            client_seconds,
+            most_legs,
+            most_unread,
+            old,
+            new,
+        ] = words
         else {
             return Err(Misuse::Words);
         };
