@@ -3,10 +3,11 @@ ghost use Rattle.std.specs.Prelude.{◌≡◌, ◌+◌, ◌<◌, ◌≤◌, leng
 
 use crate::clocks::Clocks;
 use crate::doors::{MAIL, Mail, Side, Tally};
-use crate::link::{Link, Stage};
+use crate::link::Link;
 use crate::reading::{Got, read_once};
 use crate::seat::{Seat, Standing};
 use crate::serving::Timing;
+use crate::stages::Stage;
 use crate::times::{has_passed, tick_of, until};
 use crate::writing::{Put, write_once};
 use crossbeam_channel::Receiver;
@@ -147,7 +148,7 @@ impl<'a, R: Net + Clock> EventLoop<'a, R> {
             None => {}
             Some(false) => self.end_link(number),
             Some(true) => {
-                link.stage = Stage::Up(self.now);
+                link.progress.come_up(self.now);
                 if number < self.machine.links() {
                     self.machine.on_link_up(number, self.now);
                 }
@@ -160,9 +161,9 @@ impl<'a, R: Net + Clock> EventLoop<'a, R> {
         let Some(link) = self.links.get_mut(number) else {
             return;
         };
-        match link.stage {
+        match link.progress.stage {
             Stage::Down(_) => return,
-            Stage::Dialled(_) => self.answer_dial(number),
+            Stage::Dialed(_) => self.answer_dial(number),
             Stage::Up(_) => {}
         }
         let Some(link) = self.links.get_mut(number) else {
@@ -174,7 +175,7 @@ impl<'a, R: Net + Clock> EventLoop<'a, R> {
         if event.is_read_closed() || event.is_error() {
             link.to_end = true;
         }
-        if link.is_up() && !link.is_ready {
+        if link.progress.is_up() && !link.is_ready {
             link.is_ready = true;
             let _ = self.ready_links.push_back(number);
         }
@@ -186,7 +187,7 @@ impl<'a, R: Net + Clock> EventLoop<'a, R> {
             return;
         };
         link.is_ready = false;
-        if !link.is_up() {
+        if !link.progress.is_up() {
             return;
         }
         let Some(stream) = &link.stream else {
@@ -221,7 +222,7 @@ impl<'a, R: Net + Clock> EventLoop<'a, R> {
         let Some(link) = self.links.get_mut(number) else {
             return;
         };
-        if number >= self.machine.links() || link.is_blocked || !link.is_up() {
+        if number >= self.machine.links() || link.is_blocked || !link.progress.is_up() {
             return;
         }
         let Some(stream) = &link.stream else {
@@ -244,8 +245,8 @@ impl<'a, R: Net + Clock> EventLoop<'a, R> {
         let Some(link) = self.links.get_mut(number) else {
             return;
         };
-        if link.is_up() && !self.machine.is_up(number)
-            || link.is_unanswered(self.timing.leg_bound, self.now)
+        if link.progress.is_up() && !self.machine.is_up(number)
+            || link.progress.is_unanswered(self.timing.leg_bound, self.now)
         {
             link.end(self.now);
         }

@@ -4,7 +4,6 @@
 #![tactic(auto)]
 
 mod accepting;
-mod addresses;
 mod clocks;
 mod doors;
 mod event_loop;
@@ -13,11 +12,11 @@ mod loads;
 mod reading;
 mod seat;
 mod serving;
+mod stages;
 mod times;
 mod writing;
 
 pub use accepting::listen_at;
-pub use addresses::node_addresses;
 pub use loads::least_loaded;
 pub use serving::{DriverBounds, serve};
 pub use times::{bound_of, next_pause, tick_of};

@@ -1,13 +1,12 @@
 //! Loops and the thread that accepts their clients.
 
 use crate::accepting::accept_all;
-use crate::addresses::node_addresses;
 use crate::doors::{Door, Side, open_door};
 use crate::event_loop::{dial_link, run_loop};
 use crate::link::Link;
 use crate::times::bound_of;
 use mr_loop::ProxyLoop;
-use mr_sockets::Patience;
+use mr_sockets::{Patience, node_address};
 use std::alloc::{AllocError, Global};
 use std::net::{Net, TcpListener, TcpStream};
 use std::sync::Wait;
@@ -41,12 +40,13 @@ struct Planned {
     machine: ProxyLoop,
 }
 
-/// A link to each node of a machine, which is down.
+/// A link to each node of a machine, which is down, in the order of the machine's own.
 fn links_of(alloc: Global, machine: &ProxyLoop) -> Result<Vec<Link>, AllocError> {
-    let nodes = node_addresses(alloc, machine.core().routing())?;
-    let mut links = Vec::with_capacity(alloc, nodes.len())?;
-    for node in nodes {
-        links.push(Link::new(node))?;
+    let mut links = Vec::with_capacity(alloc, machine.links())?;
+    for pool in machine.core().routing().pools() {
+        for name in pool.names() {
+            links.push(Link::new(node_address(name.as_str())))?;
+        }
     }
     Ok(links)
 }
