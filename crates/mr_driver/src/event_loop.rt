@@ -176,8 +176,7 @@ impl<'a, R: Net + Clock> EventLoop<'a, R> {
             link.to_end = true;
         }
         if link.progress.is_up() && !link.is_ready {
-            link.is_ready = true;
-            let _ = self.ready_links.push_back(number);
+            link.is_ready = self.ready_links.push_back(number).is_ok();
         }
     }
 
@@ -203,8 +202,7 @@ impl<'a, R: Net + Clock> EventLoop<'a, R> {
             }
         };
         if has_more {
-            link.is_ready = true;
-            let _ = self.ready_links.push_back(number);
+            link.is_ready = self.ready_links.push_back(number).is_ok();
         }
         if count > 0 && number < self.machine.links() {
             match self
@@ -275,21 +273,27 @@ impl<'a, R: Net + Clock> EventLoop<'a, R> {
         }
     }
 
-    /// What the time does, where it is time.
-    fn look_at_time(&mut self) {
-        if self.now >= self.next_tick {
-            self.next_tick = self.now.saturating_add(tick_of(self.timing.leg_bound));
-            self.machine.on_tick(self.now);
-            self.is_timed = false;
-            for number in 0..self.links.len() {
-                self.tick_link(number);
-            }
+    /// What the time does to the links, where it is time to look.
+    fn tick(&mut self) {
+        if self.now < self.next_tick {
+            return;
         }
-        if self.now >= self.next_sweep {
-            self.next_sweep = self.now.saturating_add(SWEEP);
-            for key in 0..self.machine.places() {
-                self.sweep_seat(key);
-            }
+        self.next_tick = self.now.saturating_add(tick_of(self.timing.leg_bound));
+        self.machine.on_tick(self.now);
+        self.is_timed = false;
+        for number in 0..self.links.len() {
+            self.tick_link(number);
+        }
+    }
+
+    /// What the time does to the clients, where it is time to look.
+    fn sweep(&mut self) {
+        if self.now < self.next_sweep {
+            return;
+        }
+        self.next_sweep = self.now.saturating_add(SWEEP);
+        for key in 0..self.machine.places() {
+            self.sweep_seat(key);
         }
     }
 
@@ -356,8 +360,7 @@ impl<'a, R: Net + Clock> EventLoop<'a, R> {
         if let Some(seat) = self.seats.get_mut(key)
             && !seat.is_ready
         {
-            seat.is_ready = true;
-            let _ = self.ready_seats.push_back(key);
+            seat.is_ready = self.ready_seats.push_back(key).is_ok();
         }
     }
 
@@ -366,8 +369,7 @@ impl<'a, R: Net + Clock> EventLoop<'a, R> {
         if let Some(seat) = self.seats.get_mut(key)
             && !seat.is_told
         {
-            seat.is_told = true;
-            let _ = self.told.push_back(key);
+            seat.is_told = self.told.push_back(key).is_ok();
         }
     }
 
@@ -407,8 +409,9 @@ impl<'a, R: Net + Clock> EventLoop<'a, R> {
             Pause::IsDone => Standing::Done,
             _ => Standing::Held,
         };
-        if seat.standing == Standing::Held {
-            let _ = self.held.push_back(key);
+        if seat.standing == Standing::Held && self.held.push_back(key).is_err() {
+            self.drop_client(key);
+            return;
         }
         self.make_told(key);
     }
@@ -630,7 +633,8 @@ impl<'a, R: Net + Clock> EventLoop<'a, R> {
         }
     }
 
-    /// Waits, and does what follows from what has happened.
+    /// Waits, and does what follows from what has happened. What came counts before the time does: where the loop itself was late,
+    /// nobody is ended for that.
     fn turn(&mut self, events: &mut Events, input: &mut [u8]) -> io::Result<()>
     where
         R: Wait,
@@ -641,12 +645,13 @@ impl<'a, R: Net + Clock> EventLoop<'a, R> {
         for event in &*events {
             self.note(event);
         }
-        self.look_at_time();
         self.read_links(input);
+        self.tick();
         self.go_on();
         self.serve_seats(input);
         self.write_links();
         self.tell_seats();
+        self.sweep();
         Ok(())
     }
 }
