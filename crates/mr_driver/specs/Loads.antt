@@ -1,8 +1,6 @@
 -- Which loop gets the next client.
-use Rattle.std.specs.Prelude.{ℕ, ◌≡◌, ◌<◌, ◌≤◌, List, length, slice_index}
+use Rattle.std.specs.Prelude.{ℕ, ◌==◌, ◌-◌, ◌^◌, List, Option, fold, min, position}
 
--- no number is smaller than that at this place, and each before it is greater
-pub record IsFirstLeast (loads : List ℕ) (place : ℕ) : Type 0 where
-  pub there : place < length loads
-  pub least : (other : ℕ) → other < length loads → slice_index loads place ≤ slice_index loads other
-  pub first : (other : ℕ) → other < place → slice_index loads place < slice_index loads other
+-- the first place at which the least number stands
+abbrev pub place_of_least : List ℕ → Option ℕ
+place_of_least loads = position (λ load. load == fold min (2 ^ 64 - 1) loads) loads

@@ -10,7 +10,7 @@ begun = record { stage = Stage.Down 0; pause = 0 }
 
 -- its node isn't dialled before this pause is over
 abbrev pub paused : ℕ → ℕ → Progress
-paused now pause = record { stage = Stage.Down (min (2 ^ 64 - 1) (now + pause)); pause = pause }
+paused now pause = record { stage = Stage.Down (min (now + pause) (2 ^ 64 - 1)); pause = pause }
 
 abbrev pub dialed_at : ℕ → Progress → Progress
 dialed_at now p = record p { stage = Stage.Dialed now }

@@ -1,17 +1,29 @@
 //! Which loop gets the next client.
-ghost use Rattle.std.specs.Prelude.{◌≡◌, MatchOption, []};
-ghost use Rattle.mr_driver.specs.Loads.{IsFirstLeast};
+ghost use Rattle.std.specs.Prelude.{◌≡◌, ◌==◌, ◌-◌, ◌^◌, fold, min};
+ghost use Rattle.mr_driver.specs.Loads.{place_of_least};
+
+/// The least of some numbers of clients; the greatest number that there is where there are none.
+fn least_of(loads: &[u64]) -> u64
+    ensures { result ≡ fold min (2 ^ 64 - 1) loads.now }
+{
+    let mut least = u64::MAX;
+    for load in loads {
+        least = least.min(*load);
+    }
+    least
+}
+
+/// Whether a loop has so many clients.
+fn has(load: &u64, clients: u64) -> bool
+    ensures { result ≡ (load.now == clients) }
+{
+    *load == clients
+}
 
 /// The number of the first loop that has the fewest clients. None where there is no loop.
 pub fn least_loaded(loads: &[u64]) -> Option<usize>
-    ensures { MatchOption result (loads.now ≡ []) (IsFirstLeast loads.now) }
+    ensures { result ≡ place_of_least loads.now }
 {
-    let mut least: Option<usize> = None;
-    for (number, load) in loads.iter().enumerate() {
-        least = match least {
-            Some(other) if loads[other] <= *load => Some(other),
-            _ => Some(number),
-        };
-    }
-    least
+    let least = least_of(loads);
+    loads.iter().position(|load| has(load, least))
 }

@@ -1,6 +1,6 @@
 //! How long things take, in microseconds.
 ghost use Rattle.std.specs.Prelude.{◌≡◌};
-ghost use Rattle.std.specs.Time.{duration_nanos};
+ghost use Rattle.std.specs.Duration.{as_nanos};
 ghost use Rattle.mr_driver.specs.Times.{bound_of, pause_after, tick_of, has_passed, nanos_until};
 
 use std::time::Duration;
@@ -35,8 +35,10 @@ pub fn next_pause(pause: u64, stood: u64) -> u64
 {
     if stood >= MOST_PAUSE {
         LEAST_PAUSE
+    } else if pause >= MOST_PAUSE / 2 {
+        MOST_PAUSE
     } else {
-        pause.saturating_mul(2).clamp(LEAST_PAUSE, MOST_PAUSE)
+        (pause * 2).max(LEAST_PAUSE)
     }
 }
 
@@ -56,8 +58,8 @@ pub(crate) fn has_passed(bound: u64, since: u64, now: u64) -> bool
 }
 
 /// How long it is until a moment, which may be past.
-pub(crate) fn until(now: u64, then: u64) -> Duration
-    ensures { duration_nanos result ≡ nanos_until now then }
+pub(crate) fn until(now: u64, moment: u64) -> Duration
+    ensures { as_nanos result ≡ nanos_until now moment }
 {
-    Duration::from_micros(then.saturating_sub(now))
+    Duration::from_micros(moment.saturating_sub(now))
 }
