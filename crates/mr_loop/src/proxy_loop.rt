@@ -71,21 +71,6 @@ impl ProxyLoop {
         self.front.core()
     }
 
-    /// How many links there are.
-    pub fn links(&self) -> usize
-        ensures { result ≡ length self.now.links }
-    {
-        self.links.len()
-    }
-
-    /// How many places for clients there are.
-    pub fn places(&self) -> usize
-        ensures inboxes { result ≤ length self.now.inboxes }
-        ensures clients { result ≤ length self.now.front.clients }
-    {
-        self.inboxes.len().min(self.front.places())
-    }
-
     /// One more place for a client, which is the last. For want of memory nothing changes.
     pub fn add_place(&mut self) -> Result<(), AllocError>
         ensures added { OnOk result (self.new ≡ with_place self.old) }
@@ -96,25 +81,6 @@ impl ProxyLoop {
         self.inboxes.push_reserved(Inbox::new(self.alloc));
         Ok(())
     }
-
-    /// A client came.
-    pub fn on_client_came(&mut self, client: usize)
-        requires inbox { client < length self.old.inboxes }
-        requires client { client < length self.old.front.clients }
-    {
-        self.refresh(client);
-    }
-
-    /// A client left.
-    pub fn on_client_left(&mut self, client: usize)
-        requires inbox { client < length self.old.inboxes }
-        requires client { client < length self.old.front.clients }
-    {
-        self.refresh(client);
-    }
-
-    /// A dial begins.
-    pub fn on_link_dialed(&mut self, _node: usize) {}
 
     /// A client came to a place, or left it: what was sent and asked there is gone. Its requests stay under way until their
     /// legs are in, and are told to nobody.
@@ -239,7 +205,7 @@ impl ProxyLoop {
     }
 
     /// A connection to a node was made.
-    pub fn on_link_up(&mut self, node: usize, _now: u64)
+    pub fn on_link_up(&mut self, node: usize)
         requires { node < length self.old.links }
         ensures { LinkComesUp node self.old self.new }
     {
@@ -249,7 +215,7 @@ impl ProxyLoop {
     }
 
     /// Bytes came over the link to a node.
-    pub fn on_link_bytes(&mut self, node: usize, _now: u64, piece: &[u8]) -> LinkEnd
+    pub fn on_link_bytes(&mut self, node: usize, piece: &[u8]) -> LinkEnd
         requires { node < length self.old.links }
         ensures { LinkBytes node piece.now self.old result self.new }
     {
@@ -257,7 +223,7 @@ impl ProxyLoop {
     }
 
     /// The link to a node broke.
-    pub fn on_link_broken(&mut self, node: usize, _now: u64)
+    pub fn on_link_broken(&mut self, node: usize)
         requires { node < length self.old.links }
         ensures { LinkBreaks node self.old self.new }
     {
