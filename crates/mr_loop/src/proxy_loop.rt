@@ -34,6 +34,10 @@ impl Model for ProxyLoop {
     ghost Value = { LoopView };
 
     ghost view = { λ l. record { front = l.front; inboxes = l.inboxes.items; links = l.links.items; limits = l.limits } };
+
+    ghost use Rattle.std.specs.Prelude.{◌≡◌, length};
+
+    ghost invariant = { λ l. length l.inboxes.items ≡ length l.front.clients };
 }
 
 /// So many links that are down.
@@ -71,6 +75,22 @@ impl ProxyLoop {
         self.front.core()
     }
 
+    /// How many places for clients there are.
+    pub fn places(&self) -> usize
+        ensures clients { result ≡ length self.now.front.clients }
+        ensures inboxes { result ≡ length self.now.inboxes }
+    {
+        let _kept = self.front.places();
+        self.inboxes.len()
+    }
+
+    /// How many links there are: one for each node.
+    pub fn links(&self) -> usize
+        ensures { result ≡ length self.now.links }
+    {
+        self.links.len()
+    }
+
     /// One more place for a client, which is the last. For want of memory nothing changes.
     pub fn add_place(&mut self) -> Result<(), AllocError>
         ensures added { OnOk result (self.new ≡ with_place self.old) }
@@ -106,6 +126,7 @@ impl ProxyLoop {
         requires { client < length self.old.inboxes }
         ensures asked { IfOk result
             (λ pause. ClientBytes (asker_of self.old client reading now) piece.now self.old pause self.new) }
+        ensures unchanged { OnErr result (self.new ≡ self.old) }
     {
         let asker = Asker {
             client,
@@ -114,7 +135,9 @@ impl ProxyLoop {
             limits: self.limits,
         };
         let inbox = &mut self.inboxes[client];
-        inbox.feed(piece)?;
+        if let Err(error) = inbox.feed(piece) {
+            return Err(error);
+        }
         Ok(ask_on(
             &mut self.front,
             &mut self.links,
