@@ -43,6 +43,7 @@ pub kept_event : (event : Event) (f : FrontView) → places (after_event event f
 kept_event (Event.Does client step) f =
     kept_answered client (answer_at f.core step) (queued client step f.core f.clients) ∙ kept_queued client step f.core f.clients
 kept_event (Event.Alone step) f = refl
+kept_event (Event.Denies cause) f = refl
 kept_event (Event.Tells client reply) f = kept_changed _ client _ f.clients
 kept_event (Event.Flushes client) f = kept_changed _ client _ f.clients
 
@@ -69,7 +70,7 @@ kept_one : (asker : Asker) (old new : Asking) → DoesOne asker old new → plac
 kept_one asker old new one = kept_done asker old.front old.links one.input new.front new.links one.done
 
 kept_each : (asker : Asker) (old new : Asking) → DoesAll asker old new → places new.front ≡ places old.front
-kept_each asker old old DoesAll.starts = refl
+kept_each asker old new DoesAll.starts = refl
 kept_each asker old new (DoesAll.goes_on {between} before one) = kept_one asker between new one ∙ kept_each asker old between before
 
 kept_asking : (old new : Asking) → new ≡ old → places new.front ≡ places old.front
@@ -89,23 +90,25 @@ pub kept_asks : (asker : Asker) (pause : Pause) (old new : Asking) → AsksOn as
 kept_asks asker pause old new a = kept_stop asker pause a.between new a.stops ∙ kept_each asker old a.between a.did
 
 -- what a link's end does keeps the places
-pub kept_break : (legs : List SentLeg) (front : FrontView) (new : Link) (front' : FrontView) → Breaks legs front new front' → places front' ≡ places front
-kept_break legs front new front' b = kept_by _ front front' b.given_up
+pub kept_break : (now : ℕ) (link : Link) (front : FrontView) (new : Link) (front' : FrontView) → Breaks now link front new front' → places front' ≡ places front
+kept_break now link front new front' b = kept_by _ front front' b.given_up
 
 kept_taken : (bytes : List ℕ) (legs : List SentLeg) (front : FrontView) (rest : List ℕ) (left : List SentLeg) (front' : FrontView)
     → HasTaken bytes legs front rest left front' → places front' ≡ places front
 kept_taken bytes legs front rest left front' t = kept_by t.events front front' t.happens
 
 -- bytes of a link keep the places
-pub kept_bytes : (piece : List ℕ) (old : Link) (front : FrontView) (end : LinkEnd) (new : Link) (front' : FrontView)
-    → TakesBytes piece old front end new front' → places front' ≡ places front
-kept_bytes piece old front Whole new front' t = kept_taken _ _ front _ _ front' t.taken
-kept_bytes piece old front Surplus new front' t = kept_break _ t.between new front' t.breaks ∙ kept_taken _ _ front _ _ t.between t.taken
-kept_bytes piece old front Mismatch new front' t = kept_break _ t.between new front' t.breaks ∙ kept_taken _ _ front _ _ t.between t.taken
-kept_bytes piece old front Complaint new front' t =
-    kept_break _ t.between new front' t.breaks ∙ kept_by _ t.taken.between t.between t.taken.happens
+pub kept_bytes : (now : ℕ) (piece : List ℕ) (old : Link) (front : FrontView) (end : LinkEnd) (new : Link) (front' : FrontView)
+    → TakesBytes now piece old front end new front' → places front' ≡ places front
+kept_bytes now piece old front Whole new front' t = kept_taken _ _ front _ _ front' t.taken
+kept_bytes now piece old front Surplus new front' t =
+    kept_break now _ t.between new front' t.breaks ∙ kept_taken _ _ front _ _ t.between t.taken
+kept_bytes now piece old front Mismatch new front' t =
+    kept_break now _ t.between new front' t.breaks ∙ kept_taken _ _ front _ _ t.between t.taken
+kept_bytes now piece old front Complaint new front' t =
+    kept_break now _ t.between new front' t.breaks ∙ kept_by _ t.taken.between t.between t.taken.happens
     ∙ kept_taken _ _ front _ _ t.taken.between t.taken.taken
-kept_bytes piece old front (Refused refusal) new front' (inl t) =
-    kept_break _ t.between new front' t.breaks ∙ kept_taken _ _ front _ _ t.between t.taken
-kept_bytes piece old front (Refused refusal) new front' (inr t) = kept_break _ front new front' t.breaks
-kept_bytes piece old front Down new front' t = kept_same front front' t.2
+kept_bytes now piece old front (Refused refusal) new front' (inl t) =
+    kept_break now _ t.between new front' t.breaks ∙ kept_taken _ _ front _ _ t.between t.taken
+kept_bytes now piece old front (Refused refusal) new front' (inr t) = kept_break now old front new front' t.breaks
+kept_bytes now piece old front Down new front' t = kept_same front front' t.2
