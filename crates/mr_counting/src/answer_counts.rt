@@ -84,7 +84,7 @@ impl AnswerCounts {
     };
 
     /// Counts why a request failed.
-    fn add_cause(&mut self, cause: &Cause)
+    pub fn add_cause(&mut self, cause: &Cause)
         ensures { self.new ≡ cause_counted cause.now self.old }
     {
         match cause {
@@ -144,7 +144,7 @@ impl AnswerCounts {
 
     /// Counts what a request was answered.
     #[inline(always)]
-    pub(crate) fn add_answer(&mut self, answer: &Answer)
+    pub fn add_answer(&mut self, answer: &Answer)
         ensures { self.new ≡ answer_counted answer.now self.old }
     {
         let slots = answer.slots();

@@ -30,9 +30,9 @@ fn place_among(bounds: &[u64], micros: u64) -> usize
     place
 }
 
-/// The place of the first bound that a time isn't longer than.
+/// The place of the first bound of `LegTimes` that a time isn't longer than, in microseconds.
 #[inline(always)]
-fn place_of(micros: u64) -> usize
+pub fn place_of_time(micros: u64) -> usize
     ensures place { result ≡ place_in bounds micros }
     ensures within { result < 16 }
 {
@@ -88,7 +88,7 @@ impl LegTimes {
     /// Counts a leg that took so many microseconds.
     #[inline(always)]
     pub(crate) fn add(&self, micros: u64) {
-        self.counts[place_of(micros)].fetch_add(1, Ordering::SeqCst);
+        self.counts[place_of_time(micros)].fetch_add(1, Ordering::SeqCst);
         self.micros.fetch_add(micros, Ordering::SeqCst);
     }
 

@@ -25,7 +25,7 @@ pub struct ProxyCounts {
 
 /// The later of the readings so far and this one.
 #[inline(always)]
-fn later_of(last: Option<u64>, reading: u64) -> Option<u64>
+pub fn later_of(last: Option<u64>, reading: u64) -> Option<u64>
     ensures { result ≡ later_of last reading }
 {
     match last {

@@ -63,7 +63,7 @@ impl RequestCounts {
 
     /// Counts a request in the phase that was in force.
     #[inline(always)]
-    pub(crate) fn add(&mut self, request: &Request, phase: PhaseName)
+    pub fn add(&mut self, request: &Request, phase: PhaseName)
         ensures { self.new ≡ request_counted request.now phase self.old }
     {
         match request {

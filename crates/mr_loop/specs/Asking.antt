@@ -26,6 +26,7 @@ use Rattle.mr_loop.specs.declared.link.Link.{Link}
 use Rattle.mr_loop.specs.Events.{FrontView, Event, after_all}
 use Rattle.mr_loop.specs.Inboxes.{FetchIs, holding}
 use Rattle.mr_loop.specs.Links.{all_sent, all_up, are_clear}
+use Rattle.mr_loop.specs.Unread.{unread}
 
 abbrev pub is_no_room : Option ProxyError → Bool
 is_no_room None = false
@@ -40,9 +41,9 @@ is_full core = is_no_room (refusal_of core)
 
 abbrev pub is_behind_in : Limits → ℕ → Option Client → Bool
 is_behind_in limits room None = false
-is_behind_in limits room (Some client) = nat_lt limits.most_unread (length client.out) || nat_le room (length client.turns)
+is_behind_in limits room (Some client) = nat_lt limits.most_unread (unread client) || nat_le room (length client.turns)
 
--- the client has read less of its answers than it may leave unread, or as many of its requests wait as there is room for
+-- the client has more of its answers unread than it may, or as many of its requests wait as there is room for
 abbrev pub is_behind : Limits → ℕ → FrontView → Bool
 is_behind limits place f = is_behind_in limits f.core.room (slice_get f.clients place)
 
@@ -60,6 +61,10 @@ tells client (Some reply) = Event.Tells client reply ∷ []
 -- what the client of a request is told that isn't begun for this cause: nothing where it wants no answer
 abbrev pub denial : Request → Cause → Option Reply
 denial request cause = if is_silent request then None else Some (ServerError cause)
+
+-- a request isn't begun for this cause, and its client is told
+abbrev pub denies : ℕ → Request → Cause → List Event
+denies client request cause = Event.Denies cause ∷ tells client (denial request cause)
 
 -- the request is given up at once where one of its legs has no link that is up
 abbrev pub given_up_unless : Bool → ℕ → OpId → List Event
@@ -86,14 +91,14 @@ module _ (asker : Asker) (front : FrontView) (links : List Link) where
   -- a request isn't begun since no number is left, and its client is told
   pub record HasNoNumber (request : Request) (front' : FrontView) : Type 0 where
     pub spent : refusal_of front.core ≡ Some NumbersSpent
-    pub happens : front' ≡ after_all (tells asker.client (denial request cause.NumbersSpent)) front
+    pub happens : front' ≡ after_all (denies asker.client request cause.NumbersSpent) front
 
   -- memory for a request was refused before any of its legs went, and its client is told
   pub record HasNoMemory (request : Request) (front' : FrontView) : Type 0 where
     pub accepted : refusal_of front.core ≡ None
     pub before : List Event
     pub either : (before ≡ []) ⊎ (before ≡ fails asker request front.core)
-    pub happens : front' ≡ after_all (before ++ tells asker.client (denial request cause.OutOfMemory)) front
+    pub happens : front' ≡ after_all (before ++ denies asker.client request cause.OutOfMemory) front
 
   -- a quit asks nothing
   pub record AsksNothing (request : Request) (front' : FrontView) : Type 0 where

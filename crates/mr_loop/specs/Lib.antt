@@ -1,4 +1,7 @@
 pub mod Turns
+pub mod Counts
+pub mod Held
+pub mod Unread
 pub mod Links
 pub mod Events
 pub mod Returning

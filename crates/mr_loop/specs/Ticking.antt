@@ -5,7 +5,7 @@ use Rattle.mr_loop.specs.declared.link.Link.{Link}
 use Rattle.mr_loop.specs.declared.sent_legs.SentLeg.{SentLeg}
 use Rattle.mr_loop.specs.Events.{Event}
 use Rattle.mr_loop.specs.Links.{down_link}
-use Rattle.mr_loop.specs.Returning.{give_ups}
+use Rattle.mr_loop.specs.Returning.{after_break, give_ups}
 
 abbrev pub is_late_in : ℕ → ℕ → List SentLeg → Bool
 is_late_in bound now [] = false
@@ -16,7 +16,7 @@ abbrev pub is_late : ℕ → ℕ → Link → Bool
 is_late bound now link = is_late_in bound now link.legs
 
 abbrev pub ticked : ℕ → ℕ → Link → Link
-ticked bound now link = if is_late bound now link then down_link else link
+ticked bound now link = if is_late bound now link then down_link (after_break now link) else link
 
 abbrev pub given_up_at : ℕ → ℕ → Link → List Event
 given_up_at bound now link = if is_late bound now link then give_ups link.legs else []

@@ -23,7 +23,7 @@ use Rattle.mr_loop.specs.declared.inbox.Input.{Input}
 use Rattle.mr_loop.specs.declared.inbox.Input.TheVariants as input
 use Rattle.mr_loop.specs.declared.link.Link.{Link}
 use Rattle.mr_loop.specs.Events.{FrontView, Event, after_event, after_all}
-use Rattle.mr_loop.specs.Asking.{Asking, tells, denial, given_up_unless, IsDoneFor, IsClear}
+use Rattle.mr_loop.specs.Asking.{Asking, tells, denies, given_up_unless, IsDoneFor, IsClear}
 use Rattle.mr_loop.specs.Links.{are_clear, all_sent, all_up}
 
 -- why what a client sent is held back: a queue is full, or memory for its turn is refused
@@ -40,8 +40,8 @@ IssuesSo asker request old (Issued issued) new =
     × (new ≡ after_event (Event.Does asker.client (Issue asker.reading request)) old)
     × (issued.op ≡ next_op old.core) × (issued.legs.items ≡ sheets_of old.core asker.reading request)
 IssuesSo asker request old Told new =
-    ((refusal_of old.core ≡ Some NumbersSpent) × (new ≡ after_all (tells asker.client (denial request cause.NumbersSpent)) old))
-    ⊎ ((refusal_of old.core ≡ None) × (new ≡ after_all (tells asker.client (denial request cause.OutOfMemory)) old))
+    ((refusal_of old.core ≡ Some NumbersSpent) × (new ≡ after_all (denies asker.client request cause.NumbersSpent) old))
+    ⊎ ((refusal_of old.core ≡ None) × (new ≡ after_all (denies asker.client request cause.OutOfMemory) old))
 IssuesSo asker request old (Later back) new = (back ≡ request) × (new ≡ old)
 
 -- the request was issued, and isn't begun after all: no leg of it went
@@ -49,7 +49,7 @@ abbrev pub IsWithdrawn : ℕ → OpId → Option Reply → FrontView → FrontVi
 IsWithdrawn client op denial old new =
     (reading : ℕ) (request : Request) (before : FrontView) → client < length before.clients → op ≡ next_op before.core
     → old ≡ after_event (Event.Does client (Issue reading request)) before
-    → new ≡ after_all (tells client denial)
+    → new ≡ after_all (Event.Denies cause.OutOfMemory ∷ tells client denial)
     (after_all (Event.Alone (Issue reading request) ∷ Event.Alone (GiveUp (next_op before.core)) ∷ []) before)
 
 -- the cause that a client is told of what the core refused
