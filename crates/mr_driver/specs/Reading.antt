@@ -1,5 +1,5 @@
 -- What one read gives.
-use Rattle.std.specs.Prelude.{ℕ, ◌≡◌, ◌<◌, ◌≤◌, ⊤}
+use Rattle.std.specs.Prelude.{ℕ, ◌≤◌, ⊤}
 use Rattle.mr_driver.specs.declared.reading.Got.{Got}
 
 -- no more bytes than there is room for, and all that were there where fewer came
