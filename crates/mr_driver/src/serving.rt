@@ -106,7 +106,7 @@ fn served_at(doors: &[Door]) -> u64 {
 /// once all have: by a quit, at the end of what they sent, or with a request that was refused and answered.
 ///
 /// Each loop has a thread and a link to each of its machine's nodes; the caller's thread accepts, and hands each client to the loop
-/// that has the fewest. Where a loop can't be started, nobody is accepted.
+/// that has the fewest. Where there is no loop, or one can't be started, nobody is accepted.
 pub fn serve<R: Net<Listener = TcpListener, Stream = TcpStream> + Threads + Wait + Clock + Sync>(
     rt: &R,
     alloc: Global,
@@ -127,7 +127,7 @@ pub fn serve<R: Net<Listener = TcpListener, Stream = TcpStream> + Threads + Wait
     };
     let doors = doors.as_slice();
     thread::scope(thread::scope_env(), rt, move |scope| {
-        if start_loops(rt, scope, alloc, loops, timing) {
+        if start_loops(rt, scope, alloc, loops, timing) && !doors.is_empty() {
             accept_all(rt, alloc, listener, doors, bounds.clients);
         }
         for door in doors {
