@@ -1,8 +1,11 @@
 -- Whatever happens, there are as many clients as before.
-use Rattle.std.proofs.Common.{◌≡◌, ℕ, ◌⊎◌, inl, inr, List, [], ◌∷◌, Option, Some, None, length, refl, ap, ◌∙◌}
+use Rattle.std.proofs.Common.{◌≡◌, ℕ, ◌⊎◌, inl, inr, List, [], ◌∷◌, ◌++◌, Option, Some, None, length, refl, ap, ◌∙◌}
 use Rattle.std.proofs.lemmas.List.{length-set}
+use Rattle.mr_text.specs.declared.cause.Cause.TheVariants as cause
 use Rattle.mr_text.specs.declared.error.TextError.{TextError}
+use Rattle.mr_node.specs.Output.{reply_to_refusal}
 use Rattle.mr_proxy.specs.Answer.{AnswerView}
+use Rattle.mr_proxy.specs.Issue.{sheets_of}
 use Rattle.mr_proxy.specs.ProxyView.{ProxyView}
 use Rattle.mr_desks.specs.Replay.{answer_at}
 use Rattle.mr_desks.specs.declared.step.Step.{Step}
@@ -17,9 +20,10 @@ use Rattle.mr_loop.specs.declared.link.Link.{Link}
 use Rattle.mr_loop.specs.declared.link.LinkEnd.{LinkEnd}
 use Rattle.mr_loop.specs.declared.link.LinkEnd.TheVariants.{Whole, Surplus, Mismatch, Complaint, Refused, Down}
 use Rattle.mr_loop.specs.declared.sent_legs.SentLeg.{SentLeg}
-use Rattle.mr_loop.specs.Asking.{Asking, IsDoneFor, DoesOne, DoesAll, StopsFor, AsksOn}
+use Rattle.mr_loop.specs.Asking.{Asking, IsDoneFor, DoesOne, DoesAll, StopsFor, AsksOn, begins, denies, tells}
 use Rattle.mr_loop.specs.Events.{FrontView, Event, after_event, after_all, changed_in, queued, answered}
-use Rattle.mr_loop.specs.Returning.{TakesBytes, Breaks, HasTaken}
+use Rattle.mr_loop.specs.Links.{all_up}
+use Rattle.mr_loop.specs.Returning.{TakesBytes, Breaks, HasTaken, give_ups, taking}
 
 -- how many clients there are
 abbrev pub places : FrontView → ℕ
@@ -60,11 +64,15 @@ kept_same f f' e = ap (λ (x : FrontView). length x.clients) e
 
 kept_done : (asker : Asker) (front : FrontView) (links : List Link) (it : Input) (front' : FrontView) (links' : List Link)
     → IsDoneFor asker front links it front' links' → places front' ≡ places front
-kept_done asker front links (input.Asks request) front' links' (inl begun) = kept_by _ front front' begun.happens
+kept_done asker front links (input.Asks request) front' links' (inl begun) =
+    kept_by (begins asker request (all_up front.core.routing (sheets_of front.core asker.reading request) links) front.core) front front' begun.happens
 kept_done asker front links (input.Asks request) front' links' (inr (inl quits)) = kept_same front front' quits.0.unchanged
-kept_done asker front links (input.Asks request) front' links' (inr (inr (inl spent))) = kept_by _ front front' spent.0.happens
-kept_done asker front links (input.Asks request) front' links' (inr (inr (inr denied))) = kept_by _ front front' denied.0.happens
-kept_done asker front links (input.Refused refusal) front' links' told = kept_by _ front front' told.0
+kept_done asker front links (input.Asks request) front' links' (inr (inr (inl spent))) =
+    kept_by (denies asker.client request cause.NumbersSpent) front front' spent.0.happens
+kept_done asker front links (input.Asks request) front' links' (inr (inr (inr denied))) =
+    kept_by (denied.0.before ++ denies asker.client request cause.OutOfMemory) front front' denied.0.happens
+kept_done asker front links (input.Refused refusal) front' links' told =
+    kept_by (tells asker.client (reply_to_refusal refusal)) front front' told.0
 
 kept_one : (asker : Asker) (old new : Asking) → DoesOne asker old new → places new.front ≡ places old.front
 kept_one asker old new one = kept_done asker old.front old.links one.input new.front new.links one.done
@@ -79,10 +87,10 @@ kept_asking old new e = ap (λ (a : Asking). length a.front.clients) e
 kept_stop : (asker : Asker) (pause : Pause) (old new : Asking) → StopsFor asker pause old new → places new.front ≡ places old.front
 kept_stop asker NeedsRoom old new s = kept_asking old new s.1
 kept_stop asker NeedsReader old new s = kept_asking old new s.1
-kept_stop asker NeedsBytes old new s = kept_same old.front new.front s.1
-kept_stop asker IsDone old new s = kept_same old.front new.front s.1
+kept_stop asker NeedsBytes old new s = kept_same old.front new.front s.1.0
+kept_stop asker IsDone old new s = kept_same old.front new.front s.1.0
 kept_stop asker NeedsQueue old new s = ap (λ (a : Asking). length a.front.clients) s.1.held
-kept_stop asker NeedsMemory old new (inl s) = kept_same old.front new.front s.1
+kept_stop asker NeedsMemory old new (inl s) = kept_same old.front new.front s.1.0
 kept_stop asker NeedsMemory old new (inr s) = ap (λ (a : Asking). length a.front.clients) s.1.held
 
 -- what a client sent keeps the places
@@ -91,7 +99,7 @@ kept_asks asker pause old new a = kept_stop asker pause a.between new a.stops �
 
 -- what a link's end does keeps the places
 pub kept_break : (now : ℕ) (link : Link) (front : FrontView) (new : Link) (front' : FrontView) → Breaks now link front new front' → places front' ≡ places front
-kept_break now link front new front' b = kept_by _ front front' b.given_up
+kept_break now link front new front' b = kept_by (give_ups link.legs) front front' b.given_up
 
 kept_taken : (bytes : List ℕ) (legs : List SentLeg) (front : FrontView) (rest : List ℕ) (left : List SentLeg) (front' : FrontView)
     → HasTaken bytes legs front rest left front' → places front' ≡ places front
@@ -106,7 +114,7 @@ kept_bytes now piece old front Surplus new front' t =
 kept_bytes now piece old front Mismatch new front' t =
     kept_break now _ t.between new front' t.breaks ∙ kept_taken _ _ front _ _ t.between t.taken
 kept_bytes now piece old front Complaint new front' t =
-    kept_break now _ t.between new front' t.breaks ∙ kept_by _ t.taken.between t.between t.taken.happens
+    kept_break now _ t.between new front' t.breaks ∙ kept_by (taking t.taken.sent t.taken.said ∷ []) t.taken.between t.between t.taken.happens
     ∙ kept_taken _ _ front _ _ t.taken.between t.taken.taken
 kept_bytes now piece old front (Refused refusal) new front' (inl t) =
     kept_break now _ t.between new front' t.breaks ∙ kept_taken _ _ front _ _ t.between t.taken
