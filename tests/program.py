@@ -17,7 +17,7 @@ SANITIZED = "quarantine_size_mb=0:thread_local_quarantine_size_kb=0"
 def path():
     """The program, as an absolute path. `./migctl prove` is run, which is silent and quick where the proved one is there; ./migctl
     itself is left out, since it looks over all sources at each call and may run a program that isn't proved."""
-    os.environ.setdefault("MALLOC_ARENA_MAX", str(2 * os.cpu_count()))  # as ./migctl has it
+    os.environ.setdefault("MALLOC_ARENA_MAX", str(2 * len(os.sched_getaffinity(0))))  # as ./migctl has it
     if "MIGCTL_UNPROVED" in os.environ:
         os.environ.setdefault("ASAN_OPTIONS", SANITIZED)
     if "MIGCTL" in os.environ:

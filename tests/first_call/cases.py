@@ -32,7 +32,7 @@ def sorted_texts():
 
 def answer(how, changed=("", ""), words="plain", arenas=None):
     """What the program answers that was made so."""
-    return f"{how} of {texts(*changed)}arenas {arenas or 2 * int(os.cpu_count())} words {words}\n"
+    return f"{how} of {texts(*changed)}arenas {arenas or 2 * len(os.sched_getaffinity(0))} words {words}\n"
 
 
 def want_checked(checkout, said=CHECKED, changed=("", "")):

@@ -91,6 +91,19 @@ class Client:
         self.send(request)
         self.expect(wanted, what=f"the answer of {self.address} to {raw(request)[:60]!r}")
 
+    def ask_until(self, request, wanted, meanwhile):
+        """Sends a request again and again while its answer is the line that comes meanwhile, until it is the one that is wanted."""
+        until = time.monotonic() + PATIENCE
+        while True:
+            self.send(request)
+            line = self.line()
+            if line != meanwhile or time.monotonic() > until:
+                break
+            time.sleep(0.01)
+        if not wanted.startswith(line):
+            raise Wrong(f"the answer of {self.address} to {raw(request)[:60]!r} in the end", wanted, line)
+        self.expect(wanted[len(line) :], what=f"the answer of {self.address} to {raw(request)[:60]!r} in the end")
+
     def value_of(self, key):
         """The value that a get finds under this key; nothing at a miss."""
         self.send(get_of(key))

@@ -20,12 +20,14 @@ from wanted import Wrong, check
 FOREVER = str(2**64 - 1)  # clients of a service that its case ends
 YEAR_2100 = 4102444800  # the start of a migration that no case sees begin
 TRIES = 5  # ports that are tried for a service before it is given up
+LOOPS = 2  # of a proxy that runs on loops, where its case doesn't say how many
 
 HOME = tempfile.mkdtemp(prefix="migctl-live-")  # of the files of all cases, until the run ends
 
 
 class Telling:
-    """Whether each service of the run tells its metrics, those too whose case doesn't ask for it."""
+    """Whether each service of the run tells its metrics, those too whose case doesn't ask for it. A proxy runs on loops then, unless
+    its case wants one by threads."""
 
     always = False
 
@@ -45,6 +47,11 @@ def remove_home():
         time.sleep(0.05)
 
 
+def number_of_loops(words):
+    """On how many loops a service of these words runs; 0 where it runs by threads."""
+    return int(words[words.index("--loops") + 1]) if "--loops" in words else 0
+
+
 class Service:
     """A node or a proxy that runs."""
 
@@ -54,6 +61,7 @@ class Service:
         self.place = place
         self.address = place.address(host)
         self.metrics = words[words.index("--metrics") + 1] if "--metrics" in words else None
+        self.loops = number_of_loops(words)
         self.ended_by_case = False
         self.begin()
 
@@ -76,11 +84,11 @@ class Service:
         return False
 
     def has_begun(self):
-        """Whether it listens and, where it tells its metrics, has the socket and the thread for that, so that who counts its open
-        files or its threads counts these too."""
-        if not is_listened_at(self.address):
+        """Whether it listens and has the threads of its loops and, where it tells its metrics, the socket and the thread for that, so
+        that who counts its open files or its threads counts these too."""
+        if not is_listened_at(self.address) or (self.metrics and not is_listened_at(self.metrics)):
             return False
-        return self.metrics is None or (is_listened_at(self.metrics) and self.thread_count() > 1)
+        return self.thread_count() > self.loops + (self.metrics is not None)
 
     def client(self, little_room=False):
         """A connection to it, which may have room for some 70,000 bytes alone that aren't read yet."""
@@ -217,12 +225,15 @@ class Fleet:
         """A clock for services, which is so many seconds ahead of the machine's."""
         return MovedClock(self.new_file(), seconds)
 
-    def serve(self, *words, hosts=("127.0.0.1",), host=None, clock=None):
+    def serve(self, *words, hosts=("127.0.0.1",), host=None, clock=None, before=(), told=True):
         """A service at a port that is free at each of these hosts, at the first of them or at this one, by the machine's time or
-        by another clock. Where another program took the port meanwhile, it is started at another one."""
-        before = clock.words() if clock else []
+        by another clock, started by the words of a command that stand before its own. Where another program took the port
+        meanwhile, it is started at another one. One that isn't told tells no metrics unless its words say so, even where each
+        service does."""
+        before = [*before, *(clock.words() if clock else [])]
         for _ in range(TRIES):
-            service = Service(self, [*before, program(), *words, *self.telling(words)], self.keep(place_at(*hosts)), host)
+            whole = self.on_loops([*words, *(self.telling(words) if told else [])])
+            service = Service(self, [*before, program(), *whole], self.keep(place_at(*hosts)), host)
             self.services.append(service)
             if service.listens():
                 return service
@@ -231,10 +242,17 @@ class Fleet:
         raise Wrong(f"{words}", f"a free port among {TRIES}", "none")
 
     def telling(self, words):
-        """The words by which a service tells its metrics where all do, unless these say it already."""
-        if not Telling.always or "--metrics" in words:
+        """The words by which a service tells its metrics where all do, unless these say it already, or bound the turns of a proxy,
+        which it has by threads alone."""
+        if not Telling.always or "--metrics" in words or (words[0] == "proxy" and "--turns" in words):
             return []
         return ["--metrics", self.keep(place_at("127.0.0.1")).address()]
+
+    def on_loops(self, words):
+        """These words, which say how many loops there are where it is a proxy that tells its metrics."""
+        if words[0] != "proxy" or "--loops" in words or "--metrics" not in words:
+            return words
+        return [*words, "--loops", str(LOOPS)]
 
     def node(self, *words, clients=FOREVER, **where):
         """A node, which serves clients until the case ends unless a number of them is said."""
@@ -242,7 +260,7 @@ class Fleet:
 
     def second_node(self, first, host):
         """A node at the port of another one, which is kept at this host too."""
-        service = Service(self, [program(), "node", "--clients", FOREVER, *self.telling([])], first.place, host)
+        service = Service(self, [program(), "node", "--clients", FOREVER, *self.telling(["node"])], first.place, host)
         self.services.append(service)
         if not service.listens():
             raise Wrong(f"the start of {service.name()}", "something that listens", service.printed())
@@ -253,8 +271,17 @@ class Fleet:
         return [self.node() for _ in range(count)]
 
     def proxy(self, config, *words, clients=FOREVER, **where):
-        """A proxy by this configuration."""
+        """A proxy by this configuration: by threads, or on loops where it tells its metrics."""
         return self.serve("proxy", "--config", str(config), "--clients", str(clients), *words, **where)
+
+    def proxy_by_threads(self, config, *words, **how):
+        """A proxy by this configuration that runs by threads, whether services tell their metrics or not."""
+        return self.proxy(config, *words, told=False, **how)
+
+    def proxy_on_loops(self, config, *words, loops=LOOPS, **how):
+        """A proxy by this configuration that runs on so many loops, whether services tell their metrics or not."""
+        metrics = self.keep(place_at("127.0.0.1")).address()
+        return self.proxy(config, "--metrics", metrics, "--loops", str(loops), *words, **how)
 
     def config(self, old, new=None, start=YEAR_2100, interval=None, hash_name=None):
         """The file of a configuration. Pools are lists of services or of addresses; a new pool that isn't said is one
@@ -298,8 +325,9 @@ class Fleet:
 
     def start_command(self, *words, stdin=subprocess.PIPE, stdout=subprocess.PIPE, memory=None):
         """Starts a command, which is ended with the case at the latest."""
-        telling = self.telling(words) if words[:1] in (("node",), ("proxy",)) else []
-        words = [program(), *(os.fspath(word) for word in words), *telling]
+        if words[:1] in (("node",), ("proxy",)):
+            words = self.on_loops([*words, *self.telling(words)])
+        words = [program(), *(os.fspath(word) for word in words)]
         if memory is not None:
             words = ["sh", "-c", f'ulimit -v {memory // 1024}; exec "$@"', "sh", *words]
         child = CHILDREN.start(words, stdin=stdin, stdout=stdout, stderr=subprocess.PIPE)

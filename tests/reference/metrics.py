@@ -3,7 +3,7 @@ import re
 
 PHASES = ("old-only", "both-read-old", "both-read-new", "new-only")
 COMMANDS = ("get", "set", "delete")
-KINDS = ("hit", "miss", "stored", "deleted", "not found", "leg lost", "busy", "out of memory", "clock fault", "other fault")
+KINDS = ("hit", "miss", "stored", "deleted", "not found", "leg lost", "out of memory", "clock fault", "other fault")
 MOST = 2**64 - 1
 MOST_HEAD = 8192
 MOST_FIELDS = 64
@@ -105,9 +105,10 @@ def of_proxy(known):
     answers = [("", [("kind", KINDS[kind])], count) for kind, count in known["answers"]]
     legs = [
         ("", [("pool", pool), ("node", node), ("outcome", outcome)], count)
-        for pool, node, carried, lost in known["legs"]
+        for pool, node, carried, lost, *_ in known["links"]
         for outcome, count in (("carried", carried), ("lost", lost))
     ]
+    up, breaks, dials = ([("", [("pool", row[0]), ("node", row[1])], row[at]) for row in known["links"]] for at in (4, 5, 6))
     phases = [("", [("phase", phase)], int(at == known["phase"])) for at, phase in enumerate(PHASES)]
     return (
         of_service(known)
@@ -143,12 +144,38 @@ def of_proxy(known):
             "counter",
             answers,
         )
+        + one(
+            "migctl_proxy_requests_held_back_total",
+            "Requests that were held back until there was room for them.",
+            "counter",
+            known["held_back"],
+        )
         + family(
             "migctl_proxy_legs_total", "Legs of requests, by pool, by node and by what became of them.", "counter", legs
         )
         + of_times(known["times"], known["micros"])
         + one("migctl_proxy_requests_under_way", "Requests that are under way.", "gauge", known["under_way"])
         + one("migctl_proxy_room_requests", "Requests that may be under way at once.", "gauge", known["room"])
+        + one("migctl_proxy_loops", "Loops that carry requests, each of which is a proxy of the fleet.", "gauge", known["loops"])
+        + one("migctl_proxy_max_clients", "Clients that may be served at once.", "gauge", known["max_clients"])
+        + one(
+            "migctl_proxy_clients_wait",
+            "1 while clients aren't accepted since as many are served as may be, else 0.",
+            "gauge",
+            int(known["clients_wait"]),
+        )
+        + family(
+            "migctl_proxy_link_up", "Loops that have a connection to the node, by pool and by node.", "gauge", up
+        )
+        + family(
+            "migctl_proxy_link_breaks_total",
+            "Connections to the node that were there and are gone, by pool and by node.",
+            "counter",
+            breaks,
+        )
+        + family(
+            "migctl_proxy_link_dials_total", "Connections to the node that were begun, by pool and by node.", "counter", dials
+        )
     )
 
 

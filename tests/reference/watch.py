@@ -65,20 +65,21 @@ def told(text):
 
 
 def proxy_told(text, digest):
-    perhaps = [behind(text, b"migctl_clock_seconds "), behind(text, b"migctl_proxy_next_phase_seconds ")]
+    names = (b"migctl_clock_seconds ", b"migctl_proxy_next_phase_seconds ", b"migctl_proxy_requests_held_back_total ")
+    perhaps = [behind(text, name) for name in names]
     if any(word is not None and number_of(word) is None for word in perhaps):
         return "nothing"
-    clock, next_phase = (None if word is None else number_of(word) for word in perhaps)
+    clock, next_phase, held_back = (None if word is None else number_of(word) for word in perhaps)
     heads = [b'migctl_proxy_phase{phase="' + phase.encode() + b'"} ' for phase in PHASES]
     phase = next((name for name, head in zip(PHASES, heads) if number_behind(text, head) == 1), None)
-    kinds = [number_behind(text, b'migctl_proxy_answers_total{kind="' + kind + b'"} ') for kind in (b"hit", b"leg lost", b"busy")]
+    kinds = [number_behind(text, b'migctl_proxy_answers_total{kind="' + kind + b'"} ') for kind in (b"hit", b"leg lost")]
     steps_back = number_behind(text, b"migctl_clock_steps_back_total ")
     hop = number_behind(text, b"migctl_proxy_hop ")
     requests = sum_behind(text, b"migctl_proxy_requests_total{")
     if None in (phase, steps_back, hop, requests, *kinds):
         return "nothing"
     counts = " ".join(map(str, (requests, *kinds)))
-    return f"proxy -{digest.hex()} {hyphen(clock)} {steps_back} {hop} {phase} {hyphen(next_phase)} {counts}"
+    return f"proxy -{digest.hex()} {hyphen(clock)} {steps_back} {hop} {phase} {hyphen(next_phase)} {counts} {hyphen(held_back)}"
 
 
 def stats(text):
@@ -236,7 +237,7 @@ def proxy_line(look, proxy):
         passed = max(proxy["answered"] - look["moment"], 0) // 1000
         ahead = known["clock"] - min(look["at"] + passed, MOST)
         clock = (("-" if ahead < 0 else "+") + short(abs(ahead))).rjust(8)
-    cells = [rate(look, proxy), known["hits"], known["lost"], known["busy"]]
+    cells = [rate(look, proxy), known["hits"], known["lost"], known["held_back"]]
     shown = coloured(look, CYAN, phase) + " " * (13 - len(phase))
     return front + shown + clock + "".join(map(cell, cells)) + "\n"
 
@@ -296,7 +297,7 @@ def premise_lines(look, findings):
 
 
 def as_text(look, findings):
-    proxies = "proxy".ljust(25) + "phase".ljust(13) + "".join(name.rjust(8) for name in ("clock", "req/s", "hits", "lost", "busy")) + "\n"
+    proxies = "proxy".ljust(25) + "phase".ljust(13) + "".join(name.rjust(8) for name in ("clock", "req/s", "hits", "lost", "held")) + "\n"
     proxies += "".join(proxy_line(look, proxy) for proxy in look["proxies"])
     nodes = "pool " + "node".ljust(24) + "items".rjust(8) + "hits".rjust(8) + "\n"
     nodes += "".join(pool_lines(look, pool) for pool in range(len(look["schedule"]) + 1))
@@ -324,7 +325,7 @@ def as_json(look, findings):
         known = proxy["told"]
         if not known:
             return {"address": proxy["address"], "reached": False}
-        counts = {name: known[name] for name in ("busy", "clock", "hits", "hop", "lost")}
+        counts = {name: known[name] for name in ("clock", "held_back", "hits", "hop", "lost")}
         texts = {"address": proxy["address"], "digest": printable(known["digest"]), "phase": PHASES[known["phase"]]}
         return {**counts, **texts, "reached": True, "requests_per_second": rate(look, proxy)}
 

@@ -9,6 +9,15 @@ use std::env;
 use std::env::VarError;
 use std::io::IsTerminal;
 use std::process::ExitCode;
+use std::thread::{self, Threads};
+
+/// How many threads the machine runs at once; 1 where it doesn't say.
+fn processors<R: Threads>(rt: &R) -> u64 {
+    match thread::available_parallelism(rt) {
+        Ok(count) => count.get() as u64,
+        Err(_) => 1,
+    }
+}
 
 fn main(rt: HostRuntime) -> ExitCode {
     let screen = Screen {
@@ -21,7 +30,10 @@ fn main(rt: HostRuntime) -> ExitCode {
     };
     let status = run_arguments(
         rt.alloc(),
-        &mut HostServers::new(&rt).on(screen),
+        &mut HostServers::new(&rt)
+            .on(screen)
+            .with_processors(processors(&rt))
+            .saying(rt.stderr()),
         env::args(&rt),
         &mut HostFiles::new(&rt),
         &mut OverReader::new(rt.stdin()),

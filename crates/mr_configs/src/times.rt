@@ -67,6 +67,15 @@ impl ChainTimes {
         self.schedule.hops()
     }
 
+    /// Another of the same times. It takes no memory.
+    pub fn copy(&self) -> ChainTimes
+        ensures { result ≡ self.now }
+    {
+        ChainTimes {
+            schedule: self.schedule.copy(),
+        }
+    }
+
     /// The readings of each phase of the hop of this number.
     pub fn of(&self, hop: u32) -> PhaseTimes
         requires { hop < length self.now }

@@ -1,1 +1,2 @@
 mod StandingLemmas
+mod SumLemmas

@@ -1,5 +1,6 @@
 -- How legs are counted by how long they took.
-use Rattle.std.specs.Prelude.{◌≡◌, ℕ, ◌+◌, ◌-◌, ◌*◌, ◌/◌, List, [], ◌∷◌, codes, map, take, nat_eq, nat_le, refl, if◌then◌else◌}
+use Rattle.std.specs.Prelude.{◌≡◌, ℕ, ◌+◌, ◌-◌, ◌*◌, ◌/◌, List, [], ◌∷◌, codes, map, take, nat_eq, nat_le, refl, slice_index, if◌then◌else◌}
+use Rattle.mr_metrics.specs.declared.times.Bucket.{Bucket}
 
 -- the longest times that are told apart, in microseconds, rising
 abbrev pub bounds : List ℕ
@@ -46,3 +47,12 @@ micros_said seconds (c ∷ rest) =
 -- what is told are these bounds
 pub told-bounds : map (micros_said 0) (take 15 bound_texts) ≡ bounds
 told-bounds = refl
+
+-- what a bucket tells: its bound, and how often
+abbrev pub bucket_said : Bucket → List ℕ × ℕ
+bucket_said bucket = (bucket.bound.now, bucket.count)
+
+-- each of these bounds with its count, which stands at the same place among the counts, from this place on
+abbrev pub bucket_rows : ℕ → List (List ℕ) → List ℕ → List (List ℕ × ℕ)
+bucket_rows place [] counts = []
+bucket_rows place (bound ∷ bounds) counts = (bound, slice_index counts place) ∷ bucket_rows (place + 1) bounds counts

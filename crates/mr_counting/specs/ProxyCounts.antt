@@ -1,11 +1,10 @@
 -- What a proxy counts of what it is asked and of what it answers.
-use Rattle.std.specs.Prelude.{◌≡◌, ℕ, ◌-◌, Bool, true, false, max, List, [], ◌∷◌, map, fold, Option, Some, None, if◌then◌else◌}
+use Rattle.std.specs.Prelude.{ℕ, Bool, true, false, max, List, map, fold, Option, Some, None, if◌then◌else◌}
 use Rattle.std.specs.List.{list_any}
 use Rattle.mr_text.specs.declared.cause.Cause.{Cause}
 use Rattle.mr_text.specs.declared.cause.Cause.TheVariants as cause
 use Rattle.mr_text.specs.declared.request.Request.{Request}
 use Rattle.mr_text.specs.declared.request.Request.TheVariants.{Get, Set, Delete, Quit}
-use Rattle.mr_phases.specs.Schedule.{Hop, phase_of}
 use Rattle.mr_phases.specs.declared.phase_name.PhaseName.{PhaseName}
 use Rattle.mr_phases.specs.declared.phase_name.PhaseName.TheVariants.{OldOnly, BothReadOld, BothReadNew, NewOnly}
 use Rattle.mr_join.specs.Join.{first_cause}
@@ -13,11 +12,8 @@ use Rattle.mr_join.specs.declared.leg_reply.LegReply.{LegReply}
 use Rattle.mr_join.specs.declared.leg_reply.LegReply.TheVariants.{Hit, Miss, Stored, Deleted, NotFound, Failed}
 use Rattle.mr_proxy.specs.Answer.{AnswerView}
 use Rattle.mr_proxy.specs.Slots.{reply_of_slot}
-use Rattle.mr_desks.specs.declared.desk_error.DeskError.{DeskError}
-use Rattle.mr_desks.specs.declared.desk_error.DeskError.TheVariants as refusal
 use Rattle.mr_counting.specs.Counting.{one_more}
 use Rattle.mr_counting.specs.declared.answer_counts.AnswerCounts.{AnswerCounts}
-use Rattle.mr_counting.specs.declared.proxy_counts.ProxyCounts.{ProxyCounts}
 use Rattle.mr_counting.specs.declared.request_counts.PhaseCounts.{PhaseCounts}
 use Rattle.mr_counting.specs.declared.request_counts.RequestCounts.{RequestCounts}
 
@@ -90,29 +86,3 @@ answer_counted answer counts = replies_counted (first_cause (replies_of answer))
 abbrev pub later_of : Option ℕ → ℕ → Option ℕ
 later_of None reading = Some reading
 later_of (Some last) reading = Some (max last reading)
-
--- a request was issued
-abbrev pub after_issued : ProxyCounts → ProxyCounts
-after_issued counts = record counts { under_way = one_more counts.under_way }
-
--- a request was answered: it is counted in the phase of its own reading
-abbrev pub after_answered : List Hop → AnswerView → ProxyCounts → ProxyCounts
-after_answered hops answer counts = record {
-  requests = request_counted answer.request (phase_of hops answer.reading) counts.requests;
-  answers = answer_counted answer counts.answers;
-  under_way = counts.under_way - 1;
-  last_issue = later_of counts.last_issue answer.reading;
-}
-
--- a request was refused, of which its client is told why
-abbrev pub refusal_counted : DeskError → AnswerCounts → AnswerCounts
-refusal_counted refusal.ClockFault counts = cause_counted cause.ClockFault counts
-refusal_counted refusal.NoRoom counts = cause_counted cause.Busy counts
-refusal_counted refusal.OutOfMemory counts = cause_counted cause.OutOfMemory counts
-refusal_counted refusal.NumbersSpent counts = cause_counted cause.NumbersSpent counts
-refusal_counted refusal.BookFull counts = cause_counted cause.BookFull counts
-refusal_counted refusal.NoSuchOp counts = counts
-
--- a request was refused: it is counted by what its client is told
-abbrev pub after_refused : DeskError → ProxyCounts → ProxyCounts
-after_refused e counts = record counts { answers = refusal_counted e counts.answers }

@@ -3,10 +3,10 @@ ghost use Rattle.std.specs.Prelude.{◌≡◌, map, fold, option_map};
 ghost use Rattle.std.specs.List.{list_any};
 ghost use Rattle.mr_join.specs.Join.{first_cause};
 ghost use Rattle.mr_proxy.specs.Slots.{reply_of_slot};
-ghost use Rattle.mr_counting.specs.ProxyCounts.{cause_counted, key_counted, is_not_found, delete_counted, success_counted, answer_counted, refusal_counted};
+ghost use Rattle.mr_counting.specs.ProxyCounts.{cause_counted, key_counted, is_not_found, delete_counted, success_counted, answer_counted};
+ghost use Rattle.mr_counting.specs.Sums.{answers_sum};
 
-use crate::counting::one_more;
-use mr_desks::DeskError;
+use crate::counting::{one_more, sum_of};
 use mr_join::LegReply;
 use mr_proxy::{Answer, Slot};
 use mr_text::{Cause, Request};
@@ -84,7 +84,7 @@ impl AnswerCounts {
     };
 
     /// Counts why a request failed.
-    fn add_cause(&mut self, cause: &Cause)
+    pub fn add_cause(&mut self, cause: &Cause)
         ensures { self.new ≡ cause_counted cause.now self.old }
     {
         match cause {
@@ -144,7 +144,7 @@ impl AnswerCounts {
 
     /// Counts what a request was answered.
     #[inline(always)]
-    pub(crate) fn add_answer(&mut self, answer: &Answer)
+    pub fn add_answer(&mut self, answer: &Answer)
         ensures { self.new ≡ answer_counted answer.now self.old }
     {
         let slots = answer.slots();
@@ -154,17 +154,21 @@ impl AnswerCounts {
         }
     }
 
-    /// Counts a request that was refused.
-    pub(crate) fn add_refusal(&mut self, refusal: DeskError)
-        ensures { self.new ≡ refusal_counted refusal self.old }
+    /// Both together.
+    pub fn plus(self, more: AnswerCounts) -> AnswerCounts
+        ensures { result ≡ answers_sum self more }
     {
-        match refusal {
-            DeskError::ClockFault => self.add_cause(&Cause::ClockFault),
-            DeskError::NoRoom => self.add_cause(&Cause::Busy),
-            DeskError::OutOfMemory => self.add_cause(&Cause::OutOfMemory),
-            DeskError::NumbersSpent => self.add_cause(&Cause::NumbersSpent),
-            DeskError::BookFull => self.add_cause(&Cause::BookFull),
-            DeskError::NoSuchOp => {}
+        AnswerCounts {
+            hits: sum_of(self.hits, more.hits),
+            misses: sum_of(self.misses, more.misses),
+            stored: sum_of(self.stored, more.stored),
+            deleted: sum_of(self.deleted, more.deleted),
+            not_found: sum_of(self.not_found, more.not_found),
+            leg_lost: sum_of(self.leg_lost, more.leg_lost),
+            busy: sum_of(self.busy, more.busy),
+            out_of_memory: sum_of(self.out_of_memory, more.out_of_memory),
+            clock_fault: sum_of(self.clock_fault, more.clock_fault),
+            other_fault: sum_of(self.other_fault, more.other_fault),
         }
     }
 }

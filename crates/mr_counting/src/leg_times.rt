@@ -1,9 +1,10 @@
-//! How long legs took, carried and lost ones, counted by all connections.
-ghost use Rattle.std.specs.Prelude.{◌≡◌, ◌<◌, ◌≤◌, length, map};
-ghost use Rattle.mr_counting.specs.LegTimes.{bounds, bound_texts, place_in};
+//! How long legs took, carried and lost ones, by how long each did.
+ghost use Rattle.std.specs.Prelude.{◌≡◌, ◌<◌, ◌≤◌, length, map, slice_index};
+ghost use Rattle.mr_counting.specs.LegTimes.{bounds, bound_texts, place_in, bucket_said, bucket_rows};
+ghost use Rattle.mr_counting.specs.Sums.{times_sum};
 
+use crate::counting::sum_of;
 use mr_metrics::Bucket;
-use std::sync::atomic::{AtomicU64, Ordering};
 
 /// The longest times that are told apart, in microseconds.
 const BOUNDS: [u64; 15] = [
@@ -30,87 +31,57 @@ fn place_among(bounds: &[u64], micros: u64) -> usize
     place
 }
 
-/// The place of the first bound that a time isn't longer than.
+/// The place of the first bound of `LegTimes` that a time isn't longer than, in microseconds.
 #[inline(always)]
-fn place_of(micros: u64) -> usize
+pub fn place_of_time(micros: u64) -> usize
     ensures place { result ≡ place_in bounds micros }
     ensures within { result < 16 }
 {
     place_among(&BOUNDS, micros)
 }
 
-/// How long legs took, carried and lost ones, counted by all connections.
+/// How long legs took, carried and lost ones.
+#[derive(Clone, Copy, Debug, PartialEq, Eq)]
 pub struct LegTimes {
-    counts: [AtomicU64; BUCKETS],
-    micros: AtomicU64,
-}
-
-impl Drop for LegTimes {
-    fn drop(self) {
-        let Self {
-            counts: _,
-            micros: _,
-        } = self;
-    }
-}
-
-/// A count of nothing yet.
-fn zero() -> AtomicU64 {
-    AtomicU64::new(0)
+    /// How many took no longer than a bound, and longer than the one before it: by the bounds that are told, of which the last
+    /// is none.
+    pub counts: [u64; BUCKETS],
+    /// How long they took in all, in microseconds.
+    pub micros: u64,
 }
 
 impl LegTimes {
-    /// None yet.
-    pub fn new() -> LegTimes {
-        LegTimes {
-            counts: [
-                zero(),
-                zero(),
-                zero(),
-                zero(),
-                zero(),
-                zero(),
-                zero(),
-                zero(),
-                zero(),
-                zero(),
-                zero(),
-                zero(),
-                zero(),
-                zero(),
-                zero(),
-                zero(),
-            ],
-            micros: zero(),
+    /// No leg went.
+    pub const NONE: LegTimes = LegTimes {
+        counts: [0; BUCKETS],
+        micros: 0,
+    };
+
+    /// Adds others, as far as 64 bits count.
+    pub fn add(&mut self, more: &LegTimes)
+        ensures { self.new ≡ times_sum self.old more.now }
+    {
+        for place in 0..BUCKETS {
+            self.counts[place] = sum_of(self.counts[place], more.counts[place]);
         }
-    }
-
-    /// Counts a leg that took so many microseconds.
-    #[inline(always)]
-    pub(crate) fn add(&self, micros: u64) {
-        self.counts[place_of(micros)].fetch_add(1, Ordering::SeqCst);
-        self.micros.fetch_add(micros, Ordering::SeqCst);
-    }
-
-    /// How long they took in all, in microseconds.
-    pub fn micros(&self) -> u64 {
-        self.micros.load(Ordering::SeqCst)
+        self.micros = sum_of(self.micros, more.micros);
     }
 
     /// How often they took how long, by a bound in seconds and its place.
     fn bucket(&self, bound: &'static str, place: usize) -> Bucket<'static>
         requires { place < 16 }
-        ensures { result.bound.now ≡ bound.entry.now }
+        ensures bound { result.bound.now ≡ bound.entry.now }
+        ensures count { result.count ≡ slice_index self.now.counts place }
     {
         Bucket {
             bound,
-            count: self.counts[place].load(Ordering::SeqCst),
+            count: self.counts[place],
         }
     }
 
     /// How often they took how long, by rising bounds in seconds.
     pub fn buckets(&self) -> [Bucket<'static>; BUCKETS]
-        ensures { map (λ bucket. bucket.bound.now) result ≡ bound_texts }
+        ensures { map bucket_said result ≡ bucket_rows 0 bound_texts self.now.counts }
     {
         [
             self.bucket("0.0001", 0),

@@ -1,14 +1,11 @@
 //! What a proxy counts of what it is asked and of what it answers.
-ghost use Rattle.std.specs.Prelude.{◌≡◌, List};
-ghost use Rattle.mr_phases.specs.Schedule.{Hop, phase_of};
-ghost use Rattle.mr_counting.specs.ProxyCounts.{later_of, after_issued, after_answered, after_refused};
+ghost use Rattle.std.specs.Prelude.{◌≡◌};
+ghost use Rattle.mr_counting.specs.ProxyCounts.{later_of};
+ghost use Rattle.mr_counting.specs.Sums.{latest_of, counts_sum};
 
 use crate::answer_counts::AnswerCounts;
-use crate::counting::one_more;
+use crate::counting::sum_of;
 use crate::request_counts::RequestCounts;
-use mr_desks::DeskError;
-use mr_phases::PhaseName;
-use mr_proxy::Answer;
 
 /// What a proxy was asked and has answered since it began.
 #[derive(Clone, Copy, Debug, PartialEq, Eq)]
@@ -25,12 +22,22 @@ pub struct ProxyCounts {
 
 /// The later of the readings so far and this one.
 #[inline(always)]
-fn later_of(last: Option<u64>, reading: u64) -> Option<u64>
+pub fn later_of(last: Option<u64>, reading: u64) -> Option<u64>
     ensures { result ≡ later_of last reading }
 {
     match last {
         Some(last) => Some(last.max(reading)),
         None => Some(reading),
+    }
+}
+
+/// The later of two readings, either of which there may not be.
+fn latest_of(last: Option<u64>, other: Option<u64>) -> Option<u64>
+    ensures { result ≡ latest_of last other }
+{
+    match other {
+        Some(reading) => later_of(last, reading),
+        None => last,
     }
 }
 
@@ -43,30 +50,15 @@ impl ProxyCounts {
         last_issue: None,
     };
 
-    /// Counts a request that was issued.
-    #[inline(always)]
-    pub(crate) fn add_issue(&mut self)
-        ensures { self.new ≡ after_issued self.old }
+    /// Both together: the sums of their counts, and the later of their last issues.
+    pub fn plus(self, more: ProxyCounts) -> ProxyCounts
+        ensures { result ≡ counts_sum self more }
     {
-        self.under_way = one_more(self.under_way);
-    }
-
-    /// Counts an answer, and its request in this phase, which is that of its own reading.
-    #[inline(always)]
-    pub(crate) fn add_answer(&mut self, phase: PhaseName, answer: &Answer)
-        ensures { (hops : List Hop) → phase ≡ phase_of hops answer.now.reading
-            → self.new ≡ after_answered hops answer.now self.old }
-    {
-        self.requests.add(answer.request(), phase);
-        self.answers.add_answer(answer);
-        self.under_way = self.under_way.saturating_sub(1);
-        self.last_issue = later_of(self.last_issue, answer.reading());
-    }
-
-    /// Counts a request that was refused.
-    pub(crate) fn add_refusal(&mut self, refusal: DeskError)
-        ensures { self.new ≡ after_refused refusal self.old }
-    {
-        self.answers.add_refusal(refusal);
+        ProxyCounts {
+            requests: self.requests.plus(more.requests),
+            answers: self.answers.plus(more.answers),
+            under_way: sum_of(self.under_way, more.under_way),
+            last_issue: latest_of(self.last_issue, more.last_issue),
+        }
     }
 }

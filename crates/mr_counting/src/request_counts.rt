@@ -1,8 +1,9 @@
 //! How many requests came to an answer, by command and by phase.
 ghost use Rattle.std.specs.Prelude.{◌≡◌};
 ghost use Rattle.mr_counting.specs.ProxyCounts.{phase_counted, request_counted};
+ghost use Rattle.mr_counting.specs.Sums.{phases_sum, requests_sum};
 
-use crate::counting::one_more;
+use crate::counting::{one_more, sum_of};
 use mr_phases::PhaseName;
 use mr_text::Request;
 
@@ -40,6 +41,18 @@ impl PhaseCounts {
             PhaseName::NewOnly => self.new_only = one_more(self.new_only),
         }
     }
+
+    /// Both together.
+    pub fn plus(self, more: PhaseCounts) -> PhaseCounts
+        ensures { result ≡ phases_sum self more }
+    {
+        PhaseCounts {
+            old_only: sum_of(self.old_only, more.old_only),
+            both_read_old: sum_of(self.both_read_old, more.both_read_old),
+            both_read_new: sum_of(self.both_read_new, more.both_read_new),
+            new_only: sum_of(self.new_only, more.new_only),
+        }
+    }
 }
 
 /// A count for each command and phase.
@@ -63,7 +76,7 @@ impl RequestCounts {
 
     /// Counts a request in the phase that was in force.
     #[inline(always)]
-    pub(crate) fn add(&mut self, request: &Request, phase: PhaseName)
+    pub fn add(&mut self, request: &Request, phase: PhaseName)
         ensures { self.new ≡ request_counted request.now phase self.old }
     {
         match request {
@@ -71,6 +84,17 @@ impl RequestCounts {
             Request::Set { .. } => self.sets.add(phase),
             Request::Delete { .. } => self.deletes.add(phase),
             Request::Quit => {}
+        }
+    }
+
+    /// Both together.
+    pub fn plus(self, more: RequestCounts) -> RequestCounts
+        ensures { result ≡ requests_sum self more }
+    {
+        RequestCounts {
+            gets: self.gets.plus(more.gets),
+            sets: self.sets.plus(more.sets),
+            deletes: self.deletes.plus(more.deletes),
         }
     }
 }

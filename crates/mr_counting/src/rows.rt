@@ -3,6 +3,7 @@ ghost use Rattle.std.specs.Prelude.{◌≡◌};
 ghost use Rattle.mr_counting.specs.Telling.{request_row, request_rows, answer_row, answer_rows};
 
 use crate::answer_counts::AnswerCounts;
+use crate::counting::sum_of;
 use crate::request_counts::RequestCounts;
 use mr_metrics::{AnswerCount, AnswerKind, Command, RequestCount};
 use mr_phases::PhaseName;
@@ -69,8 +70,8 @@ fn answer_row(kind: AnswerKind, count: u64) -> AnswerCount
     AnswerCount { kind, count }
 }
 
-/// The counts of answers, kind by kind.
-pub(crate) fn answer_rows(counts: &AnswerCounts) -> [AnswerCount; 10]
+/// The counts of answers, kind by kind. Those that a node answered `busy` are among the other faults.
+pub(crate) fn answer_rows(counts: &AnswerCounts) -> [AnswerCount; 9]
     ensures { result ≡ answer_rows counts.now }
 {
     [
@@ -80,9 +81,11 @@ pub(crate) fn answer_rows(counts: &AnswerCounts) -> [AnswerCount; 10]
         answer_row(AnswerKind::Deleted, counts.deleted),
         answer_row(AnswerKind::NotFound, counts.not_found),
         answer_row(AnswerKind::LegLost, counts.leg_lost),
-        answer_row(AnswerKind::Busy, counts.busy),
         answer_row(AnswerKind::OutOfMemory, counts.out_of_memory),
         answer_row(AnswerKind::ClockFault, counts.clock_fault),
-        answer_row(AnswerKind::OtherFault, counts.other_fault),
+        answer_row(
+            AnswerKind::OtherFault,
+            sum_of(counts.other_fault, counts.busy),
+        ),
     ]
 }

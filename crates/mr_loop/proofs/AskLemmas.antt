@@ -1,5 +1,5 @@
 -- What a client asks, one thing after the other.
-use Rattle.std.proofs.Common.{◌≡◌, ◌≢◌, ℕ, ◌+◌, ◌*◌, ◌<◌, ◌⊎◌, inl, inr, List, Bool, true, false, cond, Option, Some, None, Result, Ok, Err, length, refl, ap, ◌∙◌, subst, arith}
+use Rattle.std.proofs.Common.{◌≡◌, ◌≢◌, ℕ, ◌+◌, ◌*◌, ◌<◌, inl, inr, List, Bool, true, false, Option, Some, None, Result, Ok, Err, length, refl, ap, ◌∙◌, arith}
 use Rattle.std.specs.Prelude.{not}
 use Rattle.mr_text.specs.Requests.{SpellsRequest, RefusesRequest, SkipsLine, is_quit}
 use Rattle.mr_text.specs.Stream.{ReaderView, StandsFor, NextIs, unread, skips_line}
@@ -9,14 +9,16 @@ use Rattle.mr_text.specs.declared.request.Request.{Request}
 use Rattle.mr_loop.specs.declared.asker.Asker.{Asker}
 use Rattle.mr_loop.specs.declared.asking.Pause.{Pause}
 use Rattle.mr_loop.specs.declared.asking.Pause.TheVariants.{NeedsBytes, NeedsRoom, NeedsReader, NeedsQueue, NeedsMemory, IsDone}
-use Rattle.mr_loop.specs.declared.inbox.Fetched.TheVariants.{Came}
+use Rattle.mr_loop.specs.declared.counts.ClientCounts.{ClientCounts}
+use Rattle.mr_loop.specs.declared.inbox.Fetched.TheVariants.{Came, NoMemory}
 use Rattle.mr_loop.specs.declared.inbox.Inbox.{Inbox}
 use Rattle.mr_loop.specs.declared.inbox.Input.{Input}
 use Rattle.mr_loop.specs.declared.inbox.Input.TheVariants as input
 use Rattle.mr_loop.specs.declared.link.Link.{Link}
-use Rattle.mr_loop.specs.Asking.{Asking, StopsFor, HoldsBack, pause_before, is_full, is_behind}
+use Rattle.mr_loop.specs.Asking.{Asking, StopsFor, HoldsBack, is_behind}
+use Rattle.mr_loop.specs.Counts.{held_once}
 use Rattle.mr_loop.specs.Events.{FrontView}
-use Rattle.mr_loop.specs.Inboxes.{FetchIs, ReadsOne, TakesHeld, holding}
+use Rattle.mr_loop.specs.Inboxes.{FetchIs, ReadsOne, TakesHeld, holding, waiting, going_on}
 use Rattle.mr_loop.specs.steps.Asking.{AnswersSo}
 
 abbrev held_count : Option Input → ℕ
@@ -86,62 +88,65 @@ less_left old new (input.Asks request) law lines (inr read) = less_read old new 
 less_left old new (input.Refused refusal) law lines (inl held) = less_held old new (input.Refused refusal) held
 less_left old new (input.Refused refusal) law lines (inr read) = less_refused old new refusal lines read.0 read.1 read.2
 
-paused_if : (full behind : Bool) (pause : Pause) → cond full (Some NeedsRoom) (cond behind (Some NeedsReader) None) ≡ Some pause
-    → ((full ≡ true) × (NeedsRoom ≡ pause)) ⊎ ((behind ≡ true) × (NeedsReader ≡ pause))
-paused_if true behind pause e = inl (refl, (let same : NeedsRoom ≡ pause = cc in same))
-paused_if false true pause e = inr (refl, (let same : NeedsReader ≡ pause = cc in same))
-paused_if false false pause e = absurd (let no : None ≡ Some pause = e in cc)
+-- what is done leaves what was fetched
+pub less_done : (old fetched new : Inbox) → left fetched < left old → new ≡ going_on fetched → left new < left old
+less_done old fetched new less done =
+    let same : left new ≡ left fetched = ap left done in
+    omega arith
 
--- nothing more is begun
-pub paused : (asker : Asker) (pause : Pause) (a : Asking) → pause_before asker.limits asker.client a.front ≡ Some pause → StopsFor asker pause a a
-paused asker pause a e =
-    let P : Pause → Type 0 = λ p. StopsFor asker p a a in
-    elim (paused_if (is_full a.front.core) (is_behind asker.limits asker.client a.front) pause e) [
-      | inl full ↦ subst P full.1 (full.0, refl)
-      | inr behind ↦ subst P behind.1 (behind.0, refl)
-    ]
+abbrev asking_of : Inbox → FrontView → List Link → ClientCounts → Asking
+asking_of inbox front links counts = record { inbox = inbox; front = front; links = links; counts = counts }
 
-abbrev asking_of : Inbox → FrontView → List Link → Asking
-asking_of inbox front links = record { inbox = inbox; front = front; links = links }
+same_asking : (inbox other : Inbox) (front front' : FrontView) (links links' : List Link) (counts counts' : ClientCounts)
+    → other ≡ inbox → front' ≡ front → links' ≡ links → counts' ≡ counts
+    → asking_of other front' links' counts' ≡ asking_of inbox front links counts
+same_asking inbox other front front' links links' counts counts' p q r k =
+    ap (λ i. asking_of i front' links' counts') p ∙ ap (λ f. asking_of inbox f links' counts') q ∙ ap (λ l. asking_of inbox front l counts') r
+    ∙ ap (λ n. asking_of inbox front links n) k
 
-same_asking : (inbox other : Inbox) (front front' : FrontView) (links links' : List Link) → other ≡ inbox → front' ≡ front → links' ≡ links
-    → asking_of other front' links' ≡ asking_of inbox front links
-same_asking inbox other front front' links links' p q r =
-    ap (λ i. asking_of i front' links') p ∙ ap (λ f. asking_of inbox f links') q ∙ ap (λ l. asking_of inbox front l) r
-
-held_back : (old : Asking) (fetched : Inbox) (it back : Input) (front' : FrontView) (links' : List Link)
-    → FetchIs old.inbox (Came it) fetched → back ≡ it → front' ≡ old.front → links' ≡ old.links
-    → HoldsBack old (asking_of (holding back fetched) front' links') it
-held_back old fetched it back front' links' came same p q = record {
+held_back : (asker : Asker) (old : Asking) (fetched inbox' : Inbox) (it back : Input) (front' : FrontView) (links' : List Link) (counts' : ClientCounts)
+    → is_behind asker.limits asker.client old.front ≡ false → FetchIs old.inbox (Came it) fetched
+    → inbox' ≡ holding back fetched → counts' ≡ held_once fetched.waits old.counts
+    → back ≡ it → front' ≡ old.front → links' ≡ old.links
+    → HoldsBack asker old (asking_of inbox' front' links' counts') it
+held_back asker old fetched inbox' it back front' links' counts' may came held counted same p q = record {
   fetched = fetched;
+  may = may;
   came = came;
-  held = same_asking (holding it fetched) (holding back fetched) old.front front' old.links links' (ap (λ i. holding i fetched) same) p q;
+  held = same_asking (holding it fetched) inbox' old.front front' old.links links' (held_once fetched.waits old.counts) counts'
+      (held ∙ ap (λ i. holding i fetched) same) p q counted;
 }
 
 -- what came is held back
-pub stops_held : (asker : Asker) (old : Asking) (fetched : Inbox) (it back : Input) (pause : Pause) (front' : FrontView) (links' : List Link)
-    → FetchIs old.inbox (Came it) fetched → AnswersSo asker old.front old.links it (Err (pause, back)) front' links'
-    → StopsFor asker pause old (record { inbox = holding back fetched; front = front'; links = links' })
-stops_held asker old fetched (input.Asks request) back NeedsQueue front' links' came a =
-    (request, held_back old fetched (input.Asks request) back front' links' came a.0 a.1 a.2, a.3)
-stops_held asker old fetched (input.Asks request) back NeedsMemory front' links' came a =
-    inr (input.Asks request, held_back old fetched (input.Asks request) back front' links' came a.0 a.1 a.2)
-stops_held asker old fetched (input.Asks request) back NeedsBytes front' links' came a = absurd a.3
-stops_held asker old fetched (input.Asks request) back NeedsRoom front' links' came a = absurd a.3
-stops_held asker old fetched (input.Asks request) back NeedsReader front' links' came a = absurd a.3
-stops_held asker old fetched (input.Asks request) back IsDone front' links' came a = absurd a.3
-stops_held asker old fetched (input.Refused refusal) back NeedsMemory front' links' came a =
-    inr (input.Refused refusal, held_back old fetched (input.Refused refusal) back front' links' came a.0 a.1 a.2)
-stops_held asker old fetched (input.Refused refusal) back NeedsQueue front' links' came a = absurd a.3
-stops_held asker old fetched (input.Refused refusal) back NeedsBytes front' links' came a = absurd a.3
-stops_held asker old fetched (input.Refused refusal) back NeedsRoom front' links' came a = absurd a.3
-stops_held asker old fetched (input.Refused refusal) back NeedsReader front' links' came a = absurd a.3
-stops_held asker old fetched (input.Refused refusal) back IsDone front' links' came a = absurd a.3
+pub stops_held : (asker : Asker) (old : Asking) (fetched inbox' : Inbox) (it back : Input) (pause : Pause) (front' : FrontView) (links' : List Link)
+    (counts' : ClientCounts) → is_behind asker.limits asker.client old.front ≡ false → FetchIs old.inbox (Came it) fetched
+    → inbox' ≡ holding back fetched → counts' ≡ held_once fetched.waits old.counts
+    → AnswersSo asker old.front old.links it (Err (pause, back)) front' links'
+    → StopsFor asker pause old (record { inbox = inbox'; front = front'; links = links'; counts = counts' })
+stops_held asker old fetched inbox' (input.Asks request) back NeedsRoom front' links' counts' may came held counted a =
+    (request, held_back asker old fetched inbox' (input.Asks request) back front' links' counts' may came held counted a.0 a.1 a.2, a.3)
+stops_held asker old fetched inbox' (input.Asks request) back (NeedsQueue number) front' links' counts' may came held counted a =
+    (request, held_back asker old fetched inbox' (input.Asks request) back front' links' counts' may came held counted a.0 a.1 a.2, a.3.0, a.3.1)
+stops_held asker old fetched inbox' (input.Asks request) back NeedsMemory front' links' counts' may came held counted a =
+    inr (input.Asks request, held_back asker old fetched inbox' (input.Asks request) back front' links' counts' may came held counted a.0 a.1 a.2, a.3)
+stops_held asker old fetched inbox' (input.Asks request) back NeedsBytes front' links' counts' may came held counted a = absurd a.3
+stops_held asker old fetched inbox' (input.Asks request) back NeedsReader front' links' counts' may came held counted a = absurd a.3
+stops_held asker old fetched inbox' (input.Asks request) back IsDone front' links' counts' may came held counted a = absurd a.3
+stops_held asker old fetched inbox' (input.Refused refusal) back NeedsMemory front' links' counts' may came held counted a =
+    inr (input.Refused refusal, held_back asker old fetched inbox' (input.Refused refusal) back front' links' counts' may came held counted a.0 a.1 a.2, a.3)
+stops_held asker old fetched inbox' (input.Refused refusal) back (NeedsQueue number) front' links' counts' may came held counted a = absurd a.3
+stops_held asker old fetched inbox' (input.Refused refusal) back NeedsBytes front' links' counts' may came held counted a = absurd a.3
+stops_held asker old fetched inbox' (input.Refused refusal) back NeedsRoom front' links' counts' may came held counted a = absurd a.3
+stops_held asker old fetched inbox' (input.Refused refusal) back NeedsReader front' links' counts' may came held counted a = absurd a.3
+stops_held asker old fetched inbox' (input.Refused refusal) back IsDone front' links' counts' may came held counted a = absurd a.3
 
-not_full_if : (full behind : Bool) → cond full (Some NeedsRoom) (cond behind (Some NeedsReader) None) ≡ None → full ≡ false
-not_full_if true behind e = absurd (let no : Some NeedsRoom ≡ None = e in cc)
-not_full_if false behind e = refl
-
--- there is room where nothing holds a client back
-pub not_full : (asker : Asker) (f : FrontView) → pause_before asker.limits asker.client f ≡ None → is_full f.core ≡ false
-not_full asker f e = not_full_if (is_full f.core) (is_behind asker.limits asker.client f) e
+-- memory to read what is there was refused
+pub stops_unread : (asker : Asker) (old : Asking) (fetched inbox' : Inbox) (counts' : ClientCounts) → is_behind asker.limits asker.client old.front ≡ false
+    → FetchIs old.inbox NoMemory fetched → inbox' ≡ waiting fetched → counts' ≡ held_once fetched.waits old.counts
+    → StopsFor asker NeedsMemory old (record { inbox = inbox'; front = old.front; links = old.links; counts = counts' })
+stops_unread asker old fetched inbox' counts' may refused held counted = inl (record {
+  fetched = fetched;
+  may = may;
+  refused = refused;
+  left = same_asking (waiting fetched) inbox' old.front old.front old.links old.links (held_once fetched.waits old.counts) counts' held refl refl counted;
+})

@@ -2,13 +2,16 @@
 use Rattle.std.proofs.Common.{◌≡◌, ℕ, List, [], ◌∷◌, ◌++◌, Option, Some, None, slice_set, refl, sym, ap, ◌∙◌}
 use Rattle.std.specs.Prelude.{slice_get}
 use Rattle.std.proofs.lemmas.List.{append-nil, set-set}
+use Rattle.mr_text.specs.declared.cause.Cause.{Cause}
 use Rattle.mr_text.specs.declared.reply.Reply.{Reply}
 use Rattle.mr_proxy.specs.ProxyView.{ProxyView}
 use Rattle.mr_loop.specs.declared.client.Client.{Client}
+use Rattle.mr_loop.specs.declared.counts.LoopCounts.{LoopCounts}
 use Rattle.mr_loop.specs.declared.turns.Turn.{Turn}
 use Rattle.mr_loop.specs.declared.turns.Turn.TheVariants.{Says}
 use Rattle.mr_loop.specs.Asking.{tells}
-use Rattle.mr_loop.specs.Events.{after_all, changed, with_turn}
+use Rattle.mr_loop.specs.Counts.{with_denied}
+use Rattle.mr_loop.specs.Events.{Event, after_all, changed, with_turn}
 use Rattle.mr_loop.specs.steps.Denying.{denied}
 use Rattle.mr_loop.proofs.FlushLemmas.{front_of}
 use Rattle.mr_loop.proofs.PlaceLemmas.{changes, set_same}
@@ -39,21 +42,24 @@ denied_client clients client old now turn turns denial there is e =
     ∙ ap (λ t. slice_set clients client (client_of t old.out)) left
     ∙ told_client clients client old denial there
 
--- the front of which a client is told this, or nothing
-pub told_front : (core : ProxyView) (clients : List Client) (touched : List ℕ) (client : ℕ) (denial : Option Reply)
-    → after_all (tells client denial) (front_of core clients touched) ≡ front_of core (told_in denial client clients) touched
-told_front core clients touched client None = refl
-told_front core clients touched client (Some reply) = refl
+-- the front of which a client is told this, or nothing, since its request isn't begun
+pub told_front : (core : ProxyView) (clients : List Client) (touched : List ℕ) (counts : LoopCounts) (client : ℕ) (cause : Cause) (denial : Option Reply)
+    → after_all (Event.Denies cause ∷ tells client denial) (front_of core clients touched counts)
+    ≡ front_of core (told_in denial client clients) touched (with_denied cause counts)
+told_front core clients touched counts client cause None = refl
+told_front core clients touched counts client cause (Some reply) = refl
 
 -- the same of clients of which one had a turn more
-pub denied_front : (core core' : ProxyView) (clients items : List Client) (touched touched' : List ℕ) (client : ℕ) (old now : Client) (turn : Turn) (turns : List Turn)
-    (denial : Option Reply) → slice_get clients client ≡ Some old → now ≡ with_turn turn old → turns ≡ denied denial now.turns
-    → items ≡ slice_set clients client (with_turn turn old) → core' ≡ core → touched' ≡ touched
-    → front_of core' (slice_set items client (record { turns = turns; out = now.out })) touched'
-    ≡ after_all (tells client denial) (front_of core clients touched)
-denied_front core core' clients items touched touched' client old now turn turns denial there is e written p q =
-    ap (λ x. front_of x (slice_set items client (client_of turns now.out)) touched') p
-    ∙ ap (λ t. front_of core (slice_set items client (client_of turns now.out)) t) q
-    ∙ ap (λ i. front_of core (slice_set i client (client_of turns now.out)) touched) written
-    ∙ ap (λ c. front_of core c touched) (denied_client clients client old now turn turns denial there is e)
-    ∙ sym (told_front core clients touched client denial)
+pub denied_front : (core core' : ProxyView) (clients items : List Client) (touched touched' : List ℕ) (counts counts' : LoopCounts) (client : ℕ) (old now : Client)
+    (turn : Turn) (turns : List Turn) (cause : Cause) (denial : Option Reply) → slice_get clients client ≡ Some old → now ≡ with_turn turn old
+    → turns ≡ denied denial now.turns → items ≡ slice_set clients client (with_turn turn old) → core' ≡ core → touched' ≡ touched
+    → counts' ≡ with_denied cause counts
+    → front_of core' (slice_set items client (record { turns = turns; out = now.out })) touched' counts'
+    ≡ after_all (Event.Denies cause ∷ tells client denial) (front_of core clients touched counts)
+denied_front core core' clients items touched touched' counts counts' client old now turn turns cause denial there is e written p q k =
+    ap (λ x. front_of x (slice_set items client (client_of turns now.out)) touched' counts') p
+    ∙ ap (λ t. front_of core (slice_set items client (client_of turns now.out)) t counts') q
+    ∙ ap (λ x. front_of core (slice_set items client (client_of turns now.out)) touched x) k
+    ∙ ap (λ i. front_of core (slice_set i client (client_of turns now.out)) touched (with_denied cause counts)) written
+    ∙ ap (λ c. front_of core c touched (with_denied cause counts)) (denied_client clients client old now turn turns denial there is e)
+    ∙ sym (told_front core clients touched counts client cause denial)

@@ -1,5 +1,5 @@
 -- What was done for a request.
-use Rattle.std.proofs.Common.{◌≡◌, ◌<◌, inl, inr, List, [], Bool, Option, None, Result, Ok, Err, length, refl, sym, ap, ◌∙◌, subst}
+use Rattle.std.proofs.Common.{◌≡◌, ◌<◌, inl, inr, List, [], ◌∷◌, Bool, Option, None, Result, Ok, Err, length, refl, sym, ap, ◌∙◌, subst}
 use Rattle.mr_text.specs.declared.cause.Cause.TheVariants as cause
 use Rattle.mr_text.specs.declared.reply.Reply.{Reply}
 use Rattle.mr_text.specs.declared.error.TextError.{TextError}
@@ -47,7 +47,7 @@ begun_so asker request front links issued op legs denied front' links' none with
         before = fails asker request front.core;
         either = inr refl;
         happens = kept.1 asker.reading request front within o e
-            ∙ ap (λ x. after_all (tells asker.client x) (after_all (fails asker request front.core) front)) d;
+            ∙ ap (λ x. after_all (Event.Denies cause.OutOfMemory ∷ tells asker.client x) (after_all (fails asker request front.core) front)) d;
       },
       kept.0,
     )))

@@ -6,6 +6,7 @@ use Rattle.mr_proxy.specs.ProxyView.{ProxyView}
 use Rattle.mr_loop.specs.Events.{FrontView, Event, after_event, changed}
 use Rattle.mr_loop.proofs.PlaceLemmas.{changes, set_there}
 use Rattle.mr_loop.specs.declared.client.Client.{Client}
+use Rattle.mr_loop.specs.declared.counts.LoopCounts.{LoopCounts}
 use Rattle.mr_loop.specs.declared.turns.Turn.{Turn}
 use Rattle.mr_loop.specs.Turns.{text_of_turn, front_text, behind_front, text_before, left_behind, flushed}
 
@@ -82,23 +83,23 @@ flushed_part clients place old new there same =
     ∙ ap (λ c. slice_set clients place c) same
     ∙ sym (changes clients place old flushed there)
 
-abbrev pub front_of : ProxyView → List Client → List ℕ → FrontView
-front_of core clients touched = record { core = core; clients = clients; touched = touched }
+abbrev pub front_of : ProxyView → List Client → List ℕ → LoopCounts → FrontView
+front_of core clients touched counts = record { core = core; clients = clients; touched = touched; counts = counts }
 
 -- the same with the core
-pub front_part : (core : ProxyView) (clients : List Client) (touched : List ℕ) (place : ℕ) (old new : Client) → slice_get clients place ≡ Some old
-    → flushed new ≡ flushed old
-    → after_event (Event.Flushes place) (record { core = core; clients = slice_set clients place new; touched = touched })
-    ≡ after_event (Event.Flushes place) (record { core = core; clients = clients; touched = touched })
-front_part core clients touched place old new there same = ap (λ c. front_of core c touched) (flushed_part clients place old new there same)
+pub front_part : (core : ProxyView) (clients : List Client) (touched : List ℕ) (counts : LoopCounts) (place : ℕ) (old new : Client)
+    → slice_get clients place ≡ Some old → flushed new ≡ flushed old
+    → after_event (Event.Flushes place) (front_of core (slice_set clients place new) touched counts)
+    ≡ after_event (Event.Flushes place) (front_of core clients touched counts)
+front_part core clients touched counts place old new there same =
+    ap (λ c. front_of core c touched counts) (flushed_part clients place old new there same)
 
 -- a client is told all that is there
-pub front_flushed : (core : ProxyView) (clients : List Client) (touched : List ℕ) (place : ℕ) (old new : Client) → slice_get clients place ≡ Some old
-    → new ≡ flushed old
-    → front_of core (slice_set clients place new) touched
-    ≡ after_event (Event.Flushes place) (record { core = core; clients = clients; touched = touched })
-front_flushed core clients touched place old new there is =
-    ap (λ c. front_of core c touched) (ap (λ c. slice_set clients place c) is ∙ sym (changes clients place old flushed there))
+pub front_flushed : (core : ProxyView) (clients : List Client) (touched : List ℕ) (counts : LoopCounts) (place : ℕ) (old new : Client)
+    → slice_get clients place ≡ Some old → new ≡ flushed old
+    → front_of core (slice_set clients place new) touched counts ≡ after_event (Event.Flushes place) (front_of core clients touched counts)
+front_flushed core clients touched counts place old new there is =
+    ap (λ c. front_of core c touched counts) (ap (λ c. slice_set clients place c) is ∙ sym (changes clients place old flushed there))
 
 pub on_ok : {T E P Q : Type 0} (r : Result T E) → OnOk r P → (P → Q) → OnOk r Q
 on_ok (Ok x) h f = f h

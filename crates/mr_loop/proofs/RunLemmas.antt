@@ -48,6 +48,7 @@ crosses crossings events left h = crosses_from crossings [] events left h
 core_by : (event : Event) (f : FrontView) → (after_event event f).core ≡ replay f.core (step_of event)
 core_by (Event.Does client step) f = refl
 core_by (Event.Alone step) f = refl
+core_by (Event.Denies cause) f = refl
 core_by (Event.Tells client reply) f = refl
 core_by (Event.Flushes client) f = refl
 

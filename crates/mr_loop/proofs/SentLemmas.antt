@@ -1,9 +1,8 @@
 -- Legs that go over their links, and are taken back.
-use Rattle.std.proofs.Common.{◌≡◌, ℕ, suc, zero, ◌<◌, ◌-◌, List, [], ◌∷◌, ◌++◌, Bool, true, false, ◌&&◌, cond, Option, Some, None, length, take, slice_set, refl, sym, ap, ◌∙◌}
+use Rattle.std.proofs.Common.{◌≡◌, ℕ, suc, zero, ◌≤◌, ◌-◌, List, [], ◌∷◌, ◌++◌, Bool, true, false, ◌&&◌, cond, Option, Some, None, length, take, slice_set, refl, sym, ap, ◌∙◌, arith}
 use Rattle.std.specs.Prelude.{slice_get}
 use Rattle.std.proofs.lemmas.List.{set-set}
 use Rattle.std.proofs.Math.Seq.{take-append_seam}
-use Rattle.std.proofs.lemmas.Option.{slice_get_within}
 use Rattle.mr_pools.specs.Routing.{RoutingView}
 use Rattle.mr_proxy.specs.declared.sheet.LegSheet.{LegSheet}
 use Rattle.mr_sessions.specs.Requesting.{text_for}
@@ -11,49 +10,54 @@ use Rattle.mr_loop.specs.declared.asker.Asker.{Asker}
 use Rattle.mr_loop.specs.declared.link.Link.{Link}
 use Rattle.mr_loop.specs.declared.sending.Mark.{Mark}
 use Rattle.mr_loop.specs.declared.sent_legs.SentLeg.{SentLeg}
-use Rattle.mr_loop.specs.Links.{link_of, sent_by, with_leg, is_up_in, is_up_at, sent_over, sent_over_in, all_sent, all_up}
-use Rattle.mr_loop.specs.steps.Sending.{without_last, undone, undone_one, undone_in}
+use Rattle.mr_loop.specs.Counts.{leg_unsent}
+use Rattle.mr_loop.specs.Links.{link_of, sent_by, with_leg, after_sending, is_up_in, is_up_at, sent_over, sent_over_in, all_sent, all_up}
+use Rattle.mr_loop.specs.steps.Sending.{mark_of, without_last, undone, undone_one, undone_in}
 use Rattle.mr_loop.proofs.PlaceLemmas.{set_same, set_there, last_taken}
 
--- what went last is taken back
-pub taken_back : (sent : SentLeg) (link : Link) → without_last (length link.out) (with_leg sent link) ≡ link
-taken_back sent link =
+taken_if : (up : Bool) (number : ℕ) (sent : SentLeg) (link : Link) → link.is_up ≡ up
+    → without_last (mark_of number link) (cond up (with_leg sent link) (record link { counts = leg_unsent link.counts })) ≡ link
+taken_if true number sent link e =
+    let one : Link = with_leg sent link in
     let out : take (length link.out) (link.out ++ text_for sent.leg.command) ≡ link.out = take-append_seam link.out (text_for sent.leg.command) in
     let legs = last_taken link.legs sent in
-    ap (λ o. record (with_leg sent link) { legs = take (length (link.legs ++ sent ∷ []) - 1) (link.legs ++ sent ∷ []); out = o }) out
+    ap (λ b. cond b (record one { legs = take (length one.legs - 1) one.legs; out = take (length link.out) one.out })
+    (record one { counts = record one.counts { lost = link.counts.lost } })) e
+    ∙ ap (λ o. record (with_leg sent link) { legs = take (length (link.legs ++ sent ∷ []) - 1) (link.legs ++ sent ∷ []); out = o }) out
     ∙ ap (λ l. record link { legs = l }) legs
+taken_if false number sent link e =
+    let one : Link = record link { counts = leg_unsent link.counts } in
+    ap (λ b. cond b (record one { legs = take (length one.legs - 1) one.legs; out = take (length link.out) one.out })
+    (record one { counts = record one.counts { lost = link.counts.lost } })) e
 
-abbrev mark_at : ℕ → ℕ → Mark
-mark_at number count = record { number = number; count = count }
+-- what went last, or couldn't go, is taken back
+pub taken_back : (number : ℕ) (sent : SentLeg) (link : Link) → without_last (mark_of number link) (after_sending sent link) ≡ link
+taken_back number sent link = taken_if link.is_up number sent link refl
 
-abbrev mark_of : ℕ → Link → Mark
-mark_of number link = record { number = number; count = length link.out }
-
--- a link that sent a leg has it taken back
+-- a link that a leg was put to has it taken back
 pub undone_leg : (links : List Link) (number : ℕ) (link : Link) (sent : SentLeg) → slice_get links number ≡ Some link
-    → undone_one (mark_of number link) (slice_set links number (with_leg sent link)) ≡ links
+    → undone_one (mark_of number link) (slice_set links number (after_sending sent link)) ≡ links
 undone_leg links number link sent e =
-    ap (λ o. undone_in o (mark_of number link) (slice_set links number (with_leg sent link))) (set_there links number (with_leg sent link) link e)
-    ∙ set-set links number (with_leg sent link) (without_last (length link.out) (with_leg sent link))
-    ∙ ap (λ l. slice_set links number l) (taken_back sent link)
+    ap (λ o. undone_in o (mark_of number link) (slice_set links number (after_sending sent link))) (set_there links number (after_sending sent link) link e)
+    ∙ set-set links number (after_sending sent link) (without_last (mark_of number link) (after_sending sent link))
+    ∙ ap (λ l. slice_set links number l) (taken_back number sent link)
     ∙ set_same links number link e
 
 pub undone_more : (marks : List Mark) (mark : Mark) (links : List Link) → undone (marks ++ mark ∷ []) links ≡ undone marks (undone_one mark links)
 undone_more [] mark links = refl
 undone_more (first ∷ marks) mark links = ap (λ l. undone_one first l) (undone_more marks mark links)
 
--- a leg goes over a link that is up
-pub sent_up : (links : List Link) (number : ℕ) (link : Link) (sent : SentLeg) → slice_get links number ≡ Some link → link.is_up ≡ true
-    → sent_over number sent links ≡ slice_set links number (with_leg sent link)
-sent_up links number link sent e up =
-    ap (λ o. sent_over_in o number sent links) e ∙ ap (λ b. cond b (slice_set links number (with_leg sent link)) links) up
+none_past : {X : Type 0} (xs : List X) (n : ℕ) → length xs ≤ n → slice_get xs n ≡ None
+none_past [] n h = refl
+none_past (x ∷ xs) zero h = absurd (omega arith)
+none_past (x ∷ xs) (suc n) h = none_past xs n (omega arith)
 
-sent_down_by : (o : Option Link) (links : List Link) (number : ℕ) (sent : SentLeg) → is_up_in o ≡ false → sent_over_in o number sent links ≡ links
-sent_down_by None links number sent down = refl
-sent_down_by (Some link) links number sent down = ap (λ b. cond b (slice_set links number (with_leg sent link)) links) down
+-- there is no link to go over
+pub sent_past : (links : List Link) (number : ℕ) (sent : SentLeg) → length links ≤ number → links ≡ sent_over number sent links
+sent_past links number sent h = sym (ap (λ o. sent_over_in o number sent links) (none_past links number h))
 
-pub sent_down : (links : List Link) (number : ℕ) (sent : SentLeg) → is_up_at links number ≡ false → sent_over number sent links ≡ links
-sent_down links number sent down = sent_down_by (slice_get links number) links number sent down
+pub down_past : (links : List Link) (number : ℕ) → length links ≤ number → false ≡ is_up_at links number
+down_past links number h = sym (ap is_up_in (none_past links number h))
 
 -- one more leg goes
 pub all_sent_more : (asker : Asker) (routing : RoutingView) (sheets : List LegSheet) (sheet : LegSheet) (links : List Link)
@@ -85,15 +89,15 @@ up_same (first ∷ links) zero link new (suc other) e up = refl
 up_same (first ∷ links) (suc number) link new zero e up = refl
 up_same (first ∷ links) (suc number) link new (suc other) e up = up_same links number link new other e up
 
-up_after_if : (up : Bool) (links : List Link) (number : ℕ) (link : Link) (sent : SentLeg) (other : ℕ) → slice_get links number ≡ Some link
-    → is_up_at (cond up (slice_set links number (with_leg sent link)) links) other ≡ is_up_at links other
-up_after_if true links number link sent other e = up_same links number link (with_leg sent link) other e refl
-up_after_if false links number link sent other e = refl
+up_kept_if : (up : Bool) (link : Link) (sent : SentLeg)
+    → (cond up (with_leg sent link) (record link { counts = leg_unsent link.counts })).is_up ≡ link.is_up
+up_kept_if true link sent = refl
+up_kept_if false link sent = refl
 
 up_after_by : (o : Option Link) (links : List Link) (number : ℕ) (sent : SentLeg) (other : ℕ) → slice_get links number ≡ o
     → is_up_at (sent_over_in o number sent links) other ≡ is_up_at links other
 up_after_by None links number sent other e = refl
-up_after_by (Some link) links number sent other e = up_after_if link.is_up links number link sent other e
+up_after_by (Some link) links number sent other e = up_same links number link (after_sending sent link) other e (up_kept_if link.is_up link sent)
 
 -- a leg that goes leaves each link up that was
 pub up_after : (links : List Link) (number : ℕ) (sent : SentLeg) (other : ℕ) → is_up_at (sent_over number sent links) other ≡ is_up_at links other
@@ -106,42 +110,30 @@ up_after_all asker routing (sheet ∷ sheets) links other =
     up_after_all asker routing sheets (sent_over (link_of routing sheet) (sent_by asker sheet) links) other
     ∙ up_after links (link_of routing sheet) (sent_by asker sheet) other
 
-there_up : (o : Option Link) → is_up_in o ≡ true → (link : Link) × (o ≡ Some link) × (link.is_up ≡ true)
-there_up None e = absurd (let no : false ≡ true = e in cc)
-there_up (Some link) e = (link, refl, e)
-
--- a link that is up is there
-pub up_within : (links : List Link) (number : ℕ) → is_up_at links number ≡ true → number < length links
-up_within links number e =
-    let there = there_up (slice_get links number) e in
-    slice_get_within links number there.0 there.1
-
--- the link that was read is up
-pub read_up : (links : List Link) (number : ℕ) (link : Link) → slice_get links number ≡ Some link → is_up_at links number ≡ true → link.is_up ≡ true
-read_up links number link there up = sym (ap is_up_in there) ∙ up
-
--- a leg went over a link that is up
+-- a leg was put to its link
 pub went_over : (links : List Link) (number : ℕ) (link new : Link) (sent : SentLeg) → slice_get links number ≡ Some link
-    → is_up_at links number ≡ true → new ≡ with_leg sent link → slice_set links number new ≡ sent_over number sent links
-went_over links number link new sent there up e =
-    ap (λ l. slice_set links number l) e ∙ sym (sent_up links number link sent there (read_up links number link there up))
+    → new ≡ after_sending sent link → slice_set links number new ≡ sent_over number sent links
+went_over links number link new sent there e =
+    ap (λ l. slice_set links number l) e ∙ sym (ap (λ o. sent_over_in o number sent links) there)
+
+-- whether it went
+pub went_up : (links : List Link) (number : ℕ) (link : Link) (went : Bool) → slice_get links number ≡ Some link → went ≡ link.is_up
+    → went ≡ is_up_at links number
+went_up links number link went there e = e ∙ sym (ap is_up_in there)
 
 -- it is taken back by its mark
-pub went_back : (links : List Link) (number count : ℕ) (link new : Link) (sent : SentLeg) (marks marks' : List Mark)
-    → slice_get links number ≡ Some link → new ≡ with_leg sent link → count ≡ length link.out
-    → marks' ≡ marks ++ (record { number = number; count = count }) ∷ []
+pub went_back : (links : List Link) (number : ℕ) (mark : Mark) (link new : Link) (sent : SentLeg) (marks marks' : List Mark)
+    → slice_get links number ≡ Some link → new ≡ after_sending sent link → mark ≡ mark_of number link → marks' ≡ marks ++ mark ∷ []
     → undone marks' (slice_set links number new) ≡ undone marks links
-went_back links number count link new sent marks marks' there e same more =
-    let mark : Mark = record { number = number; count = count } in
-    let is : mark ≡ mark_of number link = ap (λ (n : ℕ). mark_at number n) same in
+went_back links number mark link new sent marks marks' there e is more =
     ap (λ m. undone m (slice_set links number new)) more
     ∙ undone_more marks mark (slice_set links number new)
     ∙ ap (λ l. undone marks (undone_one mark (slice_set links number l))) e
-    ∙ ap (λ m. undone marks (undone_one m (slice_set links number (with_leg sent link)))) is
+    ∙ ap (λ m. undone marks (undone_one m (slice_set links number (after_sending sent link)))) is
     ∙ ap (λ l. undone marks l) (undone_leg links number link sent there)
 
 -- what a mark tells of is taken back
-pub back_one : (links : List Link) (mark : Mark) (link new : Link) → slice_get links mark.number ≡ Some link → new ≡ without_last mark.count link
+pub back_one : (links : List Link) (mark : Mark) (link new : Link) → slice_get links mark.number ≡ Some link → new ≡ without_last mark link
     → slice_set links mark.number new ≡ undone_one mark links
 back_one links mark link new there e =
     ap (λ l. slice_set links mark.number l) e ∙ sym (ap (λ o. undone_in o mark links) there)

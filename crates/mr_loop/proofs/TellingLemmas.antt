@@ -264,6 +264,8 @@ stands_now (Event.Does at step) f place dues list s =
     stands_answered at (answer_at f.core step) (queued at step f.core f.clients) place _ list (stands_queued at step f.core f.clients place dues list s)
 stands_now (Event.Alone step) f place dues list s =
     same_list _ list _ place _ (sym (append-nil list)) (same_dues dues _ list place _ (sym (append-nil dues)) s)
+stands_now (Event.Denies cause) f place dues list s =
+    same_list _ list _ place _ (sym (append-nil list)) (same_dues dues _ list place _ (sym (append-nil dues)) s)
 stands_now (Event.Tells at reply) f place dues list s =
     same_list _ list _ place _ (sym (append-nil list)) (stands_more at (Says reply) f.clients place dues list (λ answers. tt) s)
 stands_now (Event.Flushes at) f place dues list s =

@@ -18,14 +18,17 @@ use Rattle.mr_loop.specs.declared.asker.Limits.{Limits}
 use Rattle.mr_loop.specs.declared.asking.Pause.{Pause}
 use Rattle.mr_loop.specs.declared.asking.Pause.TheVariants.{NeedsBytes, NeedsRoom, NeedsReader, NeedsQueue, NeedsMemory, IsDone}
 use Rattle.mr_loop.specs.declared.client.Client.{Client}
+use Rattle.mr_loop.specs.declared.counts.ClientCounts.{ClientCounts}
 use Rattle.mr_loop.specs.declared.inbox.Fetched.TheVariants.{Came, Nothing, NoMemory, Done}
 use Rattle.mr_loop.specs.declared.inbox.Inbox.{Inbox}
 use Rattle.mr_loop.specs.declared.inbox.Input.{Input}
 use Rattle.mr_loop.specs.declared.inbox.Input.TheVariants as input
 use Rattle.mr_loop.specs.declared.link.Link.{Link}
+use Rattle.mr_loop.specs.Counts.{held_once}
 use Rattle.mr_loop.specs.Events.{FrontView, Event, after_all}
-use Rattle.mr_loop.specs.Inboxes.{FetchIs, holding}
-use Rattle.mr_loop.specs.Links.{all_sent, all_up, are_clear}
+use Rattle.mr_loop.specs.Inboxes.{FetchIs, holding, waiting, going_on}
+use Rattle.mr_loop.specs.Links.{all_sent, all_up, first_full}
+use Rattle.mr_loop.specs.Unread.{unread}
 
 -- the core refuses for want of room
 abbrev pub is_no_room : Option ProxyError → Bool
@@ -39,21 +42,14 @@ is_no_room (Some NoSuchOp) = false
 abbrev pub is_full : ProxyView → Bool
 is_full core = is_no_room (refusal_of core)
 
--- a client is behind: it left too much unread, or as many of its requests wait as there is room for
-abbrev pub is_behind_in : Limits → ℕ → Option Client → Bool
-is_behind_in limits room None = false
-is_behind_in limits room (Some client) = nat_lt limits.most_unread (length client.out) || nat_le room (length client.turns)
+-- a client is behind: it left too much unread, or too many of its requests are begun that it wasn't told of
+abbrev pub is_behind_in : Limits → Option Client → Bool
+is_behind_in limits None = false
+is_behind_in limits (Some client) = nat_lt limits.most_unread (unread client) || nat_le limits.most_begun (length client.turns)
 
--- the client has read less of its answers than it may leave unread, or as many of its requests wait as there is room for
+-- the client has more of its answers unread than it may, or as many of its requests begun as it may that it wasn't told of
 abbrev pub is_behind : Limits → ℕ → FrontView → Bool
-is_behind limits place f = is_behind_in limits f.core.room (slice_get f.clients place)
-
--- why nothing of the client is begun now, whatever it asks
-abbrev pub pause_before : Limits → ℕ → FrontView → Option Pause
-pause_before limits place f =
-    if is_full f.core then Some NeedsRoom
-    else if is_behind limits place f then Some NeedsReader
-    else None
+is_behind limits place f = is_behind_in limits (slice_get f.clients place)
 
 -- the client is told this reply, where there is one
 abbrev pub tells : ℕ → Option Reply → List Event
@@ -63,6 +59,10 @@ tells client (Some reply) = Event.Tells client reply ∷ []
 -- what the client of a request is told that isn't begun for this cause: nothing where it wants no answer
 abbrev pub denial : Request → Cause → Option Reply
 denial request cause = if is_silent request then None else Some (ServerError cause)
+
+-- a request isn't begun for this cause, and its client is told
+abbrev pub denies : ℕ → Request → Cause → List Event
+denies client request cause = Event.Denies cause ∷ tells client (denial request cause)
 
 -- the request is given up at once where one of its legs has no link that is up
 abbrev pub given_up_unless : Bool → ℕ → OpId → List Event
@@ -89,14 +89,14 @@ module _ (asker : Asker) (front : FrontView) (links : List Link) where
   -- a request isn't begun since no number is left, and its client is told
   pub record HasNoNumber (request : Request) (front' : FrontView) : Type 0 where
     pub spent : refusal_of front.core ≡ Some NumbersSpent
-    pub happens : front' ≡ after_all (tells asker.client (denial request cause.NumbersSpent)) front
+    pub happens : front' ≡ after_all (denies asker.client request cause.NumbersSpent) front
 
   -- memory for a request was refused before any of its legs went, and its client is told
   pub record HasNoMemory (request : Request) (front' : FrontView) : Type 0 where
     pub accepted : refusal_of front.core ≡ None
     pub before : List Event
     pub either : (before ≡ []) ⊎ (before ≡ fails asker request front.core)
-    pub happens : front' ≡ after_all (before ++ tells asker.client (denial request cause.OutOfMemory)) front
+    pub happens : front' ≡ after_all (before ++ denies asker.client request cause.OutOfMemory) front
 
   -- a quit asks nothing
   pub record AsksNothing (request : Request) (front' : FrontView) : Type 0 where
@@ -113,22 +113,31 @@ module _ (asker : Asker) (front : FrontView) (links : List Link) where
 -- none of the links that a request would go over has as many legs as the bound
 abbrev pub IsClear : Asker → FrontView → List Link → Input → Type 0
 IsClear asker front links (input.Asks request) =
-    are_clear asker.limits.most_legs front.core.routing (sheets_of front.core asker.reading request) links ≡ true
+    first_full asker.limits.most_legs front.core.routing (sheets_of front.core asker.reading request) links ≡ None
 IsClear asker front links (input.Refused refusal) = Unit {0}
 
--- what a client sent, the core with the clients, and the links
+-- there is room for what a client sent, and none of the links that it would go over is full
+abbrev pub HasPlaces : Asker → FrontView → List Link → Input → Type 0
+HasPlaces asker front links (input.Asks request) = (is_full front.core ≡ false) × IsClear asker front links (input.Asks request)
+HasPlaces asker front links (input.Refused refusal) = Unit {0}
+
+-- what a client sent, the core with the clients, the links, and what is counted of clients
 pub record Asking : Type 0 where
   pub inbox : Inbox
   pub front : FrontView
   pub links : List Link
+  pub counts : ClientCounts
 
 -- one thing that the client sent was done
 pub record DoesOne (asker : Asker) (old new : Asking) : Type 0 where
   pub input : Input
-  pub may : pause_before asker.limits asker.client old.front ≡ None
-  pub came : FetchIs old.inbox (Came input) new.inbox
+  pub fetched : Inbox
+  pub may : is_behind asker.limits asker.client old.front ≡ false
+  pub came : FetchIs old.inbox (Came input) fetched
   pub clear : IsClear asker old.front old.links input
   pub done : IsDoneFor asker old.front old.links input new.front new.links
+  pub goes_on : new.inbox ≡ going_on fetched
+  pub same_counts : new.counts ≡ old.counts
 
 -- things that the client sent were done, one after the other
 pub data DoesAll (asker : Asker) (old : Asking) : Asking → Type 0 where
@@ -136,26 +145,39 @@ pub data DoesAll (asker : Asker) (old : Asking) : Asking → Type 0 where
   goes_on : {between new : Asking} → DoesAll asker old between → DoesOne asker between new → DoesAll asker old new
 
 -- the next one came, and is held back
-pub record HoldsBack (old new : Asking) (input : Input) : Type 0 where
+pub record HoldsBack (asker : Asker) (old new : Asking) (input : Input) : Type 0 where
   pub fetched : Inbox
+  pub may : is_behind asker.limits asker.client old.front ≡ false
   pub came : FetchIs old.inbox (Came input) fetched
-  pub held : new ≡ record old { inbox = holding input fetched }
+  pub held : new ≡ record old { inbox = holding input fetched; counts = held_once fetched.waits old.counts }
+
+-- the next one is there, and memory to read it was refused: it is held back
+pub record LeavesUnread (asker : Asker) (old new : Asking) : Type 0 where
+  pub fetched : Inbox
+  pub may : is_behind asker.limits asker.client old.front ≡ false
+  pub refused : FetchIs old.inbox NoMemory fetched
+  pub left : new ≡ record old { inbox = waiting fetched; counts = held_once fetched.waits old.counts }
 
 -- nothing but the reader changes
-abbrev pub ReadsOn : Asking → Asking → Type 0
-ReadsOn old new = (new.front ≡ old.front) × (new.links ≡ old.links)
+pub record ReadsOn (asker : Asker) (old new : Asking) : Type 0 where
+  pub may : is_behind asker.limits asker.client old.front ≡ false
+  pub same_front : new.front ≡ old.front
+  pub same_links : new.links ≡ old.links
+  pub same_counts : new.counts ≡ old.counts
 
--- why no more is done
+-- why no more is done; what is held back for want of room, of a place in a queue or of memory is counted
 abbrev pub StopsFor : Asker → Pause → Asking → Asking → Type 0
-StopsFor asker NeedsRoom old new = (is_full old.front.core ≡ true) × (new ≡ old)
 StopsFor asker NeedsReader old new = (is_behind asker.limits asker.client old.front ≡ true) × (new ≡ old)
-StopsFor asker NeedsBytes old new = FetchIs old.inbox Nothing new.inbox × ReadsOn old new
-StopsFor asker IsDone old new = FetchIs old.inbox Done new.inbox × ReadsOn old new
-StopsFor asker NeedsQueue old new =
-    (request : Request) × HoldsBack old new (input.Asks request)
-    × (are_clear asker.limits.most_legs old.front.core.routing (sheets_of old.front.core asker.reading request) old.links ≡ false)
+StopsFor asker NeedsBytes old new = FetchIs old.inbox Nothing new.inbox × ReadsOn asker old new
+StopsFor asker IsDone old new = FetchIs old.inbox Done new.inbox × ReadsOn asker old new
+StopsFor asker NeedsRoom old new =
+    (request : Request) × HoldsBack asker old new (input.Asks request) × (is_full old.front.core ≡ true)
+StopsFor asker (NeedsQueue number) old new =
+    (request : Request) × HoldsBack asker old new (input.Asks request) × (is_full old.front.core ≡ false)
+    × (first_full asker.limits.most_legs old.front.core.routing (sheets_of old.front.core asker.reading request) old.links ≡ Some number)
 StopsFor asker NeedsMemory old new =
-    (FetchIs old.inbox NoMemory new.inbox × ReadsOn old new) ⊎ ((input : Input) × HoldsBack old new input)
+    LeavesUnread asker old new
+    ⊎ ((input : Input) × HoldsBack asker old new input × HasPlaces asker old.front old.links input)
 
 -- what the client sent is done, as far as it may be
 pub record AsksOn (asker : Asker) (pause : Pause) (old new : Asking) : Type 0 where

@@ -1,5 +1,6 @@
 -- The core with its clients, and what happens to both.
 use Rattle.std.specs.Prelude.{ℕ, List, [], ◌∷◌, ◌++◌, Option, Some, None, slice_get, slice_set}
+use Rattle.mr_text.specs.declared.cause.Cause.{Cause}
 use Rattle.mr_text.specs.declared.reply.Reply.{Reply}
 use Rattle.mr_proxy.specs.Answer.{AnswerView}
 use Rattle.mr_proxy.specs.Issue.{next_op}
@@ -8,8 +9,10 @@ use Rattle.mr_desks.specs.Replay.{after, answer_at}
 use Rattle.mr_desks.specs.declared.step.Step.{Step}
 use Rattle.mr_desks.specs.declared.step.Step.TheVariants.{Issue, Take, GiveUp}
 use Rattle.mr_loop.specs.declared.client.Client.{Client}
+use Rattle.mr_loop.specs.declared.counts.LoopCounts.{LoopCounts}
 use Rattle.mr_loop.specs.declared.turns.Turn.{Turn}
 use Rattle.mr_loop.specs.declared.turns.Turn.TheVariants.{Waits, Says}
+use Rattle.mr_loop.specs.Counts.{no_counts, counted_if, with_denied}
 use Rattle.mr_loop.specs.Turns.{noted, flushed}
 
 -- the core and its clients
@@ -19,12 +22,19 @@ pub record FrontView : Type 0 where
   pub clients : List Client
   -- the places of the clients to whose requests the core gave an answer, as often as it did, since that was asked
   pub touched : List ℕ
+  -- what came of requests
+  pub counts : LoopCounts
 
--- what happens: the core makes a step that is of a request of this client, or a step of which no client is told; a client
--- is told something in its turn; a client is told all that is there for its first requests
+-- a core that has no clients yet
+abbrev pub fresh_front : ProxyView → FrontView
+fresh_front core = record { core = core; clients = []; touched = []; counts = no_counts }
+
+-- what happens: the core makes a step that is of a request of this client, or a step of which no client is told; a request
+-- isn't begun for this cause; a client is told something in its turn; a client is told all that is there for its first requests
 pub data Event : Type 0 where
   Does : (client : ℕ) (step : Step) → Event
   Alone : (step : Step) → Event
+  Denies : (cause : Cause) → Event
   Tells : (client : ℕ) (reply : Reply) → Event
   Flushes : (client : ℕ) → Event
 
@@ -67,8 +77,10 @@ after_event (Event.Does client step) f = record {
   core = after f.core step;
   clients = answered client (answer_at f.core step) (queued client step f.core f.clients);
   touched = touched_by client (answer_at f.core step) f.touched;
+  counts = counted_if f.core.schedule (answer_at f.core step) f.counts;
 }
 after_event (Event.Alone step) f = record f { core = after f.core step }
+after_event (Event.Denies cause) f = record f { counts = with_denied cause f.counts }
 after_event (Event.Tells client reply) f = record f { clients = changed client (with_turn (Says reply)) f.clients }
 after_event (Event.Flushes client) f = record f { clients = changed client flushed f.clients }
 
@@ -81,6 +93,7 @@ after_all (event ∷ events) f = after_all events (after_event event f)
 abbrev pub step_of : Event → List Step
 step_of (Event.Does client step) = step ∷ []
 step_of (Event.Alone step) = step ∷ []
+step_of (Event.Denies cause) = []
 step_of (Event.Tells client reply) = []
 step_of (Event.Flushes client) = []
 

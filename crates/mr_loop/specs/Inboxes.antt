@@ -15,7 +15,7 @@ use Rattle.mr_loop.specs.declared.inbox.Input.TheVariants as input
 
 -- nothing came of the client
 abbrev pub fresh_inbox : Inbox
-fresh_inbox = record { reader = fresh_reader; held = None; has_ended = false; is_done = false }
+fresh_inbox = record { reader = fresh_reader; held = None; waits = false; has_ended = false; is_done = false }
 
 -- what was held back is there again
 abbrev pub without_held : Inbox → Inbox
@@ -23,7 +23,15 @@ without_held inbox = record inbox { held = None }
 
 -- this is held back
 abbrev pub holding : Input → Inbox → Inbox
-holding input inbox = record inbox { held = Some input }
+holding input inbox = record inbox { held = Some input; waits = true }
+
+-- what stands first is held back before it is read
+abbrev pub waiting : Inbox → Inbox
+waiting inbox = record inbox { waits = true }
+
+-- what stood first is done
+abbrev pub going_on : Inbox → Inbox
+going_on inbox = record inbox { waits = false }
 
 -- nothing was held back, and the reader answers this; whether nothing more is read of the client then
 pub record ReadsOne (old : Inbox) (answer : Result (Option Request) TextError) (is_done : Bool) (new : Inbox) : Type 0 where
@@ -31,6 +39,7 @@ pub record ReadsOne (old : Inbox) (answer : Result (Option Request) TextError) (
   pub goes_on : old.is_done ≡ false
   pub next : NextIs SpellsRequest RefusesRequest SkipsLine is_quit old.reader new.reader old.reader.kept answer
   pub same_held : new.held ≡ None
+  pub same_wait : new.waits ≡ old.waits
   pub same_end : new.has_ended ≡ old.has_ended
   pub done : new.is_done ≡ is_done
 

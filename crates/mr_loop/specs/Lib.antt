@@ -1,10 +1,14 @@
 pub mod Turns
+pub mod Counts
+pub mod Held
+pub mod Unread
 pub mod Links
 pub mod Events
 pub mod Returning
 pub mod Inboxes
 pub mod Asking
 pub mod Ticking
+pub mod Bounds
 pub mod LoopView
 pub mod Runs
 pub mod steps

@@ -7,7 +7,9 @@ use Rattle.mr_proxy.specs.declared.sheet.LegSheet.{LegSheet}
 use Rattle.mr_sessions.specs.Requesting.{text_for}
 use Rattle.mr_loop.specs.declared.asker.Asker.{Asker}
 use Rattle.mr_loop.specs.declared.link.Link.{Link}
+use Rattle.mr_loop.specs.declared.link_counts.LinkCounts.{LinkCounts}
 use Rattle.mr_loop.specs.declared.sent_legs.SentLeg.{SentLeg}
+use Rattle.mr_loop.specs.Counts.{leg_unsent}
 
 -- how many nodes the pools before the pool of a number have
 abbrev pub nodes_before : List (List (List ℕ)) → ℕ → ℕ
@@ -29,13 +31,13 @@ link_of routing sheet = link_to routing (pool_at sheet) sheet.node
 abbrev pub fresh_reader : ReaderView
 fresh_reader = record { kept = []; begun = 0; ended = false; closed = false }
 
--- no connection, and nothing of an earlier one
-abbrev pub down_link : Link
-down_link = record { is_up = false; reader = fresh_reader; legs = []; out = [] }
+-- no connection, and nothing of an earlier one but its counts
+abbrev pub down_link : LinkCounts → Link
+down_link counts = record { is_up = false; reader = fresh_reader; legs = []; out = []; counts = counts }
 
 -- a new connection
-abbrev pub up_link : Link
-up_link = record { is_up = true; reader = fresh_reader; legs = []; out = [] }
+abbrev pub up_link : LinkCounts → Link
+up_link counts = record { is_up = true; reader = fresh_reader; legs = []; out = []; counts = counts }
 
 -- a leg of a client's request, which went at this time
 abbrev pub sent_by : Asker → LegSheet → SentLeg
@@ -44,6 +46,10 @@ sent_by asker sheet = record { client = asker.client; sent_at = asker.now; leg =
 -- a leg went: it awaits its reply behind the others, and the request for it is to be written behind theirs
 abbrev pub with_leg : SentLeg → Link → Link
 with_leg sent link = record link { legs = link.legs ++ sent ∷ []; out = link.out ++ text_for sent.leg.command }
+
+-- a leg goes over its link where that is up; else it is lost
+abbrev pub after_sending : SentLeg → Link → Link
+after_sending sent link = if link.is_up then with_leg sent link else record link { counts = leg_unsent link.counts }
 
 -- the link is there, and up
 abbrev pub is_up_in : Option Link → Bool
@@ -54,16 +60,16 @@ is_up_in (Some link) = link.is_up
 abbrev pub is_up_at : List Link → ℕ → Bool
 is_up_at links number = is_up_in (slice_get links number)
 
--- a leg goes over a link that is there and up; else nothing changes
+-- a leg goes over a link that is there, or is lost; with no link nothing changes
 abbrev pub sent_over_in : Option Link → ℕ → SentLeg → List Link → List Link
 sent_over_in None number sent links = links
-sent_over_in (Some link) number sent links = if link.is_up then slice_set links number (with_leg sent link) else links
+sent_over_in (Some link) number sent links = slice_set links number (after_sending sent link)
 
--- a leg goes over its link where that is up; else nothing changes
+-- so it is of the link of this number, if there is one
 abbrev pub sent_over : ℕ → SentLeg → List Link → List Link
 sent_over number sent links = sent_over_in (slice_get links number) number sent links
 
--- each leg goes over its link, in order
+-- each leg goes over its link, in order, or is lost
 abbrev pub all_sent : Asker → RoutingView → List LegSheet → List Link → List Link
 all_sent asker routing [] links = links
 all_sent asker routing (sheet ∷ sheets) links =
@@ -83,8 +89,8 @@ has_place_in most (Some link) = nat_lt (length link.legs) most
 abbrev pub has_place : ℕ → List Link → ℕ → Bool
 has_place most links number = has_place_in most (slice_get links number)
 
--- so it is of the link of each leg
-abbrev pub are_clear : ℕ → RoutingView → List LegSheet → List Link → Bool
-are_clear most routing [] links = true
-are_clear most routing (sheet ∷ sheets) links =
-    has_place most links (link_of routing sheet) && are_clear most routing sheets links
+-- the first of the links of these legs that has as many legs as the bound, by its number; none where each has fewer
+abbrev pub first_full : ℕ → RoutingView → List LegSheet → List Link → Option ℕ
+first_full most routing [] links = None
+first_full most routing (sheet ∷ sheets) links =
+    if has_place most links (link_of routing sheet) then first_full most routing sheets links else Some (link_of routing sheet)

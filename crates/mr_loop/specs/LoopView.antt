@@ -7,10 +7,15 @@ use Rattle.mr_loop.specs.declared.asker.Asker.{Asker}
 use Rattle.mr_loop.specs.declared.asker.Limits.{Limits}
 use Rattle.mr_loop.specs.declared.asking.Pause.{Pause}
 use Rattle.mr_loop.specs.declared.client.Client.{Client}
+use Rattle.mr_loop.specs.declared.counts.ClientCounts.{ClientCounts}
 use Rattle.mr_loop.specs.declared.inbox.Inbox.{Inbox}
 use Rattle.mr_loop.specs.declared.link.Link.{Link}
 use Rattle.mr_loop.specs.declared.link.LinkEnd.{LinkEnd}
-use Rattle.mr_loop.specs.Events.{FrontView, Event, after_all, after_event}
+use Rattle.mr_loop.specs.declared.link_counts.LinkCounts.{LinkCounts}
+use Rattle.mr_counting.specs.Counting.{one_more}
+use Rattle.mr_counting.specs.declared.proxy_counts.ProxyCounts.{ProxyCounts}
+use Rattle.mr_loop.specs.Counts.{no_link_counts, no_clients, dial_counted}
+use Rattle.mr_loop.specs.Events.{FrontView, Event, after_all, after_event, fresh_front}
 use Rattle.mr_loop.specs.Turns.{fresh_client}
 use Rattle.mr_loop.specs.Links.{down_link, up_link}
 use Rattle.mr_loop.specs.Inboxes.{fresh_inbox}
@@ -26,6 +31,8 @@ pub record LoopView : Type 0 where
   -- by the numbers of the nodes, which are counted pool by pool
   pub links : List Link
   pub limits : Limits
+  -- how often clients came, left and were held back
+  pub client_counts : ClientCounts
 
 -- how many nodes the pools have
 abbrev pub nodes_of : RoutingView → ℕ
@@ -34,32 +41,33 @@ nodes_of routing = sum_by length routing.pools
 -- a loop without clients, whose links are down
 abbrev pub fresh_loop : ProxyView → Limits → LoopView
 fresh_loop core limits = record {
-  front = record { core = core; clients = []; touched = [] };
+  front = fresh_front core;
   inboxes = [];
-  links = replicate (nodes_of core.routing) down_link;
+  links = replicate (nodes_of core.routing) (down_link no_link_counts);
   limits = limits;
+  client_counts = no_clients;
 }
 
 -- the core and its clients change, and one link, and nothing else
 abbrev pub with_link : LoopView → FrontView → ℕ → Link → LoopView
 with_link l front node link = record l { front = front; links = slice_set l.links node link }
 
--- bytes came over a link
-pub record LinkBytes (node : ℕ) (piece : List ℕ) (old : LoopView) (end : LinkEnd) (new : LoopView) : Type 0 where
+-- bytes came over a link at this time
+pub record LinkBytes (node now : ℕ) (piece : List ℕ) (old : LoopView) (end : LinkEnd) (new : LoopView) : Type 0 where
   pub link : Link
   pub link' : Link
   pub front' : FrontView
   pub there : slice_get old.links node ≡ Some link
-  pub takes : TakesBytes piece link old.front end link' front'
+  pub takes : TakesBytes now piece link old.front end link' front'
   pub becomes : new ≡ with_link old front' node link'
 
--- a link broke
-pub record LinkBreaks (node : ℕ) (old new : LoopView) : Type 0 where
+-- a link broke at this time
+pub record LinkBreaks (node now : ℕ) (old new : LoopView) : Type 0 where
   pub link : Link
   pub link' : Link
   pub front' : FrontView
   pub there : slice_get old.links node ≡ Some link
-  pub breaks : Breaks link.legs old.front link' front'
+  pub breaks : Breaks now link old.front link' front'
   pub becomes : new ≡ with_link old front' node link'
 
 -- so many bytes were written to a node
@@ -68,14 +76,20 @@ pub record LinkWrote (node count : ℕ) (old new : LoopView) : Type 0 where
   pub there : slice_get old.links node ≡ Some link
   pub becomes : new ≡ with_link old old.front node (record link { out = drop count link.out })
 
--- a connection was made: whatever was left of an earlier one has broken
-pub record LinkComesUp (node : ℕ) (old new : LoopView) : Type 0 where
+-- a dial begins
+pub record LinkDialed (node : ℕ) (old new : LoopView) : Type 0 where
+  pub link : Link
+  pub there : slice_get old.links node ≡ Some link
+  pub becomes : new ≡ with_link old old.front node (record link { counts = dial_counted link.counts })
+
+-- a connection was made at this time: whatever was left of an earlier one has broken
+pub record LinkComesUp (node now : ℕ) (old new : LoopView) : Type 0 where
   pub link : Link
   pub link' : Link
   pub front' : FrontView
   pub there : slice_get old.links node ≡ Some link
-  pub breaks : Breaks link.legs old.front link' front'
-  pub becomes : new ≡ with_link old front' node up_link
+  pub breaks : Breaks now link old.front link' front'
+  pub becomes : new ≡ with_link old front' node (up_link link'.counts)
 
 -- what the inbox has once the piece came: none is taken where the client said all it had to say
 abbrev pub TakesPiece : List ℕ → Inbox → Inbox → Type 0
@@ -92,11 +106,17 @@ pub record ClientBytes (asker : Asker) (piece : List ℕ) (old : LoopView) (paus
   pub inbox' : Inbox
   pub front' : FrontView
   pub links' : List Link
+  pub counts' : ClientCounts
   pub there : slice_get old.inboxes asker.client ≡ Some inbox
   pub takes : TakesPiece piece inbox fed
-  pub asks : AsksOn asker pause (record { inbox = fed; front = old.front; links = old.links })
-      (record { inbox = inbox'; front = front'; links = links' })
-  pub becomes : new ≡ record old { front = front'; inboxes = slice_set old.inboxes asker.client inbox'; links = links' }
+  pub asks : AsksOn asker pause (record { inbox = fed; front = old.front; links = old.links; counts = old.client_counts })
+      (record { inbox = inbox'; front = front'; links = links'; counts = counts' })
+  pub becomes : new ≡ record old {
+    front = front';
+    inboxes = slice_set old.inboxes asker.client inbox';
+    links = links';
+    client_counts = counts';
+  }
 
 -- the client sends no more
 pub record EndsInput (old new : Inbox) : Type 0 where
@@ -110,11 +130,17 @@ pub record ClientEnds (asker : Asker) (old : LoopView) (pause : Pause) (new : Lo
   pub inbox' : Inbox
   pub front' : FrontView
   pub links' : List Link
+  pub counts' : ClientCounts
   pub there : slice_get old.inboxes asker.client ≡ Some inbox
   pub ends : EndsInput inbox ended
-  pub asks : AsksOn asker pause (record { inbox = ended; front = old.front; links = old.links })
-      (record { inbox = inbox'; front = front'; links = links' })
-  pub becomes : new ≡ record old { front = front'; inboxes = slice_set old.inboxes asker.client inbox'; links = links' }
+  pub asks : AsksOn asker pause (record { inbox = ended; front = old.front; links = old.links; counts = old.client_counts })
+      (record { inbox = inbox'; front = front'; links = links'; counts = counts' })
+  pub becomes : new ≡ record old {
+    front = front';
+    inboxes = slice_set old.inboxes asker.client inbox';
+    links = links';
+    client_counts = counts';
+  }
 
 -- a client is told all that is there for its first requests
 abbrev pub client_flushed : ℕ → LoopView → LoopView
@@ -150,6 +176,23 @@ refreshed client l = record l {
   inboxes = slice_set l.inboxes client fresh_inbox;
 }
 
+-- a client came to a place, of which nothing is left of who had it before
+abbrev pub after_coming : ℕ → LoopView → LoopView
+after_coming client l = record (refreshed client l) { client_counts = record l.client_counts { came = one_more l.client_counts.came } }
+
+-- a client left its place
+abbrev pub after_leaving : ℕ → LoopView → LoopView
+after_leaving client l = record (refreshed client l) { client_counts = record l.client_counts { left = one_more l.client_counts.left } }
+
+-- what came of requests, with how many are under way
+abbrev pub told_counts : FrontView → ProxyCounts
+told_counts f = record {
+  requests = f.counts.requests;
+  answers = f.counts.answers;
+  under_way = length f.core.outstanding;
+  last_issue = f.counts.last_issue;
+}
+
 -- one more place, for a client that asked nothing yet
 abbrev pub with_place : LoopView → LoopView
 with_place l = record l {
@@ -172,6 +215,11 @@ asker_of l client reading now = record { client = client; reading = reading; now
 abbrev pub link_output_in : Option Link → List ℕ
 link_output_in None = []
 link_output_in (Some link) = link.out
+
+-- what is counted of a link, if there is one
+abbrev pub link_counts_in : Option Link → LinkCounts
+link_counts_in None = no_link_counts
+link_counts_in (Some link) = link.counts
 
 -- nothing more is read of what the client of a place sent
 abbrev pub is_done_in : Option Inbox → Bool

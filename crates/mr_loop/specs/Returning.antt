@@ -12,7 +12,9 @@ use Rattle.mr_sessions.specs.Answering.{IsAnswer}
 use Rattle.mr_loop.specs.declared.link.Link.{Link}
 use Rattle.mr_loop.specs.declared.link.LinkEnd.{LinkEnd}
 use Rattle.mr_loop.specs.declared.link.LinkEnd.TheVariants.{Whole, Surplus, Mismatch, Complaint, Refused, Down}
+use Rattle.mr_loop.specs.declared.link_counts.LinkCounts.{LinkCounts}
 use Rattle.mr_loop.specs.declared.sent_legs.SentLeg.{SentLeg}
+use Rattle.mr_loop.specs.Counts.{CountsCarried, legs_lost, break_counted}
 use Rattle.mr_loop.specs.Events.{FrontView, Event, after_all}
 use Rattle.mr_loop.specs.Links.{down_link}
 
@@ -59,16 +61,25 @@ pub record HasTaken (bytes : List ℕ) (legs : List SentLeg) (front : FrontView)
 abbrev pub give_ups : List SentLeg → List Event
 give_ups legs = map giving_up legs
 
--- the link breaks, and nothing of it survives
-pub record Breaks (legs : List SentLeg) (front : FrontView) (new : Link) (front' : FrontView) : Type 0 where
-  pub given_up : front' ≡ after_all (give_ups legs) front
-  pub down : new ≡ down_link
+-- what is counted of a link that breaks: the legs that have no reply are lost, and its connection is gone
+abbrev pub after_break : ℕ → Link → LinkCounts
+after_break now link = break_counted link.is_up (legs_lost now link.legs link.counts)
 
-module _ (piece : List ℕ) (old : Link) (front : FrontView) where
+-- the link breaks at this time, and nothing of it survives but its counts
+pub record Breaks (now : ℕ) (link : Link) (front : FrontView) (new : Link) (front' : FrontView) : Type 0 where
+  pub given_up : front' ≡ after_all (give_ups link.legs) front
+  pub down : new ≡ down_link (after_break now link)
+
+-- the link while these legs have no reply, with these counts
+abbrev pub standing : List SentLeg → LinkCounts → Link → Link
+standing left counts link = record link { legs = left; counts = counts }
+
+module _ (now : ℕ) (piece : List ℕ) (old : Link) (front : FrontView) where
   -- all replies that are whole were taken
   pub record TakesWhole (new : Link) (front' : FrontView) : Type 0 where
     pub was_up : old.is_up ≡ true
     pub taken : HasTaken (old.reader.kept ++ piece) old.legs front new.reader.kept new.legs front'
+    pub counted : CountsCarried now old.legs new.legs old.counts new.counts
     pub unfinished : IsUnfinished SpellsReply RefusesReply new.reader.kept
     pub same_out : new.out ≡ old.out
     pub same_state : new.is_up ≡ old.is_up
@@ -78,10 +89,12 @@ module _ (piece : List ℕ) (old : Link) (front : FrontView) where
     pub was_up : old.is_up ≡ true
     pub rest : List ℕ
     pub left : List SentLeg
+    pub counts : LinkCounts
     pub between : FrontView
     pub taken : HasTaken (old.reader.kept ++ piece) old.legs front rest left between
+    pub counted : CountsCarried now old.legs left old.counts counts
     pub next : Next rest left
-    pub breaks : Breaks left between new front'
+    pub breaks : Breaks now (standing left counts old) between new front'
 
 -- a reply comes next that no leg awaits
 abbrev pub IsSurplus : List ℕ → List SentLeg → Type 0
@@ -118,24 +131,26 @@ abbrev pub IsRefused : TextError → List ℕ → List SentLeg → Type 0
 IsRefused refusal rest left = (refusal ≡ OutOfMemory) ⊎ RefusesReply refusal rest
 
 -- What bytes that came over a link do. They are taken reply by reply, each as that of the first leg that has none.
-module _ (piece : List ℕ) (old : Link) (front : FrontView) where
+module _ (now : ℕ) (piece : List ℕ) (old : Link) (front : FrontView) where
   pub record BreaksAtComplaint (new : Link) (front' : FrontView) : Type 0 where
     pub was_up : old.is_up ≡ true
     pub left : List SentLeg
+    pub counts : LinkCounts
     pub between : FrontView
     pub taken : TakesComplaint (old.reader.kept ++ piece) old.legs front left between
-    pub breaks : Breaks left between new front'
+    pub counted : CountsCarried now old.legs left old.counts counts
+    pub breaks : Breaks now (standing left counts old) between new front'
 
   -- the reader takes no more, or memory for the bytes was refused: nothing of them was taken
   pub record BreaksAtOnce (refusal : TextError) (new : Link) (front' : FrontView) : Type 0 where
     pub was_up : old.is_up ≡ true
     pub why : (refusal ≡ OutOfMemory) ⊎ ((refusal ≡ Closed) × IsTrue (old.reader.closed || old.reader.ended))
-    pub breaks : Breaks old.legs front new front'
+    pub breaks : Breaks now old front new front'
 
   abbrev pub TakesBytes : LinkEnd → Link → FrontView → Type 0
-  TakesBytes Whole new front' = TakesWhole piece old front new front'
-  TakesBytes Surplus new front' = TakesSome piece old front IsSurplus new front'
-  TakesBytes Mismatch new front' = TakesSome piece old front IsMismatch new front'
+  TakesBytes Whole new front' = TakesWhole now piece old front new front'
+  TakesBytes Surplus new front' = TakesSome now piece old front IsSurplus new front'
+  TakesBytes Mismatch new front' = TakesSome now piece old front IsMismatch new front'
   TakesBytes Complaint new front' = BreaksAtComplaint new front'
-  TakesBytes (Refused refusal) new front' = TakesSome piece old front (IsRefused refusal) new front' ⊎ BreaksAtOnce refusal new front'
+  TakesBytes (Refused refusal) new front' = TakesSome now piece old front (IsRefused refusal) new front' ⊎ BreaksAtOnce refusal new front'
   TakesBytes Down new front' = (old.is_up ≡ false) × (new ≡ old) × (front' ≡ front)

@@ -67,6 +67,7 @@ due_now place (Event.Does client (Issue reading request)) core = if client == pl
 due_now place (Event.Does client (Take back)) core = []
 due_now place (Event.Does client (GiveUp op)) core = []
 due_now place (Event.Alone step) core = []
+due_now place (Event.Denies cause) core = []
 due_now place (Event.Tells client reply) core = if client == place then Due.Line reply ∷ [] else []
 due_now place (Event.Flushes client) core = []
 
@@ -74,6 +75,7 @@ due_now place (Event.Flushes client) core = []
 abbrev pub given_now : Event → ProxyView → List AnswerView
 given_now (Event.Does client step) core = option_to_list (answer_at core step)
 given_now (Event.Alone step) core = []
+given_now (Event.Denies cause) core = []
 given_now (Event.Tells client reply) core = []
 given_now (Event.Flushes client) core = []
 

@@ -5,7 +5,7 @@ use Rattle.mr_loop.specs.declared.link.Link.{Link}
 use Rattle.mr_loop.specs.declared.sent_legs.SentLeg.{SentLeg}
 use Rattle.mr_loop.specs.Events.{Event}
 use Rattle.mr_loop.specs.Links.{down_link}
-use Rattle.mr_loop.specs.Returning.{give_ups}
+use Rattle.mr_loop.specs.Returning.{after_break, give_ups}
 
 -- the first of these legs went longer ago than the bound allows
 abbrev pub is_late_in : ℕ → ℕ → List SentLeg → Bool
@@ -18,7 +18,7 @@ is_late bound now link = is_late_in bound now link.legs
 
 -- a link at a tick: it goes down where it is late
 abbrev pub ticked : ℕ → ℕ → Link → Link
-ticked bound now link = if is_late bound now link then down_link else link
+ticked bound now link = if is_late bound now link then down_link (after_break now link) else link
 
 -- the requests of a late link's legs are given up
 abbrev pub given_up_at : ℕ → ℕ → Link → List Event

@@ -4,7 +4,8 @@ ghost use Rattle.mr_loop.specs.Asking.{AsksOn, is_full};
 ghost use Rattle.mr_loop.specs.steps.Asking.{AnswersSo, AsksSo, IsSentOff, RefusesSo, asking};
 
 use crate::asker::Asker;
-use crate::clearing::are_clear;
+use crate::clearing::first_full;
+use crate::counts::ClientCounts;
 use crate::front::{Begun, Front, denial};
 use crate::inbox::{Fetched, Inbox, Input};
 use crate::link::Link;
@@ -19,13 +20,14 @@ use mr_text::{Cause, Reply, Request, TextError};
 pub enum Pause {
     /// All that is whole is begun: more bytes are needed.
     NeedsBytes,
-    /// As many requests are under way as there is room for.
+    /// As many requests are under way as there is room for: its next request is held back.
     NeedsRoom,
-    /// The client has too much of its answers unread, or too many of its requests wait.
+    /// The client has too much of its answers unread, or too many of its requests are begun that it wasn't told of.
     NeedsReader,
-    /// As many legs as the bound await replies over a link that its next request needs.
-    NeedsQueue,
-    /// Memory is refused.
+    /// As many legs as the bound await replies over a link that its next request needs: it is held back. The link is that of
+    /// this number, the first such one in the order of the request's legs.
+    NeedsQueue(usize),
+    /// Memory for its next request is refused: it is held back.
     NeedsMemory,
     /// Nothing more is read of the client: it may be closed once all is written to it.
     IsDone,
@@ -88,7 +90,6 @@ fn answer(
     asker: Asker,
     input: Input,
 ) -> Result<(), (Pause, Input)>
-    requires { is_full front.old.core ≡ false }
     ensures { AnswersSo asker front.old links.old input result front.new links.new }
 {
     match input {
@@ -110,7 +111,7 @@ fn answer_refusal(front: &mut Front, asker: Asker, refusal: TextError) -> Result
     }
 }
 
-/// Begins a request, unless a link that it needs has too many legs.
+/// Begins a request, unless there is no room for it or a link that it needs has too many legs.
 fn answer_request(
     front: &mut Front,
     links: &mut [Link],
@@ -118,20 +119,22 @@ fn answer_request(
     asker: Asker,
     request: Request,
 ) -> Result<(), (Pause, Input)>
-    requires { is_full front.old.core ≡ false }
     ensures { AnswersSo asker front.old links.old (Input.Asks request) result front.new links.new }
 {
     if let Request::Quit = &request {
         return Ok(());
     }
-    if !are_clear(
+    if front.is_full() {
+        return Err((Pause::NeedsRoom, Input::Asks(request)));
+    }
+    if let Some(number) = first_full(
         links,
         asker.limits.most_legs,
         front.core(),
         asker.reading,
         &request,
     ) {
-        return Err((Pause::NeedsQueue, Input::Asks(request)));
+        return Err((Pause::NeedsQueue(number), Input::Asks(request)));
     }
     match ask(front, links, scratch, asker, request) {
         Ok(()) => Ok(()),
@@ -145,25 +148,32 @@ pub(crate) fn ask_on(
     links: &mut [Link],
     scratch: &mut Scratch,
     inbox: &mut Inbox,
+    counts: &mut ClientCounts,
     asker: Asker,
 ) -> Pause
-    ensures { AsksOn asker result (asking inbox.old front.old links.old) (asking inbox.new front.new links.new) }
+    ensures { AsksOn asker result (asking inbox.old front.old links.old counts.old) (asking inbox.new front.new links.new counts.new) }
 {
     requests_leave_less();
     skipped_lines_leave_less();
     'input: loop {
-        if let Some(pause) = front.pause_before(asker.limits, asker.client) {
-            return pause;
+        if front.is_behind(asker.limits, asker.client) {
+            return Pause::NeedsReader;
         }
         match inbox.fetch() {
             Fetched::Nothing => return Pause::NeedsBytes,
-            Fetched::NoMemory => return Pause::NeedsMemory,
             Fetched::Done => return Pause::IsDone,
+            Fetched::NoMemory => {
+                counts.add_held(inbox.waits);
+                inbox.wait();
+                return Pause::NeedsMemory;
+            }
             Fetched::Came(input) => {
                 if let Err((pause, input)) = answer(front, links, scratch, asker, input) {
+                    counts.add_held(inbox.waits);
                     inbox.hold(input);
                     return pause;
                 }
+                inbox.go_on();
             }
         }
     }

@@ -1,10 +1,10 @@
-//! Whether the links that a request would go over have places for its legs.
+//! Which of the links that a request would go over has no place for its leg.
 ghost use Rattle.std.specs.Prelude.{◌≡◌, ◌+◌, ◌<◌, ◌≤◌, ◌≢◌, length, map};
 ghost use Rattle.mr_phases.specs.Pools.{pool_number};
 ghost use Rattle.mr_proxy.specs.Issue.{sheets_of, used_reading};
 ghost use Rattle.mr_proxy.specs.Sheets.{HasHop};
-ghost use Rattle.mr_loop.specs.Links.{are_clear, has_place, link_of_key};
-ghost use Rattle.mr_loop.specs.steps.Clearing.{keys_clear, sides_clear};
+ghost use Rattle.mr_loop.specs.Links.{first_full, has_place, link_of_key};
+ghost use Rattle.mr_loop.specs.steps.Clearing.{full_of_keys, full_of_sides};
 
 use crate::link::Link;
 use crate::numbering::link_of_key;
@@ -24,38 +24,45 @@ fn has_place(links: &[Link], most: usize, number: usize) -> bool
     }
 }
 
-/// Whether so it is of the link to the node of each key in a pool.
-fn are_keys_clear(links: &[Link], most: usize, routing: &Routing, pool: usize, keys: &[Key]) -> bool
+/// The first of the links to the nodes of these keys in a pool that has as many legs as the bound, by its number.
+fn full_of_keys(
+    links: &[Link],
+    most: usize,
+    routing: &Routing,
+    pool: usize,
+    keys: &[Key],
+) -> Option<usize>
     requires { pool + 1 ≤ length routing.now.pools }
-    ensures { result ≡ keys_clear most routing.now pool keys.now links.now }
+    ensures { result ≡ full_of_keys most routing.now pool keys.now links.now }
 {
     for key in keys {
-        if !has_place(links, most, link_of_key(routing, pool, key)) {
-            return false;
+        let number = link_of_key(routing, pool, key);
+        if !has_place(links, most, number) {
+            return Some(number);
         }
     }
-    true
+    None
 }
 
-/// Whether so it is of the link to the node of a key on each side.
-fn are_sides_clear(
+/// The same of the links to the nodes of a key on each side.
+fn full_of_sides(
     links: &[Link],
     most: usize,
     routing: &Routing,
     hop: u32,
     sides: &[Side],
     key: &Key,
-) -> bool
+) -> Option<usize>
     requires { HasHop routing.now hop }
-    ensures { result ≡ sides_clear most routing.now hop sides.now key.now links.now }
+    ensures { result ≡ full_of_sides most routing.now hop sides.now key.now links.now }
 {
     for side in sides {
         let number = link_of_key(routing, side.pool_number(hop), key);
         if !has_place(links, most, number) {
-            return false;
+            return Some(number);
         }
     }
-    true
+    None
 }
 
 /// The reading by which the next request would be judged: the larger of this one and the last one.
@@ -68,15 +75,16 @@ fn used_reading(core: &ProxyCore, reading: u64) -> u64
     }
 }
 
-/// Whether so it is of the link of each leg that a request would have, were it issued at this reading.
-pub(crate) fn are_clear(
+/// The first of the links that a request would go over, were it issued at this reading, that has as many legs as the bound, by
+/// its number. None where each has fewer.
+pub(crate) fn first_full(
     links: &[Link],
     most: usize,
     core: &ProxyCore,
     reading: u64,
     request: &Request,
-) -> bool
-    ensures { result ≡ are_clear most core.now.routing (sheets_of core.now reading request.now) links.now }
+) -> Option<usize>
+    ensures { result ≡ first_full most core.now.routing (sheets_of core.now reading request.now) links.now }
 {
     let _sound = core.outstanding();
     let used = used_reading(core, reading);
@@ -86,16 +94,20 @@ pub(crate) fn are_clear(
     match request {
         Request::Get { keys } => {
             let pool = judged.read_side().pool_number(hop);
-            are_keys_clear(links, most, routing, pool, keys.as_slice())
+            full_of_keys(links, most, routing, pool, keys.as_slice())
         }
         Request::Set { key, .. } => {
             let number = link_of_key(routing, judged.read_side().pool_number(hop), key);
-            has_place(links, most, number)
+            if has_place(links, most, number) {
+                None
+            } else {
+                Some(number)
+            }
         }
         Request::Delete { key, .. } => {
             let sides = judged.sides(RequestKind::Delete);
-            are_sides_clear(links, most, routing, hop, sides.as_slice(), key)
+            full_of_sides(links, most, routing, hop, sides.as_slice(), key)
         }
-        Request::Quit => true,
+        Request::Quit => None,
     }
 }

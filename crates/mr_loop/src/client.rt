@@ -1,6 +1,7 @@
 //! One client.
 ghost use Rattle.std.specs.Prelude.{◌≡◌, ◌<◌, true, false, [], ◌++◌, length, IfOk, OnOk, OnErr};
 ghost use Rattle.mr_loop.specs.Turns.{flushed, fresh_client};
+ghost use Rattle.mr_loop.specs.Unread.{unread};
 
 use crate::out_buffer::OutBuffer;
 use crate::turns::{Turn, Turns};
@@ -26,6 +27,13 @@ impl Client {
             turns: Turns::new(alloc),
             out: OutBuffer::new(alloc),
         }
+    }
+
+    /// How many bytes of its answers it hasn't read: those that it is to be told, and those of answers that wait in turn.
+    pub fn unread(&self) -> u128
+        ensures { result ≡ unread self.now }
+    {
+        self.out.len() as u128 + self.turns.held()
     }
 
     /// Tells what is there for the first request, which leaves then. False where it isn't there. For want of memory nothing

@@ -2,8 +2,8 @@
 ghost use Rattle.std.specs.Prelude.{◌≡◌, ◌≢◌, ◌<◌, ◌≤◌, true, false, [], ◌∷◌, ◌++◌, length, slice_get, slice_set, IfOk, OnOk, OnErr};
 ghost use Rattle.mr_proxy.specs.Issue.{next_op};
 ghost use Rattle.mr_desks.specs.declared.step.Step.TheVariants.{GiveUp};
-ghost use Rattle.mr_loop.specs.Asking.{denial, pause_before, is_behind, is_full};
-ghost use Rattle.mr_loop.specs.Events.{Event, after_event, changed, with_answer};
+ghost use Rattle.mr_loop.specs.Asking.{denial, is_behind, is_full};
+ghost use Rattle.mr_loop.specs.Events.{Event, after_event, changed, with_answer, fresh_front};
 ghost use Rattle.mr_loop.specs.LoopView.{output_in, is_idle_in};
 ghost use Rattle.mr_loop.specs.Returning.{taking};
 ghost use Rattle.mr_loop.specs.Turns.{fresh_client};
@@ -11,8 +11,8 @@ ghost use Rattle.mr_loop.specs.steps.Asking.{IssuesSo, IsWithdrawn, cause_of};
 ghost use Rattle.mr_loop.specs.steps.Telling.{ReadsSo, TouchedIs};
 
 use crate::asker::{Asker, Limits};
-use crate::asking::Pause;
 use crate::client::Client;
+use crate::counts::LoopCounts;
 use crate::sent_legs::SentLeg;
 use crate::turns::Turn;
 use mr_history::OpId;
@@ -29,6 +29,7 @@ pub struct Front {
     core: ProxyCore,
     clients: Vec<Client>,
     touched: Vec<usize>,
+    counts: LoopCounts,
 }
 
 /// What became of a request that was handed to the core.
@@ -48,7 +49,7 @@ impl Model for Front {
 
     ghost Value = { FrontView };
 
-    ghost view = { λ f. record { core = f.core; clients = f.clients.items; touched = f.touched.items } };
+    ghost view = { λ f. record { core = f.core; clients = f.clients.items; touched = f.touched.items; counts = f.counts } };
 
     ghost invariant = { λ f. length f.touched.items + length f.core.outstanding ≤ vec_capacity f.touched };
 }
@@ -79,13 +80,14 @@ pub(crate) fn denial(request: &Request, cause: Cause) -> Option<Reply>
 impl Front {
     /// A core without clients.
     pub fn new(alloc: Global, core: ProxyCore) -> Result<Front, AllocError>
-        ensures { IfOk result (λ front. front ≡ (record { core = core; clients = []; touched = [] })) }
+        ensures { IfOk result (λ front. front ≡ fresh_front core) }
     {
         let touched = Vec::with_capacity(alloc, core.outstanding())?;
         Ok(Front {
             core,
             clients: Vec::new(alloc),
             touched,
+            counts: LoopCounts::new(),
         })
     }
 
@@ -103,6 +105,13 @@ impl Front {
         self.clients.len()
     }
 
+    /// What came of requests.
+    pub fn counts(&self) -> LoopCounts
+        ensures { result ≡ self.now.counts }
+    {
+        self.counts
+    }
+
     /// Notes an answer at the client who waits for it.
     fn note(&mut self, client: usize, answer: Answer)
         ensures { self.new ≡ record self.old { clients = changed client (with_answer answer) self.old.clients } }
@@ -117,8 +126,10 @@ impl Front {
         ensures { self.new ≡ after_event (taking sent said) self.old }
     {
         let client = sent.client;
+        let schedule = self.core.schedule();
         if let Taken::Answered(answer) = self.core.take_reply(sent.leg.sheet().id, said) {
             self.touched.push_reserved(client);
+            self.counts.add_answer(schedule, &answer);
             self.note(client, answer);
         }
     }
@@ -127,36 +138,34 @@ impl Front {
     pub(crate) fn give_up(&mut self, client: usize, op: OpId)
         ensures { self.new ≡ after_event (Event.Does client (GiveUp op)) self.old }
     {
+        let schedule = self.core.schedule();
         if let Ok(answer) = self.core.give_up(op) {
             self.touched.push_reserved(client);
+            self.counts.add_answer(schedule, &answer);
             self.note(client, answer);
         }
     }
 
-    /// Why nothing of a client is begun now, whatever it asks.
-    pub(crate) fn pause_before(&self, limits: Limits, client: usize) -> Option<Pause>
-        ensures { result ≡ pause_before limits client self.now }
+    /// Whether as many requests are under way as there is room for.
+    pub(crate) fn is_full(&self) -> bool
+        ensures { result ≡ is_full self.now.core }
     {
         if let Some(ProxyError::NoRoom) = self.core.refusal() {
-            return Some(Pause::NeedsRoom);
+            return true;
         }
-        if self.is_behind(limits, client) {
-            Some(Pause::NeedsReader)
-        } else {
-            None
-        }
+        false
     }
 
-    /// Whether the client has read less of its answers than it may leave unread, or as many of its requests wait as there is
-    /// room for.
-    fn is_behind(&self, limits: Limits, client: usize) -> bool
+    /// Whether the client has more of its answers unread than it may, those that wait in turn among them, or as many of its
+    /// requests begun as it may that it wasn't told of.
+    pub(crate) fn is_behind(&self, limits: Limits, client: usize) -> bool
         ensures { result ≡ is_behind limits client self.now }
     {
         if client >= self.clients.len() {
             return false;
         }
         let client = &self.clients[client];
-        client.out.len() > limits.most_unread || self.core.room() <= client.turns.len() as u64
+        client.unread() > limits.most_unread as u128 || limits.most_begun <= client.turns.len()
     }
 
     /// The client is told this in its turn. For want of memory nothing changes.
@@ -205,7 +214,9 @@ impl Front {
         match self.core.issue(asker.reading, request) {
             Ok(issued) => Begun::Issued(issued),
             Err((refusal, request)) => {
-                let denial = denial(&request, cause_of(refusal));
+                let cause = cause_of(refusal);
+                self.counts.add_denial(&cause);
+                let denial = denial(&request, cause);
                 drop(request);
                 self.clients[client].turns.deny(denial);
                 Begun::Told
@@ -213,11 +224,13 @@ impl Front {
         }
     }
 
-    /// The request that was issued last is given up before any of its legs went: its client is told this in its turn.
+    /// The request that was issued last is given up before any of its legs went, for want of memory: its client is told this
+    /// in its turn.
     pub(crate) fn withdraw(&mut self, client: usize, op: OpId, denial: Option<Reply>)
         ensures { IsWithdrawn client op denial self.old self.new }
     {
         let _ = self.core.give_up(op);
+        self.counts.add_denial(&Cause::OutOfMemory);
         if client < self.clients.len() {
             self.clients[client].turns.deny(denial);
         }

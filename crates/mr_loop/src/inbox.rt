@@ -1,6 +1,6 @@
 //! What a client sent that wasn't begun yet.
 ghost use Rattle.std.specs.Prelude.{◌≡◌, ◌≢◌, ◌⊎◌, ◌++◌, [], true, false, None, IfOk, OnOk, OnErr};
-ghost use Rattle.mr_loop.specs.Inboxes.{fresh_inbox, holding, FetchIs};
+ghost use Rattle.mr_loop.specs.Inboxes.{fresh_inbox, holding, waiting, going_on, FetchIs};
 ghost use Rattle.mr_loop.specs.LoopView.{TakesPiece, EndsInput};
 
 use mr_node::session::skips_line;
@@ -36,6 +36,8 @@ pub struct Inbox {
     pub reader: RequestReader,
     /// What was read of them before and held back.
     pub held: Option<Input>,
+    /// What stands first was held back before.
+    pub waits: bool,
     /// The client sends no more.
     pub has_ended: bool,
     /// Nothing more is read of what it sent.
@@ -50,6 +52,7 @@ impl Inbox {
         Inbox {
             reader: RequestReader::new(alloc),
             held: None,
+            waits: false,
             has_ended: false,
             is_done: false,
         }
@@ -83,6 +86,21 @@ impl Inbox {
         ensures { self.new ≡ holding input self.old }
     {
         self.held = Some(input);
+        self.waits = true;
+    }
+
+    /// What stands first is held back before it is fetched.
+    pub(crate) fn wait(&mut self)
+        ensures { self.new ≡ waiting self.old }
+    {
+        self.waits = true;
+    }
+
+    /// What stood first is done.
+    pub(crate) fn go_on(&mut self)
+        ensures { self.new ≡ going_on self.old }
+    {
+        self.waits = false;
     }
 
     /// What stands next.

@@ -1,4 +1,5 @@
 //! What holds over whole runs of a loop.
+ghost use Rattle.mr_loop.specs.Bounds.{ClientsBeginFew};
 ghost use Rattle.mr_loop.specs.Runs.{RepliesAreOfTheirLegs, StepsMakeTheCore, ClientsAreToldInOrder};
 
 /// The k-th reply of a link is that of the k-th leg that went over it since it came up.
@@ -14,4 +15,10 @@ pub fn steps_make_the_core()
 /// A client is told the answers to its requests in the order in which it asked, in whatever order they come, and nothing else.
 pub fn clients_are_told_in_order()
     ensures { ClientsAreToldInOrder }
+{}
+
+/// However much a client sends, no more of its requests are begun that it wasn't told of than the bound, so that no more
+/// answers than those can come beside what it may leave unread.
+pub fn clients_begin_few()
+    ensures { ClientsBeginFew }
 {}

@@ -1,7 +1,8 @@
 //! The link to one node: the legs that went over it, and what comes back.
-ghost use Rattle.std.specs.Prelude.{◌≡◌, ◌≢◌, ◌-◌, ◌≤◌, true, false, [], ◌∷◌, ◌++◌, length, take, IsTrue, OnOk, OnErr};
+ghost use Rattle.std.specs.Prelude.{◌≡◌, ◌≢◌, ◌-◌, ◌≤◌, true, false, [], ◌∷◌, ◌++◌, length, take, IsTrue, IfOk, OnOk, OnErr};
 ghost use Rattle.mr_loop.specs.Events.{after_all};
-ghost use Rattle.mr_loop.specs.Links.{up_link, down_link, with_leg};
+ghost use Rattle.mr_loop.specs.Counts.{no_link_counts, dial_counted};
+ghost use Rattle.mr_loop.specs.Links.{up_link, down_link, with_leg, after_sending};
 ghost use Rattle.mr_loop.specs.Returning.{TakesBytes, Breaks, give_ups};
 ghost use Rattle.mr_loop.specs.Ticking.{is_late};
 ghost use Rattle.mr_loop.specs.steps.Returning.{TakesReplies};
@@ -9,7 +10,9 @@ ghost use Rattle.mr_loop.specs.steps.Sending.{without_last};
 
 use crate::answering::{is_complaint, leg_reply_of};
 use crate::front::Front;
+use crate::link_counts::LinkCounts;
 use crate::out_buffer::OutBuffer;
+use crate::sending::Mark;
 use crate::sent_legs::{SentLeg, SentLegs};
 use mr_text::{FixedBuffer, ReplyReader, TextError};
 use std::alloc::{AllocError, Global};
@@ -42,23 +45,45 @@ pub struct Link {
     pub legs: SentLegs,
     /// The bytes that are to be written.
     pub out: OutBuffer,
+    /// What is counted of it, over all of its connections.
+    pub counts: LinkCounts,
 }
 
 impl Link {
     /// A link that isn't up yet.
     pub fn new(alloc: Global) -> Link
-        ensures { result ≡ down_link }
+        ensures { result ≡ down_link no_link_counts }
     {
         Link {
             is_up: false,
             reader: ReplyReader::new(alloc),
             legs: SentLegs::new(alloc),
             out: OutBuffer::new(alloc),
+            counts: LinkCounts::new(),
         }
     }
 
+    /// A leg goes behind those that went, where the link is up; else it is lost. Whether it went. For want of memory nothing
+    /// changes.
+    pub(crate) fn carry(
+        &mut self,
+        buffer: &mut FixedBuffer,
+        sent: SentLeg,
+    ) -> Result<bool, AllocError>
+        ensures went { IfOk result (λ went. went ≡ self.old.is_up) }
+        ensures carried { OnOk result (self.new ≡ after_sending sent self.old) }
+        ensures unchanged { OnErr result (self.new ≡ self.old) }
+    {
+        if !self.is_up {
+            self.counts.add_unsent();
+            return Ok(false);
+        }
+        self.send(buffer, sent)?;
+        Ok(true)
+    }
+
     /// Puts a leg behind those that went, and the request for it behind theirs. For want of memory nothing changes.
-    pub(crate) fn send(&mut self, buffer: &mut FixedBuffer, sent: SentLeg) -> Result<(), AllocError>
+    fn send(&mut self, buffer: &mut FixedBuffer, sent: SentLeg) -> Result<(), AllocError>
         ensures sent { OnOk result (self.new ≡ with_leg sent self.old) }
         ensures unchanged { OnErr result (self.new ≡ self.old) }
     {
@@ -71,12 +96,16 @@ impl Link {
         Ok(())
     }
 
-    /// Takes the leg back that went last: so many bytes are to be written again.
-    pub(crate) fn take_back(&mut self, count: usize)
-        ensures { self.new ≡ without_last count self.old }
+    /// The link stands again as before the leg that a mark is of.
+    pub(crate) fn take_back(&mut self, mark: Mark)
+        ensures { self.new ≡ without_last mark self.old }
     {
-        self.legs.pop_last();
-        self.out.cut(count);
+        if self.is_up {
+            self.legs.pop_last();
+            self.out.cut(mark.count);
+        } else {
+            self.counts.lost = mark.lost;
+        }
     }
 
     /// Whether the first leg went longer ago than the bound allows.
@@ -89,22 +118,24 @@ impl Link {
         }
     }
 
-    /// The link broke: the request of each leg in its queue is given up, in order, and what came of a reply or is to be
-    /// written is gone.
-    pub(crate) fn break_off(&mut self, alloc: Global, front: &mut Front)
-        ensures { Breaks self.old.legs front.old self.new front.new }
+    /// The link broke at this time: the request of each leg in its queue is given up, in order, and what came of a reply or is
+    /// to be written is gone.
+    pub(crate) fn break_off(&mut self, alloc: Global, front: &mut Front, now: u64)
+        ensures { Breaks now self.old front.old self.new front.new }
     {
         while let Some(sent) = self.legs.pop() {
+            self.counts.add_lost(now, &sent);
             front.give_up(sent.client, sent.leg.sheet().id.op);
         }
+        self.counts.add_break(self.is_up);
         self.is_up = false;
         self.reader = ReplyReader::new(alloc);
         self.out.clear();
     }
 
     /// Takes the replies that are whole, each as that of the first leg that has none.
-    fn take_replies(&mut self, front: &mut Front) -> LinkEnd
-        ensures { TakesReplies self.old front.old result self.new front.new }
+    fn take_replies(&mut self, front: &mut Front, now: u64) -> LinkEnd
+        ensures { TakesReplies now self.old front.old result self.new front.new }
     {
         'reply: loop {
             match self.reader.next() {
@@ -114,9 +145,11 @@ impl Link {
                         return LinkEnd::Surplus;
                     };
                     let Some(said) = leg_reply_of(&sent.leg.sheet().command, reply) else {
+                        self.counts.add_lost(now, &sent);
                         front.give_up(sent.client, sent.leg.sheet().id.op);
                         return LinkEnd::Mismatch;
                     };
+                    self.counts.add_carried(now, &sent);
                     front.take(sent, said);
                     if complains {
                         return LinkEnd::Complaint;
@@ -128,26 +161,32 @@ impl Link {
         }
     }
 
-    /// Takes bytes that came. Each reply that is whole is that of the first leg that has none. What isn't a reply, a reply that
-    /// no leg awaits or that is no answer to its leg, one that says that the node doesn't know what it was asked, and want of
-    /// memory break the link.
-    pub(crate) fn take_bytes(&mut self, alloc: Global, front: &mut Front, piece: &[u8]) -> LinkEnd
-        ensures { TakesBytes piece.now self.old front.old result self.new front.new }
+    /// Takes bytes that came at this time. Each reply that is whole is that of the first leg that has none. What isn't a
+    /// reply, a reply that no leg awaits or that is no answer to its leg, one that says that the node doesn't know what it was
+    /// asked, and want of memory break the link.
+    pub(crate) fn take_bytes(
+        &mut self,
+        alloc: Global,
+        front: &mut Front,
+        now: u64,
+        piece: &[u8],
+    ) -> LinkEnd
+        ensures { TakesBytes now piece.now self.old front.old result self.new front.new }
     {
         if !self.is_up {
             return LinkEnd::Down;
         }
         match self.reader.feed(piece) {
             Err(refusal) => {
-                self.break_off(alloc, front);
+                self.break_off(alloc, front, now);
                 return LinkEnd::Refused(refusal);
             }
             Ok(()) => {}
         }
-        match self.take_replies(front) {
+        match self.take_replies(front, now) {
             LinkEnd::Whole => LinkEnd::Whole,
             end => {
-                self.break_off(alloc, front);
+                self.break_off(alloc, front, now);
                 end
             }
         }

@@ -1,17 +1,21 @@
 //! The loop: what each thing that happens does to the core, its clients and its links.
 ghost use Rattle.std.specs.Prelude.{◌≡◌, ◌<◌, ◌≤◌, ◌&&◌, length, map, replicate, slice_get, IfOk, OnOk, OnErr};
 ghost use Rattle.mr_loop.specs.Events.{after_all};
+ghost use Rattle.mr_loop.specs.Counts.{no_link_counts};
 ghost use Rattle.mr_loop.specs.Links.{is_up_at, down_link};
-ghost use Rattle.mr_loop.specs.LoopView.{LinkBytes, LinkBreaks, LinkWrote, LinkComesUp, ClientBytes, ClientEnds, ClientRead, fresh_loop, client_flushed, refreshed, with_place, after_tick, output_in, is_idle_in, link_output_in, is_done_in, asker_of, IsAsked};
+ghost use Rattle.mr_loop.specs.LoopView.{LinkBytes, LinkBreaks, LinkWrote, LinkComesUp, LinkDialed, ClientBytes, ClientEnds, ClientRead, fresh_loop, client_flushed, refreshed, after_coming, after_leaving, told_counts, with_place, after_tick, output_in, is_idle_in, link_output_in, link_counts_in, is_done_in, asker_of, IsAsked};
 ghost use Rattle.mr_loop.specs.Ticking.{ticked, ticks, given_up_at};
 
 use crate::asker::{Asker, Limits};
 use crate::asking::{Pause, ask_on};
+use crate::counts::{ClientCounts, LoopCounts};
 use crate::front::Front;
 use crate::inbox::Inbox;
 use crate::link::{Link, LinkEnd};
+use crate::link_counts::LinkCounts;
 use crate::numbering::nodes_of;
 use crate::sending::{Scratch, is_up};
+use mr_counting::ProxyCounts;
 use mr_proxy::ProxyCore;
 use std::alloc::{AllocError, Global};
 use std::marker::Model;
@@ -25,6 +29,7 @@ pub struct ProxyLoop {
     inboxes: Vec<Inbox>,
     links: Vec<Link>,
     limits: Limits,
+    client_counts: ClientCounts,
     scratch: Scratch,
 }
 
@@ -33,12 +38,16 @@ impl Model for ProxyLoop {
 
     ghost Value = { LoopView };
 
-    ghost view = { λ l. record { front = l.front; inboxes = l.inboxes.items; links = l.links.items; limits = l.limits } };
+    ghost view = { λ l. record { front = l.front; inboxes = l.inboxes.items; links = l.links.items; limits = l.limits; client_counts = l.client_counts } };
+
+    ghost use Rattle.std.specs.Prelude.{◌≡◌, length};
+
+    ghost invariant = { λ l. length l.inboxes.items ≡ length l.front.clients };
 }
 
 /// So many links that are down.
 fn down_links(alloc: Global, count: usize) -> Result<Vec<Link>, AllocError>
-    ensures { IfOk result (λ links. links.items ≡ replicate count down_link) }
+    ensures { IfOk result (λ links. links.items ≡ replicate count (down_link no_link_counts)) }
 {
     let mut links = Vec::with_capacity(alloc, count)?;
     while links.len() < count {
@@ -60,6 +69,7 @@ impl ProxyLoop {
             inboxes: Vec::new(alloc),
             links,
             limits,
+            client_counts: ClientCounts::new(),
             scratch,
         })
     }
@@ -69,6 +79,22 @@ impl ProxyLoop {
         ensures { result.now ≡ self.now.front.core }
     {
         self.front.core()
+    }
+
+    /// How many places for clients there are.
+    pub fn places(&self) -> usize
+        ensures clients { result ≡ length self.now.front.clients }
+        ensures inboxes { result ≡ length self.now.inboxes }
+    {
+        let _kept = self.front.places();
+        self.inboxes.len()
+    }
+
+    /// How many links there are: one for each node.
+    pub fn links(&self) -> usize
+        ensures { result ≡ length self.now.links }
+    {
+        self.links.len()
     }
 
     /// One more place for a client, which is the last. For want of memory nothing changes.
@@ -82,20 +108,70 @@ impl ProxyLoop {
         Ok(())
     }
 
-    /// A client came to a place, or left it: what was sent and asked there is gone. Its requests stay under way until their
-    /// legs are in, and are told to nobody.
-    pub fn refresh(&mut self, client: usize)
-        requires inbox { client < length self.old.inboxes }
-        requires client { client < length self.old.front.clients }
+    /// A place is as new: what was sent and asked there is gone.
+    fn refresh(&mut self, client: usize)
+        requires { client < length self.old.front.clients }
         ensures { self.new ≡ refreshed client self.old }
     {
         self.inboxes[client] = Inbox::new(self.alloc);
         self.front.refresh(self.alloc, client);
     }
 
-    /// Bytes of a client came, at a reading of the clock of phases, in seconds since the epoch, and at a time by which legs
-    /// are timed. What is whole of them is begun as far as it may be; the rest is kept, and the answer says what it needs:
-    /// where that is there, the call may be made again without bytes. For want of memory for the bytes nothing changes.
+    /// A client came to a place, of which nothing is left of who had it before.
+    pub fn on_client_came(&mut self, client: usize)
+        requires { client < length self.old.front.clients }
+        ensures { self.new ≡ after_coming client self.old }
+    {
+        self.refresh(client);
+        self.client_counts.add_coming();
+    }
+
+    /// A client left its place: what it sent and asked is gone. Its requests stay under way until their legs are in, and are
+    /// told to nobody.
+    pub fn on_client_left(&mut self, client: usize)
+        requires { client < length self.old.front.clients }
+        ensures { self.new ≡ after_leaving client self.old }
+    {
+        self.refresh(client);
+        self.client_counts.add_leaving();
+    }
+
+    /// How often clients came, left and were held back.
+    pub fn client_counts(&self) -> ClientCounts
+        ensures { result ≡ self.now.client_counts }
+    {
+        self.client_counts
+    }
+
+    /// What came of requests, in what a proxy tells of itself.
+    pub fn counts(&self) -> ProxyCounts
+        ensures { result ≡ told_counts self.now.front }
+    {
+        let LoopCounts {
+            requests,
+            answers,
+            last_issue,
+        } = self.front.counts();
+        ProxyCounts {
+            requests,
+            answers,
+            under_way: self.front.core().outstanding() as u64,
+            last_issue,
+        }
+    }
+
+    /// What is counted of the link to a node.
+    pub fn link_counts(&self, node: usize) -> LinkCounts
+        requires { node < length self.now.links }
+        ensures { result ≡ link_counts_in (slice_get self.now.links node) }
+    {
+        self.links[node].counts
+    }
+
+    /// Bytes of a client came, at a reading of the clock of phases, in seconds since the epoch, and at a time, in microseconds
+    /// of a clock that never goes back, by which legs are timed. What is whole of them is begun as far as it may be; the rest
+    /// is kept, and the answer says what it needs: where that is there, the call may be made again without bytes. For want of
+    /// memory for the bytes nothing changes.
     pub fn on_client_bytes(
         &mut self,
         client: usize,
@@ -103,9 +179,10 @@ impl ProxyLoop {
         now: u64,
         piece: &[u8],
     ) -> Result<Pause, AllocError>
-        requires { client < length self.old.inboxes }
+        requires { client < length self.old.front.clients }
         ensures asked { IfOk result
             (λ pause. ClientBytes (asker_of self.old client reading now) piece.now self.old pause self.new) }
+        ensures unchanged { OnErr result (self.new ≡ self.old) }
     {
         let asker = Asker {
             client,
@@ -114,19 +191,22 @@ impl ProxyLoop {
             limits: self.limits,
         };
         let inbox = &mut self.inboxes[client];
-        inbox.feed(piece)?;
+        if let Err(error) = inbox.feed(piece) {
+            return Err(error);
+        }
         Ok(ask_on(
             &mut self.front,
             &mut self.links,
             &mut self.scratch,
             inbox,
+            &mut self.client_counts,
             asker,
         ))
     }
 
     /// A client sends no more. What is whole of what it sent is begun, as by `on_client_bytes`.
     pub fn on_client_ended(&mut self, client: usize, reading: u64, now: u64) -> Pause
-        requires { client < length self.old.inboxes }
+        requires { client < length self.old.front.clients }
         ensures { ClientEnds (asker_of self.old client reading now) self.old result self.new }
     {
         let asker = Asker {
@@ -142,6 +222,7 @@ impl ProxyLoop {
             &mut self.links,
             &mut self.scratch,
             inbox,
+            &mut self.client_counts,
             asker,
         )
     }
@@ -173,8 +254,7 @@ impl ProxyLoop {
 
     /// Whether nothing more is read of a client, and all that it asked is told it and written.
     pub fn is_finished(&self, client: usize) -> bool
-        requires inbox { client < length self.now.inboxes }
-        requires client { client < length self.now.front.clients }
+        requires { client < length self.now.front.clients }
         ensures { result ≡ (is_done_in (slice_get self.now.inboxes client)
             && is_idle_in (slice_get self.now.front.clients client)) }
     {
@@ -204,30 +284,38 @@ impl ProxyLoop {
         self.links[node].out.as_slice()
     }
 
-    /// A connection to a node was made.
-    pub fn on_link_up(&mut self, node: usize)
+    /// A dial of a node begins.
+    pub fn on_link_dialed(&mut self, node: usize)
         requires { node < length self.old.links }
-        ensures { LinkComesUp node self.old self.new }
+        ensures { LinkDialed node self.old self.new }
+    {
+        self.links[node].counts.add_dial();
+    }
+
+    /// A connection to a node was made at this time. One that was there before has broken.
+    pub fn on_link_up(&mut self, node: usize, now: u64)
+        requires { node < length self.old.links }
+        ensures { LinkComesUp node now self.old self.new }
     {
         let link = &mut self.links[node];
-        link.break_off(self.alloc, &mut self.front);
+        link.break_off(self.alloc, &mut self.front, now);
         link.is_up = true;
     }
 
-    /// Bytes came over the link to a node.
-    pub fn on_link_bytes(&mut self, node: usize, piece: &[u8]) -> LinkEnd
+    /// Bytes came over the link to a node at this time.
+    pub fn on_link_bytes(&mut self, node: usize, now: u64, piece: &[u8]) -> LinkEnd
         requires { node < length self.old.links }
-        ensures { LinkBytes node piece.now self.old result self.new }
+        ensures { LinkBytes node now piece.now self.old result self.new }
     {
-        self.links[node].take_bytes(self.alloc, &mut self.front, piece)
+        self.links[node].take_bytes(self.alloc, &mut self.front, now, piece)
     }
 
-    /// The link to a node broke.
-    pub fn on_link_broken(&mut self, node: usize)
+    /// The link to a node broke at this time.
+    pub fn on_link_broken(&mut self, node: usize, now: u64)
         requires { node < length self.old.links }
-        ensures { LinkBreaks node self.old self.new }
+        ensures { LinkBreaks node now self.old self.new }
     {
-        self.links[node].break_off(self.alloc, &mut self.front);
+        self.links[node].break_off(self.alloc, &mut self.front, now);
     }
 
     /// So many bytes were written to a node.
@@ -259,7 +347,7 @@ fn tick_link(alloc: Global, front: &mut Front, link: &mut Link, bound: u64, now:
     ensures link { link.new ≡ ticked bound now link.old }
 {
     if link.is_late(bound, now) {
-        link.break_off(alloc, front);
+        link.break_off(alloc, front, now);
     }
 }
 

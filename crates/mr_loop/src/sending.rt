@@ -1,7 +1,7 @@
 //! How the legs of a request go over their links: all of those whose link is up, or none.
 ghost use Rattle.std.specs.Prelude.{◌≡◌, ◌&&◌, ◌++◌, [], length, true, IfOk, OnOk, OnErr};
 ghost use Rattle.mr_loop.specs.Links.{all_sent, all_up, sent_over, is_up_at};
-ghost use Rattle.mr_loop.specs.steps.Sending.{undone, undone_one};
+ghost use Rattle.mr_loop.specs.steps.Sending.{mark_of, undone, undone_one};
 
 use crate::asker::Asker;
 use crate::link::Link;
@@ -12,13 +12,15 @@ use mr_proxy::Leg;
 use mr_text::FixedBuffer;
 use std::alloc::{AllocError, Global};
 
-/// By what a leg is taken back: over which link it went, and how many bytes were to be written there before.
+/// By what a leg is taken back: over which link it went or couldn't go, and how that stood before.
 #[derive(Clone, Copy, Debug, Drop)]
 pub struct Mark {
     /// The number of the link.
     pub number: usize,
     /// How many bytes were to be written.
     pub count: usize,
+    /// How many of its legs were lost.
+    pub lost: u64,
 }
 
 /// What a loop works with, and what holds nothing between its calls.
@@ -47,7 +49,19 @@ pub(crate) fn is_up(links: &[Link], number: usize) -> bool
     number < links.len() && links[number].is_up
 }
 
-/// A leg goes over the link of a number. Whether that is up: else nothing changes. For want of memory nothing changes.
+/// The mark of a link as it stands.
+fn mark_of(link: &Link, number: usize) -> Mark
+    ensures { result ≡ mark_of number link.now }
+{
+    Mark {
+        number,
+        count: link.out.len(),
+        lost: link.counts.lost,
+    }
+}
+
+/// A leg goes over the link of a number, where that is up; else it is lost. Whether it went. For want of memory nothing
+/// changes.
 fn send_leg(
     links: &mut [Link],
     number: usize,
@@ -59,14 +73,14 @@ fn send_leg(
     ensures marked { OnOk result (undone scratch.new.marks.items links.new ≡ undone scratch.old.marks.items links.old) }
     ensures unchanged { OnErr result ((links.new ≡ links.old) × (scratch.new.marks.items ≡ scratch.old.marks.items)) }
 {
-    if !is_up(links, number) {
+    if number >= links.len() {
         return Ok(false);
     }
     scratch.marks.reserve(1)?;
-    let count = links[number].out.len();
-    links[number].send(&mut scratch.buffer, sent)?;
-    scratch.marks.push_reserved(Mark { number, count });
-    Ok(true)
+    let mark = mark_of(&links[number], number);
+    let went = links[number].carry(&mut scratch.buffer, sent)?;
+    scratch.marks.push_reserved(mark);
+    Ok(went)
 }
 
 /// The leg that a mark tells of is taken back.
@@ -74,7 +88,7 @@ fn take_back(links: &mut [Link], mark: Mark)
     ensures { links.new ≡ undone_one mark links.old }
 {
     if mark.number < links.len() {
-        links[mark.number].take_back(mark.count);
+        links[mark.number].take_back(mark);
     }
 }
 

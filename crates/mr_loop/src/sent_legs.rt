@@ -12,7 +12,7 @@ use std::marker::Model;
 pub struct SentLeg {
     /// The place of the client whose request it is of.
     pub client: usize,
-    /// When it went.
+    /// When it went, in microseconds.
     pub sent_at: u64,
     /// What was sent.
     pub leg: Leg,

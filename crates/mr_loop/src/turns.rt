@@ -1,7 +1,8 @@
 //! The requests of one client, in the order in which they are answered.
-ghost use Rattle.std.specs.Prelude.{◌≡◌, ◌-◌, ◌<◌, [], ◌∷◌, ◌++◌, length, drop, position, is_some, slice_get, slice_set, OnOk, OnErr};
+ghost use Rattle.std.specs.Prelude.{◌≡◌, ◌-◌, ◌*◌, ◌^◌, ◌<◌, ◌≤◌, [], ◌∷◌, ◌++◌, length, take, drop, position, sum_by, is_some, slice_get, slice_set, OnOk, OnErr};
 ghost use Rattle.std.specs.Option.{option_copied};
 
+use crate::unread::held_by_answer;
 use mr_history::{OpId, is_same_op};
 use mr_proxy::Answer;
 use mr_text::Reply;
@@ -22,6 +23,7 @@ pub enum Turn {
 
 impl Turn {
     ghost use Rattle.mr_loop.specs.Turns.{is_turn_of, text_of_turn};
+    ghost use Rattle.mr_loop.specs.Held.{held_by_turn};
 
     /// Whether it is that of the request of this name, which is under way.
     fn is_of(&self, op: OpId) -> bool
@@ -31,6 +33,17 @@ impl Turn {
             Turn::Waits(own) => is_same_op(*own, op),
             Turn::Answered(_) => false,
             Turn::Says(_) => false,
+        }
+    }
+
+    /// How many bytes of its answer are there.
+    fn held(&self) -> u64
+        ensures { result ≡ held_by_turn self.now }
+    {
+        match self {
+            Turn::Waits(_) => 0,
+            Turn::Answered(answer) => held_by_answer(answer),
+            Turn::Says(_) => 0,
         }
     }
 
@@ -50,6 +63,8 @@ impl Turn {
 #[derive(Drop)]
 pub struct Turns {
     queue: VecDeque<Turn>,
+    // how many bytes of answers are there
+    held: u128,
 }
 
 impl Model for Turns {
@@ -59,10 +74,16 @@ impl Model for Turns {
     ghost Value = { List Turn };
 
     ghost view = { λ t. t.queue.items };
+
+    ghost use Rattle.std.specs.Prelude.{◌≡◌, sum_by};
+    ghost use Rattle.mr_loop.specs.Held.{held_by_turn};
+
+    ghost invariant = { λ t. t.held ≡ sum_by held_by_turn t.queue.items };
 }
 
 impl Turns {
     ghost use Rattle.mr_loop.specs.Turns.{noted, is_turn_of};
+    ghost use Rattle.mr_loop.specs.Held.{held_by_turn};
     ghost use Rattle.mr_loop.specs.steps.Denying.{denied};
 
     /// No request.
@@ -71,6 +92,7 @@ impl Turns {
     {
         Turns {
             queue: VecDeque::new(alloc),
+            held: 0,
         }
     }
 
@@ -81,13 +103,34 @@ impl Turns {
         self.queue.len()
     }
 
+    /// How many bytes of answers are there.
+    pub fn held(&self) -> u128
+        ensures held { result ≡ sum_by held_by_turn self.now }
+        ensures small { result ≤ (2 ^ 64 - 1) * (2 ^ 64 - 1) }
+    {
+        let _count = self.queue.len();
+        self.held
+    }
+
     /// One more request. For want of memory nothing changes.
     pub(crate) fn push(&mut self, turn: Turn) -> Result<(), AllocError>
         ensures pushed { OnOk result (self.new ≡ self.old ++ turn ∷ []) }
         ensures unchanged { OnErr result (self.new ≡ self.old) }
     {
+        let more = turn.held();
+        let _count = self.queue.len();
         self.queue.push_back(turn)?;
+        self.held += u128::from(more);
         Ok(())
+    }
+
+    /// The request leaves that was pushed last.
+    fn pop_last(&mut self)
+        ensures { self.new ≡ take (length self.old - 1) self.old }
+    {
+        if let Some(turn) = self.queue.pop_back() {
+            self.held -= u128::from(turn.held());
+        }
     }
 
     /// The request that was pushed last isn't begun: its turn says this, or leaves where there is nothing to say.
@@ -95,13 +138,11 @@ impl Turns {
         ensures { self.new ≡ denied denial self.old }
     {
         match denial {
-            None => {
-                let _ = self.queue.pop_back();
-            }
+            None => self.pop_last(),
             Some(reply) => {
                 let count = self.queue.len();
                 if count > 0 {
-                    self.queue[count - 1] = Turn::Says(reply);
+                    self.set(count - 1, Turn::Says(reply));
                 }
             }
         }
@@ -119,7 +160,12 @@ impl Turns {
         requires { at < length self.old }
         ensures { self.new ≡ slice_set self.old at turn }
     {
+        let _count = self.queue.len();
+        let less = self.queue[at].held();
+        let more = turn.held();
         self.queue[at] = turn;
+        self.held -= u128::from(less);
+        self.held += u128::from(more);
     }
 
     /// Notes an answer at the turn of its request.
@@ -142,6 +188,8 @@ impl Turns {
     pub(crate) fn pop(&mut self)
         ensures { self.new ≡ drop 1 self.old }
     {
-        let _ = self.queue.pop_front();
+        if let Some(turn) = self.queue.pop_front() {
+            self.held -= u128::from(turn.held());
+        }
     }
 }

@@ -1,13 +1,12 @@
 -- What a proxy counts, by what tells one count from another.
-use Rattle.std.specs.Prelude.{ℕ, List, [], ◌∷◌, ◌++◌, codes, decimal}
+use Rattle.std.specs.Prelude.{ℕ, List, [], ◌∷◌, ◌++◌, codes}
 use Rattle.mr_phases.specs.PhaseText.{phase_text}
 use Rattle.mr_metrics.specs.Exposition.{family_head, labelled_sample, shown_pair, shown_number}
 use Rattle.mr_metrics.specs.declared.counts.AnswerCount.{AnswerCount}
 use Rattle.mr_metrics.specs.declared.counts.AnswerKind.{AnswerKind}
-use Rattle.mr_metrics.specs.declared.counts.AnswerKind.TheVariants.{Hit, Miss, Stored, Deleted, NotFound, LegLost, Busy, OutOfMemory, ClockFault, OtherFault}
+use Rattle.mr_metrics.specs.declared.counts.AnswerKind.TheVariants.{Hit, Miss, Stored, Deleted, NotFound, LegLost, OutOfMemory, ClockFault, OtherFault}
 use Rattle.mr_metrics.specs.declared.counts.Command.{Command}
 use Rattle.mr_metrics.specs.declared.counts.Command.TheVariants.{Get, Set, Delete}
-use Rattle.mr_metrics.specs.declared.counts.LegCount.{LegCount}
 use Rattle.mr_metrics.specs.declared.counts.RequestCount.{RequestCount}
 use Rattle.mr_metrics.specs.declared.exposition.Kind.TheVariants.{Counter}
 use Rattle.mr_metrics.specs.declared.number.Number.TheVariants.{Whole}
@@ -26,7 +25,6 @@ answer_text Stored = codes "stored"
 answer_text Deleted = codes "deleted"
 answer_text NotFound = codes "not found"
 answer_text LegLost = codes "leg lost"
-answer_text Busy = codes "busy"
 answer_text OutOfMemory = codes "out of memory"
 answer_text ClockFault = codes "clock fault"
 answer_text OtherFault = codes "other fault"
@@ -59,22 +57,3 @@ answers_family rows =
     family_head (codes "migctl_proxy_answers_total")
     (codes "What clients were answered: keys of gets that were found or not, and answers to requests.") Counter
     ++ answer_samples (codes "migctl_proxy_answers_total") rows
-
--- how many legs to a node had an outcome
-abbrev pub leg_sample : List ℕ → LegCount → List ℕ → ℕ → List ℕ
-leg_sample name row outcome count =
-    name ++ (codes "{" ++ (shown_pair (codes "pool") (decimal row.pool) ++ (codes "," ++
-    (shown_pair (codes "node") row.node.now ++ (codes "," ++
-    (shown_pair (codes "outcome") outcome ++ (codes "} " ++ (shown_number (Whole count) ++ codes "\n"))))))))
-
--- the samples of legs, row by row: how many were carried, and how many were lost
-abbrev pub leg_samples : List ℕ → List LegCount → List ℕ
-leg_samples name [] = []
-leg_samples name (row ∷ rows) =
-    leg_sample name row (codes "carried") row.carried ++ (leg_sample name row (codes "lost") row.lost ++ leg_samples name rows)
-
--- what became of legs, by node
-abbrev pub legs_family : List LegCount → List ℕ
-legs_family rows =
-    family_head (codes "migctl_proxy_legs_total") (codes "Legs of requests, by pool, by node and by what became of them.") Counter
-    ++ leg_samples (codes "migctl_proxy_legs_total") rows

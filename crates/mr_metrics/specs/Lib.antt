@@ -1,6 +1,7 @@
 pub mod Counts
 pub mod Exposition
 pub mod Families
+pub mod Links
 pub mod Node
 pub mod Proxy
 pub mod ReadBack

@@ -1,14 +1,15 @@
 -- What a proxy tells of itself.
-use Rattle.std.specs.Prelude.{ℕ, List, ◌++◌, Option, codes}
+use Rattle.std.specs.Prelude.{ℕ, Bool, List, ◌++◌, Option, codes, if◌then◌else◌}
 use Rattle.mr_phases.specs.PhaseText.{phase_text}
 use Rattle.mr_phases.specs.declared.phase_name.PhaseName.{PhaseName}
 use Rattle.mr_phases.specs.declared.phase_name.PhaseName.TheVariants.{OldOnly, BothReadOld, BothReadNew, NewOnly}
-use Rattle.mr_metrics.specs.Counts.{requests_family, answers_family, legs_family}
+use Rattle.mr_metrics.specs.Counts.{requests_family, answers_family}
 use Rattle.mr_metrics.specs.Exposition.{family_head, labelled_sample}
 use Rattle.mr_metrics.specs.Families.{one_number, perhaps_number, info}
+use Rattle.mr_metrics.specs.Links.{legs_family, links_text}
 use Rattle.mr_metrics.specs.Service.{service_text}
 use Rattle.mr_metrics.specs.Times.{histogram}
-use Rattle.mr_metrics.specs.declared.exposition.Kind.TheVariants.{Gauge}
+use Rattle.mr_metrics.specs.declared.exposition.Kind.TheVariants.{Counter, Gauge}
 use Rattle.mr_metrics.specs.declared.number.Number.TheVariants.{Whole}
 use Rattle.mr_metrics.specs.declared.proxy.ProxySnapshot.{ProxySnapshot}
 use Rattle.mr_metrics.specs.declared.times.Times.{Times}
@@ -17,6 +18,11 @@ use Rattle.mr_metrics.specs.declared.times.Times.{Times}
 abbrev pub config_family : List ℕ → List ℕ
 config_family config =
     info (codes "migctl_proxy_config_info") (codes "The SHA-256 of the configuration as transcripts write it.") (codes "sha256") config
+
+-- how often requests were held back
+abbrev pub held_back_family : ℕ → List ℕ
+held_back_family held_back =
+    one_number (codes "migctl_proxy_requests_held_back_total") (codes "Requests that were held back until there was room for them.") Counter held_back
 
 -- how many requests are under way
 abbrev pub under_way_family : ℕ → List ℕ
@@ -73,15 +79,42 @@ phase_family in_force =
     family_head (codes "migctl_proxy_phase") (codes "1 for the phase in force, 0 for each other.") Gauge
     ++ phase_states (codes "migctl_proxy_phase") in_force
 
--- its requests and their legs
-abbrev pub traffic_text : ProxySnapshot → List ℕ
-traffic_text snapshot =
-    requests_family snapshot.requests.now
-    ++ (answers_family snapshot.answers.now
-    ++ (legs_family snapshot.legs.now
+-- how many loops carry its requests
+abbrev pub loops_family : ℕ → List ℕ
+loops_family loops =
+    one_number (codes "migctl_proxy_loops") (codes "Loops that carry requests, each of which is a proxy of the fleet.") Gauge loops
+
+-- how many clients are served at once at most
+abbrev pub max_clients_family : ℕ → List ℕ
+max_clients_family max_clients =
+    one_number (codes "migctl_proxy_max_clients") (codes "Clients that may be served at once.") Gauge max_clients
+
+-- 1 for what is so, 0 for what isn't
+abbrev pub flag_number : Bool → ℕ
+flag_number flag = if flag then 1 else 0
+
+-- whether clients aren't accepted, since as many are served as may be
+abbrev pub clients_wait_family : Bool → List ℕ
+clients_wait_family wait =
+    one_number (codes "migctl_proxy_clients_wait") (codes "1 while clients aren't accepted since as many are served as may be, else 0.") Gauge
+    (flag_number wait)
+
+-- its requests: what came of them, and which were held back
+abbrev pub asked_text : ProxySnapshot → List ℕ
+asked_text snapshot =
+    requests_family snapshot.requests.now ++ (answers_family snapshot.answers.now ++ held_back_family snapshot.held_back)
+
+-- their legs, and how many requests are under way
+abbrev pub carried_text : ProxySnapshot → List ℕ
+carried_text snapshot =
+    legs_family snapshot.links.now
     ++ (leg_times_family snapshot.leg_times
     ++ (under_way_family snapshot.under_way
-    ++ room_family snapshot.room))))
+    ++ room_family snapshot.room))
+
+-- its requests and their legs
+abbrev pub traffic_text : ProxySnapshot → List ℕ
+traffic_text snapshot = asked_text snapshot ++ carried_text snapshot
 
 -- its place in the schedule
 abbrev pub schedule_text : ProxySnapshot → List ℕ
@@ -92,6 +125,15 @@ schedule_text snapshot =
     ++ (phase_family snapshot.phase
     ++ next_phase_family snapshot.next_phase)))
 
+-- its loops, their clients and their links
+abbrev pub loops_text : ProxySnapshot → List ℕ
+loops_text snapshot =
+    loops_family snapshot.loops
+    ++ (max_clients_family snapshot.max_clients
+    ++ (clients_wait_family snapshot.clients_wait
+    ++ links_text snapshot.links.now))
+
 -- a proxy
 abbrev pub proxy_text : ProxySnapshot → List ℕ
-proxy_text snapshot = service_text snapshot.service ++ (schedule_text snapshot ++ traffic_text snapshot)
+proxy_text snapshot =
+    service_text snapshot.service ++ (schedule_text snapshot ++ (traffic_text snapshot ++ loops_text snapshot))

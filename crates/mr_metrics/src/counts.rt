@@ -2,13 +2,12 @@
 ghost use Rattle.std.specs.Prelude.{◌≡◌, ◌++◌, OnOk};
 ghost use Rattle.mr_metrics.specs.Exposition.{family_head};
 ghost use Rattle.mr_metrics.specs.declared.exposition.Kind.TheVariants.{Counter};
-ghost use Rattle.mr_metrics.specs.Counts.{command_text, answer_text, request_sample, request_samples, requests_family, answer_samples, answers_family, leg_sample, leg_samples, legs_family};
+ghost use Rattle.mr_metrics.specs.Counts.{command_text, answer_text, request_sample, request_samples, requests_family, answer_samples, answers_family};
 
 use crate::exposition::{Kind, push_family, push_sample};
 use crate::families::push_labelled;
 use crate::label::Label;
 use crate::number::Number;
-use itoa::Buffer;
 use mr_phases::PhaseName;
 use std::alloc::AllocError;
 
@@ -51,8 +50,6 @@ pub enum AnswerKind {
     NotFound,
     /// A leg was lost.
     LegLost,
-    /// There was no room for the request.
-    Busy,
     /// Memory was refused.
     OutOfMemory,
     /// The clock gave no reading.
@@ -73,7 +70,6 @@ impl AnswerKind {
             AnswerKind::Deleted => "deleted",
             AnswerKind::NotFound => "not found",
             AnswerKind::LegLost => "leg lost",
-            AnswerKind::Busy => "busy",
             AnswerKind::OutOfMemory => "out of memory",
             AnswerKind::ClockFault => "clock fault",
             AnswerKind::OtherFault => "other fault",
@@ -99,19 +95,6 @@ pub struct AnswerCount {
     pub kind: AnswerKind,
     /// How many.
     pub count: u64,
-}
-
-/// What became of the legs to a node.
-#[derive(Clone, Copy, Debug)]
-pub struct LegCount<'a> {
-    /// The node's pool, counted from 0.
-    pub pool: u64,
-    /// The node's name.
-    pub node: &'a str,
-    /// How many legs were carried.
-    pub carried: u64,
-    /// How many were lost.
-    pub lost: u64,
 }
 
 /// Adds how many requests of a command came to an answer, of those judged in a phase.
@@ -203,70 +186,6 @@ pub(crate) fn push_answers(text: &mut Vec<u8>, rows: &[AnswerCount]) -> Result<(
         text,
         "migctl_proxy_answers_total",
         "What clients were answered: keys of gets that were found or not, and answers to requests.",
-        rows,
-    )
-}
-
-/// Adds how many legs to a node had an outcome.
-fn push_leg<'a>(
-    text: &mut Vec<u8>,
-    name: &str,
-    row: &LegCount<'a>,
-    outcome: &'a str,
-    count: u64,
-) -> Result<(), AllocError>
-    ensures { OnOk result (text.new.items ≡ text.old.items ++ leg_sample name.now row.now outcome.now count) }
-{
-    let mut buffer = Buffer::new();
-    let pool = Label {
-        name: "pool",
-        value: buffer.format(row.pool),
-    };
-    let node = Label {
-        name: "node",
-        value: row.node,
-    };
-    let outcome = Label {
-        name: "outcome",
-        value: outcome,
-    };
-    push_sample(text, name, &[pool, node, outcome], Number::Whole(count))
-}
-
-/// Adds the samples of legs, in order.
-fn push_each_leg(text: &mut Vec<u8>, name: &str, rows: &[LegCount<'_>]) -> Result<(), AllocError>
-    ensures { OnOk result (text.new.items ≡ text.old.items ++ leg_samples name.now rows.now) }
-{
-    for row in rows {
-        push_leg(text, name, row, "carried", row.carried)?;
-        push_leg(text, name, row, "lost", row.lost)?;
-    }
-    Ok(())
-}
-
-/// Adds a counter with these samples.
-fn push_family_of_legs(
-    text: &mut Vec<u8>,
-    name: &str,
-    help: &str,
-    rows: &[LegCount<'_>],
-) -> Result<(), AllocError>
-    ensures { OnOk result (text.new.items ≡ text.old.items
-        ++ (family_head name.now help.now Counter ++ leg_samples name.now rows.now)) }
-{
-    push_family(text, name, help, Kind::Counter)?;
-    push_each_leg(text, name, rows)?;
-    Ok(())
-}
-
-/// Adds what became of legs, by node.
-pub(crate) fn push_legs(text: &mut Vec<u8>, rows: &[LegCount<'_>]) -> Result<(), AllocError>
-    ensures { OnOk result (text.new.items ≡ text.old.items ++ legs_family rows.now) }
-{
-    push_family_of_legs(
-        text,
-        "migctl_proxy_legs_total",
-        "Legs of requests, by pool, by node and by what became of them.",
         rows,
     )
 }

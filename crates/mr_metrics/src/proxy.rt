@@ -1,12 +1,13 @@
 //! What a proxy tells of itself.
 ghost use Rattle.std.specs.Prelude.{◌≡◌, ◌++◌, IfOk, OnOk};
 ghost use Rattle.mr_metrics.specs.Exposition.{family_head};
-ghost use Rattle.mr_metrics.specs.Proxy.{config_family, leg_times_family, under_way_family, room_family, last_issue_family, hop_family, state_of, phase_state, phase_states, phase_family, next_phase_family, traffic_text, schedule_text, proxy_text};
+ghost use Rattle.mr_metrics.specs.Proxy.{config_family, held_back_family, leg_times_family, under_way_family, room_family, last_issue_family, hop_family, state_of, phase_state, phase_states, phase_family, next_phase_family, loops_family, max_clients_family, flag_number, clients_wait_family, asked_text, carried_text, traffic_text, schedule_text, loops_text, proxy_text};
 ghost use Rattle.mr_metrics.specs.declared.exposition.Kind.TheVariants.{Gauge};
 
-use crate::counts::{AnswerCount, LegCount, RequestCount, push_answers, push_legs, push_requests};
+use crate::counts::{AnswerCount, RequestCount, push_answers, push_requests};
 use crate::exposition::{Kind, push_family};
 use crate::families::{push_info, push_labelled, push_one, push_perhaps};
+use crate::links::{LinkCount, push_legs, push_links};
 use crate::service::{ServiceSnapshot, push_service};
 use crate::times::{Times, push_times};
 use mr_phases::PhaseName;
@@ -23,8 +24,10 @@ pub struct ProxySnapshot<'a> {
     pub requests: &'a [RequestCount],
     /// What clients were answered, by kind.
     pub answers: &'a [AnswerCount],
-    /// What became of legs, by node.
-    pub legs: &'a [LegCount<'a>],
+    /// How often a request was held back.
+    pub held_back: u64,
+    /// What became of legs, and how its links stand, by node.
+    pub links: &'a [LinkCount<'a>],
     /// How long legs took that were sent, lost ones among them.
     pub leg_times: Times<'a>,
     /// How many requests are under way.
@@ -39,6 +42,12 @@ pub struct ProxySnapshot<'a> {
     pub phase: PhaseName,
     /// When the next phase begins, in seconds since the epoch.
     pub next_phase: Option<u64>,
+    /// How many loops carry its requests.
+    pub loops: u64,
+    /// How many clients are served at once at most.
+    pub max_clients: u64,
+    /// Whether clients aren't accepted, since as many are served as may be.
+    pub clients_wait: bool,
 }
 
 /// Adds the digest of the configuration.
@@ -51,6 +60,19 @@ fn push_config(text: &mut Vec<u8>, config: &str) -> Result<(), AllocError>
         "The SHA-256 of the configuration as transcripts write it.",
         "sha256",
         config,
+    )
+}
+
+/// Adds how often requests were held back.
+fn push_held_back(text: &mut Vec<u8>, held_back: u64) -> Result<(), AllocError>
+    ensures { OnOk result (text.new.items ≡ text.old.items ++ held_back_family held_back) }
+{
+    push_one(
+        text,
+        "migctl_proxy_requests_held_back_total",
+        "Requests that were held back until there was room for them.",
+        Kind::Counter,
+        held_back,
     )
 }
 
@@ -192,16 +214,79 @@ fn push_phase(text: &mut Vec<u8>, in_force: PhaseName) -> Result<(), AllocError>
     )
 }
 
+/// Adds how many loops there are.
+fn push_loops(text: &mut Vec<u8>, loops: u64) -> Result<(), AllocError>
+    ensures { OnOk result (text.new.items ≡ text.old.items ++ loops_family loops) }
+{
+    push_one(
+        text,
+        "migctl_proxy_loops",
+        "Loops that carry requests, each of which is a proxy of the fleet.",
+        Kind::Gauge,
+        loops,
+    )
+}
+
+/// Adds how many clients are served at once at most.
+fn push_max_clients(text: &mut Vec<u8>, max_clients: u64) -> Result<(), AllocError>
+    ensures { OnOk result (text.new.items ≡ text.old.items ++ max_clients_family max_clients) }
+{
+    push_one(
+        text,
+        "migctl_proxy_max_clients",
+        "Clients that may be served at once.",
+        Kind::Gauge,
+        max_clients,
+    )
+}
+
+/// 1 for what is so, 0 for what isn't.
+fn flag_number(flag: bool) -> u64
+    ensures { result ≡ flag_number flag }
+{
+    if flag { 1 } else { 0 }
+}
+
+/// Adds whether clients aren't accepted.
+fn push_clients_wait(text: &mut Vec<u8>, wait: bool) -> Result<(), AllocError>
+    ensures { OnOk result (text.new.items ≡ text.old.items ++ clients_wait_family wait) }
+{
+    push_one(
+        text,
+        "migctl_proxy_clients_wait",
+        "1 while clients aren't accepted since as many are served as may be, else 0.",
+        Kind::Gauge,
+        flag_number(wait),
+    )
+}
+
+/// Adds what came of requests, and which were held back.
+fn push_asked(text: &mut Vec<u8>, snapshot: &ProxySnapshot<'_>) -> Result<(), AllocError>
+    ensures { OnOk result (text.new.items ≡ text.old.items ++ asked_text snapshot.now) }
+{
+    push_requests(text, snapshot.requests)?;
+    push_answers(text, snapshot.answers)?;
+    push_held_back(text, snapshot.held_back)?;
+    Ok(())
+}
+
+/// Adds what became of legs, and how many requests are under way.
+fn push_carried(text: &mut Vec<u8>, snapshot: &ProxySnapshot<'_>) -> Result<(), AllocError>
+    ensures { OnOk result (text.new.items ≡ text.old.items ++ carried_text snapshot.now) }
+{
+    push_legs(text, snapshot.links)?;
+    push_leg_times(text, &snapshot.leg_times)?;
+    push_under_way(text, snapshot.under_way)?;
+    push_room(text, snapshot.room)?;
+    Ok(())
+}
+
 /// Adds what is known of requests and their legs.
 fn push_traffic(text: &mut Vec<u8>, snapshot: &ProxySnapshot<'_>) -> Result<(), AllocError>
     ensures { OnOk result (text.new.items ≡ text.old.items ++ traffic_text snapshot.now) }
 {
-    push_requests(text, snapshot.requests)?;
-    push_answers(text, snapshot.answers)?;
-    push_legs(text, snapshot.legs)?;
-    push_leg_times(text, &snapshot.leg_times)?;
-    push_under_way(text, snapshot.under_way)?;
-    push_room(text, snapshot.room)?;
+    push_asked(text, snapshot)?;
+    push_carried(text, snapshot)?;
     Ok(())
 }
 
@@ -217,6 +302,17 @@ fn push_schedule(text: &mut Vec<u8>, snapshot: &ProxySnapshot<'_>) -> Result<(),
     Ok(())
 }
 
+/// Adds what is known of its loops, their clients and their links.
+fn push_all_loops(text: &mut Vec<u8>, snapshot: &ProxySnapshot<'_>) -> Result<(), AllocError>
+    ensures { OnOk result (text.new.items ≡ text.old.items ++ loops_text snapshot.now) }
+{
+    push_loops(text, snapshot.loops)?;
+    push_max_clients(text, snapshot.max_clients)?;
+    push_clients_wait(text, snapshot.clients_wait)?;
+    push_links(text, snapshot.links)?;
+    Ok(())
+}
+
 /// What a proxy tells of itself, in the text exposition format of version 0.0.4.
 pub fn proxy_metrics(alloc: Global, snapshot: &ProxySnapshot<'_>) -> Result<Vec<u8>, AllocError>
     ensures { IfOk result (λ text. text.items ≡ proxy_text snapshot.now) }
@@ -225,5 +321,6 @@ pub fn proxy_metrics(alloc: Global, snapshot: &ProxySnapshot<'_>) -> Result<Vec<
     push_service(&mut text, &snapshot.service)?;
     push_schedule(&mut text, snapshot)?;
     push_traffic(&mut text, snapshot)?;
+    push_all_loops(&mut text, snapshot)?;
     Ok(text)
 }

@@ -2,14 +2,17 @@
 use Rattle.std.specs.Prelude.{◌≡◌, ℕ, ◌+◌, ◌≤◌, ◌⊎◌, false, List, [], ◌∷◌, ◌++◌, Option, Some, None, Result, Ok, Err}
 use Rattle.std.specs.declared.net.socket_addr.SocketAddrV4.{SocketAddrV4}
 use Rattle.std.specs.declared.random_state.RandomState.{RandomState}
+use Rattle.mr_driver.specs.declared.serving.DriverBounds.{DriverBounds}
+use Rattle.mr_loop.specs.LoopView.{LoopView}
 use Rattle.mr_pools.specs.Routing.{RoutingView}
 use Rattle.mr_proxy.specs.ProxyView.{ProxyView}
 use Rattle.mr_sockets.specs.Listening.{Listens, ListensNowhere}
 use Rattle.mr_sockets.specs.SeededNode.{SeededView}
 use Rattle.mr_sockets.specs.Serving.{NodeServing, ProxyServing, Run, run}
 use Rattle.mr_sockets.specs.declared.bounds.ServiceBounds.{ServiceBounds}
+use Rattle.mr_servers.specs.Drives.{Drive, drive}
 use Rattle.mr_servers.specs.declared.fault.OpenFault.{OpenFault}
-use Rattle.mr_servers.specs.declared.fault.OpenFault.TheVariants.{Net, Metrics}
+use Rattle.mr_servers.specs.declared.fault.OpenFault.TheVariants.{Net, Metrics, OutOfMemory}
 use Rattle.mr_servers.specs.declared.fault.SeedFault.{SeedFault}
 use Rattle.mr_servers.specs.declared.screen.Screen.{Screen}
 
@@ -26,27 +29,38 @@ clients_at listen = record { listen = listen; metrics = None }
 abbrev pub told_at : List ℕ → List ℕ → Places
 told_at listen metrics = record { listen = listen; metrics = Some metrics }
 
--- a service that is asked for, with the addresses that it listens at, the number of its clients, and the reads of each
+-- a service that is asked for, with the addresses that it listens at and its bounds
 pub data Asked : Type 0 where
   -- a node
   NodeAt : (places : Places) (node : SeededView) (bounds : ServiceBounds) → Asked
   -- a proxy, and the routing that its carriers are made of
   ProxyAt : (places : Places) (proxy : ProxyView) (routing : RoutingView) (bounds : ServiceBounds) → Asked
+  -- a proxy on these loops
+  LoopsAt : (places : Places) (loops : List LoopView) (bounds : DriverBounds) → Asked
 
 -- the addresses that it listens at
 abbrev pub places_of : Asked → Places
 places_of (NodeAt places node bounds) = places
 places_of (ProxyAt places proxy routing bounds) = places
+places_of (LoopsAt places loops bounds) = places
 
 -- the number of its clients
 abbrev pub clients_of : Asked → ℕ
 clients_of (NodeAt places node bounds) = bounds.clients
 clients_of (ProxyAt places proxy routing bounds) = bounds.clients
+clients_of (LoopsAt places loops bounds) = bounds.clients
 
--- the service that runs where this one is asked for
-abbrev pub run_of : Asked → Run
-run_of (NodeAt places node bounds) = run (NodeServing (Some node) bounds.turns) bounds.clients
-run_of (ProxyAt places proxy routing bounds) = run (ProxyServing (Some proxy) routing bounds.turns) bounds.clients
+-- the services of threads that ran, with this one behind them where it is one
+abbrev pub runs_after : Asked → List Run → List Run
+runs_after (NodeAt places node bounds) runs = runs ++ run (NodeServing (Some node) bounds.turns) bounds.clients ∷ []
+runs_after (ProxyAt places proxy routing bounds) runs = runs ++ run (ProxyServing (Some proxy) routing bounds.turns) bounds.clients ∷ []
+runs_after (LoopsAt places loops bounds) runs = runs
+
+-- the services on loops that ran, with this one behind them where it is one
+abbrev pub drives_after : Asked → List Drive → List Drive
+drives_after (NodeAt places node bounds) drives = drives
+drives_after (ProxyAt places proxy routing bounds) drives = drives
+drives_after (LoopsAt places loops bounds) drives = drives ++ drive loops bounds ∷ []
 
 -- a place that is no terminal
 abbrev pub no_terminal : Screen
@@ -56,18 +70,22 @@ no_terminal = record { terminal = false; colours = false }
 pub record ServersView : Type 0 where
   -- where the output goes
   pub screen : Screen
+  -- how many threads run at once, as far as that was said
+  pub processors : ℕ
   -- the addresses that a socket was asked to listen at, in order
   pub listened : List SocketAddrV4
   -- the seeds that were drawn, in order
   pub seeds : List RandomState
-  -- the services that ran, in order
+  -- the services of threads that ran, in order
   pub runs : List Run
-  -- how often one couldn't begin, for want of a socket or of a seed
+  -- the services on loops that ran, in order
+  pub drives : List Drive
+  -- how often one couldn't begin, for want of a socket, of a seed or of what its loops need
   pub failures : ℕ
 
 -- nothing was asked of the machine yet, whose output goes to this place
 abbrev pub servers_on : Screen → ServersView
-servers_on screen = record { screen = screen; listened = []; seeds = []; runs = []; failures = 0 }
+servers_on screen = record { screen = screen; processors = 1; listened = []; seeds = []; runs = []; drives = []; failures = 0 }
 
 -- a count of failures after one thing that may fail
 abbrev pub failures_after : {A E : Type 0} → ℕ → Result A E → ℕ
@@ -84,6 +102,11 @@ abbrev pub DrawsSeed : ServersView → Result RandomState SeedFault → ServersV
 DrawsSeed old result new =
     new ≡ record old { seeds = seeds_after old.seeds result; failures = failures_after old.failures result }
 
+-- loops were driven within these bounds and are noted, or couldn't be and are counted as a failure
+abbrev pub noted_drive : List LoopView → DriverBounds → Result ℕ OpenFault → ServersView → ServersView
+noted_drive loops bounds (Ok served) s = record s { drives = s.drives ++ drive loops bounds ∷ [] }
+noted_drive loops bounds (Err fault) s = record s { failures = s.failures + 1 }
+
 -- a socket was asked for at the address of clients, and then one at that of metrics, if there is one
 abbrev pub ListensAtBoth : List ℕ → Option (List ℕ) → List SocketAddrV4 → List SocketAddrV4 → Type 0
 ListensAtBoth listen None old new = Listens listen old new
@@ -92,7 +115,8 @@ ListensAtBoth listen (Some metrics) old new = (between : List SocketAddrV4) × L
 -- a service ran at sockets of its own, and so many of its clients ended without a fault
 pub record Ran (asked : Asked) (old : ServersView) (served : ℕ) (new : ServersView) : Type 0 where
   pub listens : ListensAtBoth (places_of asked).listen (places_of asked).metrics old.listened new.listened
-  pub ran : new.runs ≡ old.runs ++ run_of asked ∷ []
+  pub ran : new.runs ≡ runs_after asked old.runs
+  pub driven : new.drives ≡ drives_after asked old.drives
   pub among : served ≤ clients_of asked
 
 -- no socket listens at the address that a text is, which was asked for once, or not at all since it is none
@@ -108,13 +132,21 @@ LacksMetrics listen (Some metrics) old new = (between : List SocketAddrV4) × Li
 abbrev pub LacksPlace : Places → OpenFault → List SocketAddrV4 → List SocketAddrV4 → Type 0
 LacksPlace places Net old new = LacksSocket places.listen old new
 LacksPlace places Metrics old new = LacksMetrics places.listen places.metrics old new
+LacksPlace places OutOfMemory old new = ⊥
 
--- a service lacked a socket, and didn't run
+-- the sockets of a proxy on loops were had, and its loops couldn't be opened: for want of memory, or for anything else
+abbrev pub LacksLoops : Asked → OpenFault → List SocketAddrV4 → List SocketAddrV4 → Type 0
+LacksLoops (LoopsAt places loops bounds) Net old new = ListensAtBoth places.listen places.metrics old new
+LacksLoops (LoopsAt places loops bounds) OutOfMemory old new = ListensAtBoth places.listen places.metrics old new
+LacksLoops asked fault old new = ⊥
+
+-- a service lacked a socket, or what its loops need, and didn't run
 pub record RanNot (asked : Asked) (old : ServersView) (fault : OpenFault) (new : ServersView) : Type 0 where
-  pub lacks : LacksPlace (places_of asked) fault old.listened new.listened
+  pub lacks : LacksPlace (places_of asked) fault old.listened new.listened ⊎ LacksLoops asked fault old.listened new.listened
   pub none_ran : new.runs ≡ old.runs
+  pub none_driven : new.drives ≡ old.drives
 
--- the service ran, or it had no socket and didn't
+-- the service ran, or it lacked something and didn't
 abbrev pub RunsSo : Asked → ServersView → Result ℕ OpenFault → ServersView → Type 0
 RunsSo asked old (Ok served) new = Ran asked old served new
 RunsSo asked old (Err fault) new = RanNot asked old fault new
@@ -123,5 +155,6 @@ RunsSo asked old (Err fault) new = RanNot asked old fault new
 pub record IsOneService (asked : Asked) (old : ServersView) (result : Result ℕ OpenFault) (new : ServersView) : Type 0 where
   pub runs : RunsSo asked old result new
   pub on : new.screen ≡ old.screen
+  pub processors : new.processors ≡ old.processors
   pub undrawn : new.seeds ≡ old.seeds
   pub counted : new.failures ≡ failures_after old.failures result

@@ -1,24 +1,30 @@
 //! The services of this machine.
-ghost use Rattle.std.specs.Prelude.{◌≡◌};
+ghost use Rattle.std.specs.Prelude.{◌≡◌, option_map};
 ghost use Rattle.mr_proxy.specs.ProxyView.{IsFresh};
-ghost use Rattle.mr_servers.specs.Servers.{DrawsSeed, IsOneService, NodeAt, ProxyAt, clients_at, told_at};
+ghost use Rattle.mr_servers.specs.Servers.{DrawsSeed, IsOneService, NodeAt, ProxyAt, LoopsAt, clients_at, noted_drive, told_at};
 
 use crate::asking::{metrics_at, stats_at};
+use crate::drives::GhostDrives;
+use crate::driving::drive;
 use crate::fault::{OpenFault, SeedFault};
+use crate::listening::MachineListens;
 use crate::screen::Screen;
 use crate::seeds::GhostSeeds;
 use crate::told_node::run_told_node;
-use crate::told_proxy::run_told_proxy;
-use mr_counting::{LegTotals, NodeIdentity};
+use mr_counting::NodeIdentity;
+use mr_driver::DriverBounds;
+use mr_loop::ProxyLoop;
 use mr_pools::Routing;
 use mr_proxy::ProxyCore;
-use mr_sockets::{GhostRuns, HostListens, SeededNode, ServiceBounds, open, run_node, run_proxy};
+use mr_sockets::{GhostRuns, SeededNode, ServiceBounds, open, run_node, run_proxy};
 use mr_text::GhostCount;
 use std::alloc::{AllocError, Global};
 use std::hash::RandomState;
+use std::io::Stderr;
 use std::marker::Model;
 use std::net::{Net, TcpListener, TcpStream};
 use std::random::RandomSource;
+use std::snapshot::Snapshot;
 use std::sync::Wait;
 use std::thread::Threads;
 use std::time::{Duration, Instant, SystemTime, UNIX_EPOCH};
@@ -33,8 +39,21 @@ pub struct Scraped<'a> {
     pub version: &'a str,
 }
 
+/// What a proxy on loops tells of itself, and where.
+#[derive(Clone, Copy, Debug)]
+pub struct Telling<'a> {
+    /// The version of the program.
+    pub version: &'a str,
+    /// The SHA-256 of its configuration as transcripts write it, in hexadecimal digits.
+    pub config: &'a str,
+    /// Where those that scrape its metrics connect, if they are told: a host and a port, with a colon between them.
+    pub metrics: Option<&'a str>,
+    /// Whether nothing is said on standard error of what happens to it.
+    pub quiet: bool,
+}
+
 /// The moment now, by a clock that never goes back; None where it gives no reading.
-fn moment_now<R: time::Clock>(rt: &R) -> Option<Instant> {
+pub(crate) fn moment_now<R: time::Clock>(rt: &R) -> Option<Instant> {
     match Instant::now(rt) {
         Ok(now) => Some(now),
         Err(_) => None,
@@ -54,10 +73,13 @@ pub struct HostServers<
 > {
     rt: &'a R,
     screen: Screen,
+    processors: u64,
+    voice: Option<Stderr>,
     begun: Option<Instant>,
-    listens: HostListens<'a, R>,
+    listens: MachineListens<'a, R>,
     seeds: GhostSeeds,
     runs: GhostRuns,
+    drives: GhostDrives,
     failures: GhostCount,
 }
 
@@ -74,10 +96,13 @@ impl<
         let Self {
             rt: _,
             screen: _,
+            processors: _,
+            voice: _,
             begun: _,
             listens: _,
             seeds: _,
             runs: _,
+            drives: _,
             failures: _,
         } = self;
     }
@@ -96,7 +121,7 @@ impl<
 
     ghost Value = { ServersView };
 
-    ghost view = { λ s. record { screen = s.screen; listened = s.listens; seeds = s.seeds; runs = s.runs; failures = s.failures } };
+    ghost view = { λ s. record { screen = s.screen; processors = s.processors; listened = s.listens; seeds = s.seeds; runs = s.runs; drives = s.drives; failures = s.failures } };
 }
 
 impl<
@@ -110,7 +135,8 @@ impl<
 > HostServers<'a, R> {
     ghost use Rattle.mr_servers.specs.Servers.{no_terminal, servers_on};
 
-    /// The sockets, threads, time and random source of a machine, of which nothing was asked yet. Its output goes to no terminal.
+    /// The sockets, threads, time and random source of a machine, of which nothing was asked yet. Its output goes to no terminal, and
+    /// it runs one thread at a time. Nothing is said of what happens to services.
     pub fn new(rt: &'a R) -> HostServers<'a, R>
         ensures { result ≡ servers_on no_terminal }
     {
@@ -120,10 +146,13 @@ impl<
                 terminal: false,
                 colours: false,
             },
+            processors: 1,
+            voice: None,
             begun: moment_now(rt),
-            listens: HostListens::new(rt),
+            listens: MachineListens::new(rt),
             seeds: GhostSeeds::new(),
             runs: GhostRuns::new(),
+            drives: GhostDrives::new(),
             failures: GhostCount::new(),
         }
     }
@@ -141,6 +170,34 @@ impl<
         ensures { result ≡ self.now.screen }
     {
         self.screen
+    }
+
+    /// The same, of a machine that runs so many threads at once.
+    pub fn with_processors(mut self, processors: u64) -> HostServers<'a, R>
+        ensures { result ≡ record self.entry { processors = processors } }
+    {
+        self.processors = processors;
+        self
+    }
+
+    /// The same, of which it is said there what happens to services that aren't quiet. Contracts don't see that.
+    pub fn saying(mut self, voice: Stderr) -> HostServers<'a, R>
+        ensures { result ≡ self.entry }
+    {
+        self.voice = Some(voice);
+        self
+    }
+
+    /// Where it is said what happens to a service, unless that is quiet.
+    fn voice_of(&self, telling: Telling<'_>) -> Option<Stderr> {
+        if telling.quiet { None } else { self.voice }
+    }
+
+    /// How many threads the machine runs at once, as far as that was said.
+    pub fn processors(&self) -> u64
+        ensures { result ≡ self.now.processors }
+    {
+        self.processors
     }
 
     /// What a service tells of itself at an address: a host and a port, with a colon between them. It is asked for a second at
@@ -287,46 +344,65 @@ impl<
         Ok(served)
     }
 
-    /// Serves a proxy as `serve_proxy` does, and tells its metrics to those that scrape them, with the digest of its
-    /// configuration. Metrics where their address is none or no socket listens there. What becomes of its
-    /// legs is counted in these totals.
-    pub fn tell_proxy(
+    /// Serves a proxy at an address by a loop for each of these machines, by the machine's time, and tells its metrics to those that
+    /// scrape them, if it is said where. Gives how many of the clients ended without a fault, once all have. The first of these faults
+    /// that there is: Net where the address is none or no socket listens there, Metrics the same of the metrics' address, OutOfMemory
+    /// where memory is refused for the loops, Net where they can't be opened for anything else, as for want of descriptors.
+    pub fn drive_proxy(
         &mut self,
         alloc: Global,
         listen: &str,
-        scraped: Scraped<'_>,
-        config: &str,
-        core: ProxyCore,
-        routing: &Routing,
-        legs: LegTotals,
-        bounds: ServiceBounds,
+        telling: Telling<'_>,
+        machines: Vec<ProxyLoop>,
+        bounds: DriverBounds,
     ) -> Result<u64, OpenFault>
-        requires { IsFresh core }
-        ensures { IsOneService (ProxyAt (told_at listen.now scraped.entry.address.now) core routing.now bounds)
+        ensures { IsOneService
+            (LoopsAt (record { listen = listen.now; metrics = option_map (λ m. m.now) telling.entry.metrics }) machines.items bounds)
             self.old result self.new }
     {
-        let wait = bounds.patience.for_client();
-        let Some(listener) = open(&mut self.listens, listen, wait) else {
+        let Some(listener) = self.listens.open_queue(listen) else {
             self.failures.add_one();
             return Err(OpenFault::Net);
         };
-        let Some(scrapers) = open(&mut self.listens, scraped.address, None) else {
-            self.failures.add_one();
-            return Err(OpenFault::Metrics);
+        let scrapers = match telling.metrics {
+            Some(metrics) => match open(&mut self.listens, metrics, None) {
+                Some(scrapers) => Some(scrapers.into_socket()),
+                None => {
+                    self.failures.add_one();
+                    return Err(OpenFault::Metrics);
+                }
+            },
+            None => None,
         };
-        let served = run_told_proxy(
+        let began = Snapshot::of(&machines);
+        let served = drive(
             self.rt,
             alloc,
-            listener,
+            self.voice_of(telling),
+            listen,
+            &listener,
             scrapers,
-            scraped.version,
-            config,
-            core,
-            routing,
-            legs,
+            telling,
+            machines,
             bounds,
-            &mut self.runs,
         );
-        Ok(served)
+        self.note_drive(began, bounds, served)
+    }
+
+    /// Notes that loops were driven, or that they couldn't be.
+    fn note_drive(
+        &mut self,
+        began: Snapshot<Vec<ProxyLoop>>,
+        bounds: DriverBounds,
+        served: Result<u64, OpenFault>,
+    ) -> Result<u64, OpenFault>
+        ensures given { result ≡ served }
+        ensures noted { self.new ≡ noted_drive began.value.items bounds served self.old }
+    {
+        match served {
+            Ok(_) => self.drives.add(began, bounds),
+            Err(_) => self.failures.add_one(),
+        }
+        served
     }
 }

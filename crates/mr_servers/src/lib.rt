@@ -2,17 +2,24 @@
 //! without; and what a watch asks of the machine.
 #![tactic(auto)]
 
+mod addresses;
 mod asking;
+mod drives;
+mod driving;
 mod fault;
+mod hearing;
 mod host_servers;
+mod listening;
+mod loop_teller;
+mod reports;
+mod saying;
 mod scrapes;
 mod screen;
 mod seeds;
 mod telling;
 mod told_node;
-mod told_proxy;
 mod until;
 
 pub use fault::{OpenFault, SeedFault};
-pub use host_servers::{HostServers, Scraped};
+pub use host_servers::{HostServers, Scraped, Telling};
 pub use screen::Screen;

@@ -54,7 +54,7 @@ impl ScrapeState {
     }
 
     /// Whether no scraper is served any more.
-    fn has_ended(&self) -> bool {
+    pub(crate) fn has_ended(&self) -> bool {
         self.ended.load(Ordering::SeqCst) != 0
     }
 

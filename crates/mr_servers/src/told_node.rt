@@ -110,7 +110,7 @@ pub(crate) fn run_told_node<R: Threads + Wait + time::Clock + Sync>(
         began: &began,
         turns: bounds.turns,
         clock: &clock,
-        watch: &counts.watch,
+        watch: &counts.time.watch,
     };
     let service = CountedService::new(service, &counts);
     let teller = NodeTeller {

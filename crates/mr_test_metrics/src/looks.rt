@@ -44,7 +44,7 @@ fn traffic_of(words: &mut Words<'_>) -> Result<Traffic, Fail> {
         requests: words.number()?,
         hits: words.number()?,
         lost: words.number()?,
-        busy: words.number()?,
+        held_back: words.perhaps()?,
     })
 }
 

@@ -2,7 +2,7 @@
 use crate::nodes::Service;
 use crate::words::Words;
 use mr_metrics::{
-    AnswerCount, AnswerKind, Bucket, Command, LegCount, ProxySnapshot, RequestCount, Times,
+    AnswerCount, AnswerKind, Bucket, Command, LinkCount, ProxySnapshot, RequestCount, Times,
     proxy_metrics,
 };
 use mr_phases::PhaseName;
@@ -37,9 +37,8 @@ fn kind_of(number: u64) -> AnswerKind {
         3 => AnswerKind::Deleted,
         4 => AnswerKind::NotFound,
         5 => AnswerKind::LegLost,
-        6 => AnswerKind::Busy,
-        7 => AnswerKind::OutOfMemory,
-        8 => AnswerKind::ClockFault,
+        6 => AnswerKind::OutOfMemory,
+        7 => AnswerKind::ClockFault,
         _ => AnswerKind::OtherFault,
     }
 }
@@ -79,39 +78,48 @@ fn answers_of(alloc: Global, word: &str) -> Result<Vec<AnswerCount>, Fail> {
     Ok(rows)
 }
 
-/// A node of a row, with what became of legs to it.
+/// A node of a row, with what became of legs to it, and of links.
 #[derive(Drop)]
-struct Legs {
+struct Links {
     pool: u64,
     node: String,
     carried: u64,
     lost: u64,
+    up: u64,
+    breaks: u64,
+    dials: u64,
 }
 
-/// The counts of legs that a word says.
-fn legs_of(alloc: Global, word: &str) -> Result<Vec<Legs>, Fail> {
+/// The counts of nodes that a word says.
+fn links_of(alloc: Global, word: &str) -> Result<Vec<Links>, Fail> {
     let mut rows = Vec::new(alloc);
     for part in parts_of(alloc, word)? {
         let mut words = Words::of(alloc, part, ':')?;
-        rows.push(Legs {
+        rows.push(Links {
             pool: words.number()?,
             node: words.text(alloc)?,
             carried: words.number()?,
             lost: words.number()?,
+            up: words.number()?,
+            breaks: words.number()?,
+            dials: words.number()?,
         })?;
     }
     Ok(rows)
 }
 
 /// The same, lent.
-fn leg_counts<'a>(alloc: Global, legs: &'a [Legs]) -> Result<Vec<LegCount<'a>>, Fail> {
+fn link_counts<'a>(alloc: Global, links: &'a [Links]) -> Result<Vec<LinkCount<'a>>, Fail> {
     let mut rows = Vec::new(alloc);
-    for leg in legs {
-        rows.push(LegCount {
-            pool: leg.pool,
-            node: leg.node.as_str(),
-            carried: leg.carried,
-            lost: leg.lost,
+    for link in links {
+        rows.push(LinkCount {
+            pool: link.pool,
+            node: link.node.as_str(),
+            carried: link.carried,
+            lost: link.lost,
+            up: link.up,
+            breaks: link.breaks,
+            dials: link.dials,
         })?;
     }
     Ok(rows)
@@ -137,25 +145,29 @@ pub fn told_of_proxy(alloc: Global, words: &mut Words<'_>) -> Result<Vec<u8>, Fa
     let config = words.text(alloc)?;
     let requests = requests_of(alloc, words.word()?)?;
     let answers = answers_of(alloc, words.word()?)?;
-    let legs = legs_of(alloc, words.word()?)?;
-    let legs = leg_counts(alloc, legs.as_slice())?;
+    let links = links_of(alloc, words.word()?)?;
+    let links = link_counts(alloc, links.as_slice())?;
     let buckets = buckets_of(alloc, words.word()?)?;
     let snapshot = ProxySnapshot {
         service: service.snapshot(version.as_str()),
         config: config.as_str(),
         requests: requests.as_slice(),
         answers: answers.as_slice(),
-        legs: legs.as_slice(),
+        links: links.as_slice(),
         leg_times: Times {
             buckets: buckets.as_slice(),
             micros: words.number()?,
         },
+        held_back: words.number()?,
         under_way: words.number()?,
         room: words.number()?,
         last_issue: words.perhaps()?,
         hop: words.number()?,
         phase: phase_of(words.number()?),
         next_phase: words.perhaps()?,
+        loops: words.number()?,
+        max_clients: words.number()?,
+        clients_wait: words.number()? == 1,
     };
     Ok(proxy_metrics(alloc, &snapshot)?)
 }

@@ -24,9 +24,10 @@ fn proxy_words(alloc: Global, told: &ProxyTold<'_>) -> Result<String, Fail> {
         told.steps_back, told.place.hop
     )?;
     let traffic = told.traffic;
+    let held_back = word_of(alloc, traffic.held_back)?;
     Ok(format!(in alloc;
-        "{front} {} {} {} {}",
-        traffic.requests, traffic.hits, traffic.lost, traffic.busy
+        "{front} {} {} {} {held_back}",
+        traffic.requests, traffic.hits, traffic.lost
     )?)
 }
 

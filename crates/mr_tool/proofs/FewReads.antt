@@ -17,7 +17,8 @@ use Rattle.mr_tool.specs.declared.ended.Ended.{Ended}
 use Rattle.mr_tool.specs.declared.ended.Ended.TheVariants.{Done, NotAccepted, Faulted}
 use Rattle.mr_tool.specs.declared.fault.Fault.{Fault}
 use Rattle.mr_tool.specs.declared.fault.Fault.TheVariants.{Memory, Input, Output, File, Net, Plan, Pools, Phases, Node, Text}
-use Rattle.mr_tool.specs.Services.{NodeGives, ProxyGives}
+use Rattle.mr_tool.specs.ProxyCommand.{ProxyGives}
+use Rattle.mr_tool.specs.Services.{NodeGives}
 use Rattle.mr_tool.specs.WatchCommand.{WatchGives}
 use Rattle.mr_servers.specs.Servers.{ServersView}
 use Rattle.mr_servers.specs.declared.screen.Screen.{Screen}

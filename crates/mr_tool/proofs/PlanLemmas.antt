@@ -1,11 +1,10 @@
 -- What comes of a plan, whichever form of words its configuration came by.
 use Rattle.std.proofs.Common.{◌≡◌, ◌∙◌, ap₂, refl, sym, ℕ, List, Result, Ok, Err}
-use Rattle.std.specs.Borrow.{Bor}
 use Rattle.mr_configs.specs.Config.{ConfigView}
 use Rattle.mr_phases.specs.Schedule.{Hop}
 use Rattle.mr_pools.specs.Routing.{RoutingView, routing_between}
 use Rattle.mr_tool.specs.Devices.{Devices}
-use Rattle.mr_tool.specs.PlanCommand.{GivesPlan, PlansBy}
+use Rattle.mr_tool.specs.PlanCommand.{GivesPlan}
 use Rattle.mr_tool.specs.PlanForms.{FormsAgree, with_files}
 use Rattle.mr_tool.specs.PlannedConfig.{SaysConfig, SaysPool}
 use Rattle.mr_tool.specs.Sources.{SourcesView}

@@ -26,8 +26,9 @@ use Rattle.mr_tool.specs.PlanCommand.{PlansBy}
 use Rattle.mr_tool.specs.PlannedConfig.{PlansConfig}
 use Rattle.mr_tool.specs.TimelineCommand.{WritesTimeline}
 use Rattle.mr_tool.specs.Run.{Gives, EndsWith, RunsCommand, RunsNothing, Runs, TellsWrongWords}
-use Rattle.mr_tool.specs.Services.{EndsService, NodeGives, ProxyGives, RunsService}
-use Rattle.mr_servers.specs.Servers.{Asked, IsOneService, ServersView, clients_of, places_of}
+use Rattle.mr_tool.specs.ProxyCommand.{ProxyGives}
+use Rattle.mr_tool.specs.Services.{EndsService, NodeGives, RunsService}
+use Rattle.mr_servers.specs.Servers.{Asked, IsOneService, Places, ServersView, clients_of, places_of}
 use Rattle.mr_servers.specs.declared.screen.Screen.{Screen}
 use Rattle.mr_servers.specs.declared.fault.OpenFault.{OpenFault}
 use Rattle.mr_tool.specs.Fault.{fault_line, fault_of_printing, readings_line}
@@ -93,14 +94,15 @@ text_steady makes file ended before between h silent =
     record { sources = steady.sources; input = steady.input; output = h.writes.0.steady; faults = ap (λ (s : SinkView). s.failures) silent }
 
 -- a service that came to its end had no failure
-ended_service : (asked : Asked) (ended : Ended) (served : Result ℕ OpenFault) (old new : SinkView) (idle busy : ServersView) → IsOneService asked idle served busy
-    → EndsService (places_of asked) (clients_of asked) served old new (Ok ended) → (busy.failures ≡ idle.failures) × (new.failures ≡ old.failures)
-ended_service asked ended (Ok count) old new idle busy serves ends = (serves.counted, ends.0.0.steady)
-ended_service asked ended (Err fault) old new idle busy serves ends = absurd ends
+ended_service : (asked : Asked) (places : Places) (clients : ℕ) (ended : Ended) (served : Result ℕ OpenFault) (old new : SinkView) (idle busy : ServersView)
+    → IsOneService asked idle served busy → EndsService places clients served old new (Ok ended) → (busy.failures ≡ idle.failures) × (new.failures ≡ old.failures)
+ended_service asked places clients ended (Ok count) old new idle busy serves ends = (serves.counted, ends.0.0.steady)
+ended_service asked places clients ended (Err fault) old new idle busy serves ends = absurd ends
 
 service_steady : (asked : Asked) (ended : Ended) (before between : Devices) (idle busy : ServersView) → RunsService asked before between idle busy (Ok ended)
     → (busy.failures ≡ idle.failures) × (between.output.failures ≡ before.output.failures)
-service_steady asked ended before between idle busy h = ended_service asked ended h.served before.output between.output idle busy h.serves h.ends
+service_steady asked ended before between idle busy h =
+    ended_service asked (places_of asked) (clients_of asked) ended h.served before.output between.output idle busy h.serves h.ends
 
 -- no device failed, and no service
 abbrev AllSteady : Devices → Devices → ServersView → ServersView → Type 0
@@ -125,7 +127,7 @@ node_steady values ended before between idle busy h silent =
 proxy_steady : (values : ProxyValues) (ended : Ended) (before between : Devices) (idle busy : ServersView) → ProxyGives values before between idle busy (Ok ended)
     → between.faults ≡ before.faults → AllSteady before between idle busy
 proxy_steady values ended before between idle busy h silent =
-    let steady = service_steady _ ended before between idle busy h.runs in (
+    let steady = ended_service _ _ _ ended h.served before.output between.output idle busy h.serves h.ends in (
       record {
         sources = config_steady values.config.now before.sources between.sources h.config h.has.loaded;
         input = ap (λ (s : SourceView). s.failures) h.has.unread;

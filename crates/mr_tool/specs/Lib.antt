@@ -11,6 +11,7 @@ pub mod PlanForms
 pub mod PlannedConfig
 pub mod PlannedSteps
 pub mod Program
+pub mod ProxyCommand
 pub mod Run
 pub mod RunCommand
 pub mod Services

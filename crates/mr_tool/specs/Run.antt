@@ -9,7 +9,8 @@ use Rattle.mr_tool.specs.Fault.{fault_line, readings_line}
 use Rattle.mr_tool.specs.Input.{most_reads, most_taken}
 use Rattle.mr_tool.specs.PlanCommand.{PlanGives}
 use Rattle.mr_tool.specs.RunCommand.{RunGives}
-use Rattle.mr_tool.specs.Services.{NodeGives, ProxyGives}
+use Rattle.mr_tool.specs.ProxyCommand.{ProxyGives}
+use Rattle.mr_tool.specs.Services.{NodeGives}
 use Rattle.mr_tool.specs.TimelineCommand.{TimelineGives}
 use Rattle.mr_tool.specs.UpgradeCommand.{UpgradeGives}
 use Rattle.mr_tool.specs.VersionCommand.{VersionGives}

@@ -1,29 +1,24 @@
--- What the commands `node` and `proxy` do.
-use Rattle.std.specs.Prelude.{◌≡◌, ◌==◌, ◌≤◌, ◌⊎◌, ℕ, List, ◌++◌, Some, Result, Ok, Err, codes, decimal, string_bytes, if◌then◌else◌}
+-- What the commands that serve clients do, and what the command `node` does.
+use Rattle.std.specs.Prelude.{◌≡◌, ◌==◌, ◌≤◌, ℕ, List, ◌++◌, Some, Result, Ok, Err, codes, decimal, string_bytes, if◌then◌else◌}
 use Rattle.std.specs.declared.random_state.RandomState.{RandomState}
-use Rattle.mr_configs.specs.Config.{ConfigView}
 use Rattle.mr_node.specs.declared.error.NodeError.{NodeError}
 use Rattle.mr_node.specs.declared.error.NodeError.TheVariants.{ZeroCapacity, OutOfMemory}
-use Rattle.mr_proxy.specs.ProxyView.{ProxyView, fresh_proxy}
 use Rattle.mr_sockets.specs.SeededNode.{SeededView, IsSeededNode}
-use Rattle.mr_servers.specs.Servers.{Asked, NodeAt, ProxyAt, ServersView, DrawsSeed, IsOneService, Places, places_of, clients_of}
+use Rattle.mr_servers.specs.Servers.{Asked, NodeAt, ServersView, DrawsSeed, IsOneService, Places, places_of, clients_of}
 use Rattle.mr_sockets.specs.declared.bounds.ServiceBounds.{ServiceBounds}
 use Rattle.mr_servers.specs.declared.fault.OpenFault.{OpenFault}
 use Rattle.mr_servers.specs.declared.fault.OpenFault.TheVariants as socket
 use Rattle.mr_servers.specs.declared.fault.SeedFault.{SeedFault}
 use Rattle.mr_text.specs.Sink.{SinkView, IsOneWrite}
 use Rattle.mr_text.specs.declared.error.WriteFault.{WriteFault}
-use Rattle.mr_tool.specs.Input.{LoadsConfig}
 use Rattle.mr_tool.specs.Devices.{Devices}
 use Rattle.mr_tool.specs.Fault.{net_line}
-use Rattle.mr_tool.specs.PlanCommand.{LacksConfig}
 use Rattle.mr_tool.specs.declared.ended.Ended.{Ended}
 use Rattle.mr_tool.specs.declared.ended.Ended.TheVariants.{Done, Faulted}
 use Rattle.mr_tool.specs.declared.fault.Fault.{Fault}
-use Rattle.mr_tool.specs.declared.fault.Fault.TheVariants.{Memory, Input, Output, File, Net, Plan, Node}
+use Rattle.mr_tool.specs.declared.fault.Fault.TheVariants.{Memory, Input, Output, Net, Node}
 use Rattle.mr_words.specs.Words.{path_in}
 use Rattle.mr_words.specs.declared.service_words.NodeValues.{NodeValues}
-use Rattle.mr_words.specs.declared.service_words.ProxyValues.{ProxyValues}
 
 -- the line that says how many clients ended without a fault
 abbrev pub served_line : ℕ → List ℕ
@@ -33,13 +28,14 @@ served_line served = codes "served " ++ (decimal served ++ codes "\n")
 abbrev pub end_of_service : ℕ → ℕ → Ended
 end_of_service clients served = if served == clients then Done else Faulted
 
--- the line of a socket that was not had names its address: that of clients, or that of metrics
+-- the line of a socket that was not had names its address: that of clients, or that of metrics; where memory was refused there is none
 abbrev pub LacksSocketAt : Places → OpenFault → List ℕ → Type 0
 LacksSocketAt places socket.Net line = line ≡ net_line places.listen
 LacksSocketAt places socket.Metrics line = (metrics : List ℕ) × (places.metrics ≡ Some metrics) × (line ≡ net_line metrics)
+LacksSocketAt places socket.OutOfMemory line = ⊥
 
--- What comes of a service at its addresses once it has ended. The line of it is handed over in one call; where it lacked a socket,
--- or memory is refused for a line, nothing is written.
+-- What comes of a service at its addresses once it has ended. The line of it is handed over in one call; where it lacked a socket or
+-- memory, or memory is refused for a line, nothing is written.
 abbrev pub EndsService : Places → ℕ → Result ℕ OpenFault → SinkView → SinkView → Result Ended Fault → Type 0
 EndsService places clients (Ok served) old new (Ok ended) = IsOneWrite (served_line served) old (Ok tt) new × (ended ≡ end_of_service clients served)
 EndsService places clients (Ok served) old new (Err Output) = (fault : WriteFault) × IsOneWrite (served_line served) old (Err fault) new
@@ -102,51 +98,3 @@ abbrev pub NodeGives : NodeValues → Devices → Devices → ServersView → Se
 NodeGives values before after idle busy (Err (Node refusal)) = LacksNode values.capacity refusal idle busy × (after ≡ before)
 NodeGives values before after idle busy (Err Input) = LacksSeed values.capacity idle busy × (after ≡ before)
 NodeGives values before after idle busy result = RunsNode values before after idle busy result
-
--- the configuration of a proxy was had, by one load, and nothing is read
-pub record HasConfig (values : ProxyValues) (config : ConfigView) (before after : Devices) : Type 0 where
-  pub loaded : LoadsConfig values.config.now before.sources (Ok config) after.sources
-  pub unread : after.input ≡ before.input
-
--- the proxy of a configuration that has accepted nothing yet, with room for so many requests
-abbrev pub proxy_of : ConfigView → ℕ → ProxyView
-proxy_of config room = fresh_proxy 0 0 config.routing config.schedule room
-
--- the same of a proxy, and how long it waits for a leg
-abbrev pub bounds_of_proxy : ProxyValues → ServiceBounds
-bounds_of_proxy values = record {
-  clients = values.clients;
-  turns = values.turns;
-  patience = record { client_seconds = values.idle_timeout; leg_millis = values.leg_timeout };
-}
-
--- where a proxy listens
-abbrev pub places_of_proxy : ProxyValues → Places
-places_of_proxy values = record { listen = values.listen.now; metrics = path_in values.metrics }
-
--- a fresh proxy by the configuration was served
-pub record RunsProxy (values : ProxyValues) (before after : Devices) (idle busy : ServersView) (result : Result Ended Fault) : Type 0 where
-  pub config : ConfigView
-  pub has : HasConfig values config before after
-  pub runs : RunsService (ProxyAt (places_of_proxy values) (proxy_of config values.room) config.routing (bounds_of_proxy values))
-      before after idle busy result
-
--- memory was refused once the configuration was had, and no service was asked for
-pub record LacksProxy (values : ProxyValues) (before after : Devices) (idle busy : ServersView) : Type 0 where
-  pub config : ConfigView
-  pub has : HasConfig values config before after
-  pub unwritten : after.output ≡ before.output
-  pub unasked : busy ≡ idle
-
--- there was no configuration, for this fault, and no service was asked for
-abbrev pub RefusesProxy : ProxyValues → Fault → Devices → Devices → ServersView → ServersView → Type 0
-RefusesProxy values fault before after idle busy = LacksConfig values.config.now fault before after × (busy ≡ idle)
-
--- What the command `proxy` does. It serves a fresh proxy, or finds the first of the faults in this order: the file, the
--- configuration, memory, the sockets, the output.
-abbrev pub ProxyGives : ProxyValues → Devices → Devices → ServersView → ServersView → Result Ended Fault → Type 0
-ProxyGives values before after idle busy (Err (File line)) = RefusesProxy values (File line) before after idle busy
-ProxyGives values before after idle busy (Err (Plan refusal)) = RefusesProxy values (Plan refusal) before after idle busy
-ProxyGives values before after idle busy (Err Memory) =
-    RefusesProxy values Memory before after idle busy ⊎ LacksProxy values before after idle busy ⊎ RunsProxy values before after idle busy (Err Memory)
-ProxyGives values before after idle busy result = RunsProxy values before after idle busy result

@@ -11,6 +11,7 @@ mod fault;
 mod input;
 pub mod laws;
 mod planned;
+mod proxies;
 mod run;
 mod script_text;
 mod services;
@@ -23,8 +24,8 @@ pub use input::MOST_CONFIG_BYTES;
 pub use mr_printing::{PrintFault, write_plan};
 pub use mr_sockets::{SocketCarrier, serve_node, serve_proxy};
 pub use mr_words::{
-    MigrationWords, NodeValues, PlanValues, Planned, ProxyValues, TimelineValues, Wanted,
-    WatchValues, WordsFault, read_words,
+    LoopValues, MigrationWords, NodeValues, PlanValues, Planned, ProxyValues, TimelineValues,
+    Wanted, WatchValues, WordsFault, read_words,
 };
 pub use run::{DONE, FAULT, NOT_ACCEPTED, WRONG_WORDS, run_words};
 pub use sources::{HostFiles, LoadFault, MOST_LOADED, Sources};

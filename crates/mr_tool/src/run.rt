@@ -13,7 +13,8 @@ use crate::commands::{
 };
 use crate::ended::Ended;
 use crate::fault::Fault;
-use crate::services::{run_node, run_proxy};
+use crate::proxies::run_proxy;
+use crate::services::run_node;
 use crate::sources::Sources;
 use crate::watch::run_watch;
 use mr_servers::HostServers;

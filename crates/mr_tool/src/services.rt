@@ -1,28 +1,22 @@
-//! The commands that serve clients: what is asked of the machine, and what is printed once all clients have ended.
-ghost use Rattle.std.specs.Prelude.{◌≡◌, Err, IfOk, IsSome, MatchResult};
-ghost use Rattle.mr_proxy.specs.ProxyView.{IsFresh};
-ghost use Rattle.mr_servers.specs.Servers.{IsOneService, ProxyAt};
+//! The commands that serve clients: what is printed once all of them have ended, and the command that serves a node.
+ghost use Rattle.std.specs.Prelude.{◌≡◌, Err, IfOk, IsSome};
 ghost use Rattle.mr_text.specs.Sink.{SinkView};
 ghost use Rattle.mr_text.specs.Source.{SourceView};
 ghost use Rattle.mr_tool.specs.Devices.{devices};
 ghost use Rattle.mr_tool.specs.Fault.{IsNetFault};
-ghost use Rattle.mr_tool.specs.Services.{served_line, EndsService, MakesNode, NodeGives, ProxyGives, places_of_proxy};
+ghost use Rattle.mr_tool.specs.Services.{served_line, EndsService, MakesNode, NodeGives};
 ghost use Rattle.mr_tool.specs.Sources.{SourcesView};
 ghost use Rattle.mr_words.specs.Version.{told_number};
 ghost use Rattle.mr_words.specs.Words.{path_in};
 
 use crate::ended::Ended;
 use crate::fault::Fault;
-use crate::input::{LoadedConfig, load_whole_config};
-use crate::sources::Sources;
-use mr_counting::LegTotals;
 use mr_node::NodeError;
 use mr_printing::{push_number, write_at_once};
-use mr_proxy::ProxyCore;
 use mr_servers::{HostServers, OpenFault, Scraped};
 use mr_sockets::{Patience, SeededNode, ServiceBounds};
 use mr_text::Sink;
-use mr_words::{NodeValues, ProxyValues, version_number};
+use mr_words::{NodeValues, version_number};
 use std::alloc::{AllocError, Global};
 use std::net::{Net, TcpListener, TcpStream};
 use std::random::RandomSource;
@@ -51,8 +45,8 @@ fn line_of(alloc: Global, served: u64) -> Result<Vec<u8>, AllocError>
     Ok(text)
 }
 
-/// Writes what came of a service: how many of its clients ended without a fault, or which socket it lacked.
-fn end_service<O: Sink>(
+/// Writes what came of a service: how many of its clients ended without a fault, or which socket it lacked, or that it lacked memory.
+pub(crate) fn end_service<O: Sink>(
     alloc: Global,
     listen: &str,
     metrics: Option<&str>,
@@ -68,6 +62,7 @@ fn end_service<O: Sink>(
         Ok(served) => served,
         Err(OpenFault::Net) => return Err(net_fault(alloc, listen)),
         Err(OpenFault::Metrics) => return Err(net_fault(alloc, metrics.unwrap_or(listen))),
+        Err(OpenFault::OutOfMemory) => return Err(Fault::Memory),
     };
     let line = line_of(alloc, served)?;
     write_at_once(line.as_slice(), output)?;
@@ -142,91 +137,6 @@ pub fn run_node<
             servers.tell_node(alloc, values.listen, scraped_at(address), node, bounds)
         }
     };
-    end_service(
-        alloc,
-        values.listen,
-        values.metrics,
-        values.clients,
-        served,
-        output,
-    )
-}
-
-/// Serves a fresh proxy by this configuration where the values say, and tells its metrics if they say where. Memory is refused for
-/// the digest of the configuration or for counts of its nodes, and then no service was asked for.
-fn serve_loaded<
-    R: Net<Listener = TcpListener, Stream = TcpStream>
-        + Threads
-        + Wait
-        + time::Clock
-        + RandomSource
-        + Sync,
->(
-    alloc: Global,
-    values: &ProxyValues,
-    servers: &mut HostServers<'_, R>,
-    loaded: &LoadedConfig,
-    core: ProxyCore,
-    bounds: ServiceBounds,
-) -> Result<Result<u64, OpenFault>, Fault>
-    requires { IsFresh core }
-    ensures { MatchResult result
-        (λ served. IsOneService (ProxyAt (places_of_proxy values.now) core loaded.now.config.routing bounds)
-        servers.old served servers.new)
-        (λ fault. (fault ≡ Fault.Memory) × (servers.new ≡ servers.old)) }
-{
-    let routing = loaded.config().routing();
-    let Some(address) = values.metrics else {
-        return Ok(servers.serve_proxy(alloc, values.listen, core, routing, bounds));
-    };
-    let digest = loaded.digest(alloc)?;
-    let legs = LegTotals::new(alloc, routing)?;
-    Ok(servers.tell_proxy(
-        alloc,
-        values.listen,
-        scraped_at(address),
-        digest.as_str(),
-        core,
-        routing,
-        legs,
-        bounds,
-    ))
-}
-
-/// Serves a proxy by the configuration in a file, and writes how many of its clients ended without a fault once all have.
-pub fn run_proxy<
-    R: Net<Listener = TcpListener, Stream = TcpStream>
-        + Threads
-        + Wait
-        + time::Clock
-        + RandomSource
-        + Sync,
-    S: Sources,
-    O: Sink,
->(
-    alloc: Global,
-    values: &ProxyValues,
-    servers: &mut HostServers<'_, R>,
-    sources: &mut S,
-    output: &mut O,
-) -> Result<Ended, Fault>
-    ensures { (input : SourceView) (faults : SinkView) → ProxyGives values.now
-        (devices (S.told sources.old) input (O.told output.old) faults)
-        (devices (S.told sources.new) input (O.told output.new) faults) servers.old servers.new result }
-{
-    let loaded = load_whole_config(alloc, values.config, sources)?;
-    let config = loaded.config();
-    let routing = config.routing().copy()?;
-    let core = ProxyCore::new(alloc, 0, 0, routing, config.schedule(), values.room);
-    let bounds = ServiceBounds {
-        clients: values.clients,
-        turns: values.turns,
-        patience: Patience {
-            client_seconds: values.idle_timeout,
-            leg_millis: values.leg_timeout,
-        },
-    };
-    let served = serve_loaded(alloc, values, servers, &loaded, core, bounds)?;
     end_service(
         alloc,
         values.listen,

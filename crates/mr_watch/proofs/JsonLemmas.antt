@@ -24,7 +24,7 @@ unreached_no_float address = refl
 
 reached_no_float : (address : List ℕ) (rate : Option ℕ) (told : ProxyTold) → has_float (reached_json address rate told) ≡ false
 unfolding reached_json
-reached_no_float address rate told = rw (perhaps_no_float told.clock, perhaps_no_float rate) refl
+reached_no_float address rate told = rw (perhaps_no_float told.clock, perhaps_no_float told.traffic.held_back, perhaps_no_float rate) refl
 
 told_no_float : (address : List ℕ) (rate : Option ℕ) (told : Option ProxyTold) → has_float (told_json address rate told) ≡ false
 told_no_float address rate None = unreached_no_float address

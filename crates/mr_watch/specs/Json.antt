@@ -67,9 +67,9 @@ reached_json address rate told = object
     (with_count (codes "lost") told.traffic.lost
     (with_count (codes "hop") told.place.hop
     (with_count (codes "hits") told.traffic.hits
+    (with_perhaps (codes "held_back") told.traffic.held_back
     (with_text (codes "digest") (printable told.digest.now)
     (with_perhaps (codes "clock") told.clock
-    (with_count (codes "busy") told.traffic.busy
     (with_text (codes "address") address no_members))))))))))
 
 -- a proxy by what it told, if it did

@@ -11,7 +11,7 @@ use Rattle.mr_watch.specs.declared.told.Traffic.{Traffic}
 
 -- what stands above
 unfoldable pub proxies_head : List ℕ
-proxies_head = codes "proxy                    phase           clock   req/s    hits    lost    busy\n"
+proxies_head = codes "proxy                    phase           clock   req/s    hits    lost    held\n"
 
 -- a phase in a column of thirteen
 abbrev pub phase_cell : Bool → PhaseName → List ℕ
@@ -30,7 +30,7 @@ clock_cell at (Some reading) = if nat_lt reading at then signed_cell (codes "-")
 -- what a proxy did, in the last columns of its line
 abbrev pub traffic_cells : Option ℕ → Traffic → List ℕ
 traffic_cells rate traffic =
-    perhaps_cell rate ++ (cell traffic.hits ++ (cell traffic.lost ++ (cell traffic.busy ++ codes "\n")))
+    perhaps_cell rate ++ (cell traffic.hits ++ (cell traffic.lost ++ (perhaps_cell traffic.held_back ++ codes "\n")))
 
 -- what stands behind the address
 abbrev pub proxy_cells : Bool → ℕ → Option ℕ → Option ProxyTold → List ℕ

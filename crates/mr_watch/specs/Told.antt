@@ -66,22 +66,22 @@ hits_in bytes = number_of (codes "migctl_proxy_answers_total{kind=\"hit\"} ") by
 abbrev pub lost_in : List ℕ → Option ℕ
 lost_in bytes = number_of (codes "migctl_proxy_answers_total{kind=\"leg lost\"} ") bytes
 
--- how many answers it gave of no room
-abbrev pub busy_in : List ℕ → Option ℕ
-busy_in bytes = number_of (codes "migctl_proxy_answers_total{kind=\"busy\"} ") bytes
+-- how often it held a request back, or that it doesn't tell
+abbrev pub held_back_in : List ℕ → Option (Option ℕ)
+held_back_in bytes = perhaps_number_of (codes "migctl_proxy_requests_held_back_total ") bytes
 
 -- what it did
-abbrev pub traffic_of : Option ℕ → Option ℕ → Option ℕ → Option ℕ → Option Traffic
-traffic_of None hits lost busy = None
-traffic_of (Some requests) None lost busy = None
-traffic_of (Some requests) (Some hits) None busy = None
+abbrev pub traffic_of : Option ℕ → Option ℕ → Option ℕ → Option (Option ℕ) → Option Traffic
+traffic_of None hits lost held_back = None
+traffic_of (Some requests) None lost held_back = None
+traffic_of (Some requests) (Some hits) None held_back = None
 traffic_of (Some requests) (Some hits) (Some lost) None = None
-traffic_of (Some requests) (Some hits) (Some lost) (Some busy) =
-    Some (record { requests = requests; hits = hits; lost = lost; busy = busy })
+traffic_of (Some requests) (Some hits) (Some lost) (Some held_back) =
+    Some (record { requests = requests; hits = hits; lost = lost; held_back = held_back })
 
 -- what it says that it did
 abbrev pub traffic_in : List ℕ → Option Traffic
-traffic_in bytes = traffic_of (requests_in bytes) (hits_in bytes) (lost_in bytes) (busy_in bytes)
+traffic_in bytes = traffic_of (requests_in bytes) (hits_in bytes) (lost_in bytes) (held_back_in bytes)
 
 -- the digest of its configuration
 abbrev pub digest_in : List ℕ → Option (List ℕ)

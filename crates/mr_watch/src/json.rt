@@ -123,9 +123,9 @@ fn reached_value<'a>(
         alloc,
         &[
             ("address", Part::Text(address)),
-            ("busy", Part::Count(told.traffic.busy)),
             ("clock", Part::Perhaps(told.clock)),
             ("digest", Part::Bytes(told.digest)),
+            ("held_back", Part::Perhaps(told.traffic.held_back)),
             ("hits", Part::Count(told.traffic.hits)),
             ("hop", Part::Count(told.place.hop)),
             ("lost", Part::Count(told.traffic.lost)),

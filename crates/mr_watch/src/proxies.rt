@@ -46,7 +46,7 @@ fn push_traffic(text: &mut Vec<u8>, rate: Option<u64>, traffic: &Traffic) -> Res
     push_perhaps_cell(text, rate)?;
     push_cell(text, traffic.hits)?;
     push_cell(text, traffic.lost)?;
-    push_cell(text, traffic.busy)?;
+    push_perhaps_cell(text, traffic.held_back)?;
     text.extend_from_slice(b"\n")?;
     Ok(())
 }
@@ -134,7 +134,7 @@ fn push_head(text: &mut Vec<u8>) -> Result<(), AllocError>
     ensures { OnOk result (text.new.items ≡ text.old.items ++ proxies_head) }
 {
     text.extend_from_slice(
-        b"proxy                    phase           clock   req/s    hits    lost    busy\n",
+        b"proxy                    phase           clock   req/s    hits    lost    held\n",
     )?;
     Ok(())
 }

@@ -1,6 +1,6 @@
 //! What the texts of services tell. Lines that aren't known are passed over, and so are texts of which a known line has no number.
 ghost use Rattle.std.specs.Prelude.{◌≡◌, option_copied, option_map};
-ghost use Rattle.mr_watch.specs.Told.{is_one, phase_head, tells_phase, phase_in, hop_in, next_phase_in, place_in, requests_in, hits_in, lost_in, busy_in, traffic_in, digest_in, clock_in, steps_back_in, proxy_said, proxy_in, address_in, node_items_in, node_hits_in, node_said, node_in, said, said_in};
+ghost use Rattle.mr_watch.specs.Told.{is_one, phase_head, tells_phase, phase_in, hop_in, next_phase_in, place_in, requests_in, hits_in, lost_in, held_back_in, traffic_in, digest_in, clock_in, steps_back_in, proxy_said, proxy_in, address_in, node_items_in, node_hits_in, node_said, node_in, said, said_in};
 
 use crate::lines::{label_of, number_of, perhaps_number_of, sum_of};
 use crate::told::{NodeTold, Place, ProxyTold, Told, Traffic};
@@ -98,11 +98,11 @@ fn lost_in(bytes: &[u8]) -> Option<u64>
     number_of(b"migctl_proxy_answers_total{kind=\"leg lost\"} ", bytes)
 }
 
-/// Answers that there was no room.
-fn busy_in(bytes: &[u8]) -> Option<u64>
-    ensures { result ≡ busy_in bytes.now }
+/// How often a request was held back; it may not be told.
+fn held_back_in(bytes: &[u8]) -> Option<Option<u64>>
+    ensures { result ≡ held_back_in bytes.now }
 {
-    number_of(b"migctl_proxy_answers_total{kind=\"busy\"} ", bytes)
+    perhaps_number_of(b"migctl_proxy_requests_held_back_total ", bytes)
 }
 
 /// What a proxy did.
@@ -113,7 +113,7 @@ fn traffic_in(bytes: &[u8]) -> Option<Traffic>
         requests: requests_in(bytes)?,
         hits: hits_in(bytes)?,
         lost: lost_in(bytes)?,
-        busy: busy_in(bytes)?,
+        held_back: held_back_in(bytes)?,
     })
 }
 

@@ -21,8 +21,8 @@ pub struct Traffic {
     pub hits: u64,
     /// Answers that a leg was lost.
     pub lost: u64,
-    /// Answers that there was no room.
-    pub busy: u64,
+    /// How often a request was held back; None where that isn't told, as by earlier versions.
+    pub held_back: Option<u64>,
 }
 
 /// What a proxy tells.

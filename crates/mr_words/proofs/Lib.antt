@@ -12,3 +12,4 @@ pub mod PlainExplain
 pub mod PlainWatch
 pub mod ReadLemmas
 pub mod WordLemmas
+pub mod LoopLemmas

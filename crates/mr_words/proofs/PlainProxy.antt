@@ -1,5 +1,5 @@
 -- That words which plainly say a proxy are read as it.
-use Rattle.std.proofs.Common.{◌≡◌, ap, inl, inr, refl, sym, subst, List, [], ◌∷◌, Some, codes}
+use Rattle.std.proofs.Common.{◌≡◌, ap, inl, inr, refl, sym, subst, true, false, List, [], ◌∷◌, Option, Some, None, codes}
 use Rattle.clap.proofs.OnLiterals.{clap_on_literals}
 use Rattle.clap.specs.Faults.{turn_fault}
 use Rattle.clap.specs.Kinds.{Kinds, or_else}
@@ -9,7 +9,8 @@ use Rattle.clap.specs.Words.{Row, Text, fault_of, subcommand_of}
 use Rattle.mr_words.proofs.PlainPlan.{IsTakenNumber, number_is_taken, value_taken}
 use Rattle.mr_words.proofs.PlainWalk.{IsPlainWord, IsWalked, Leads, after_walk, all_walked, asking, flag_before, no_words, option_before, plain_word, standing, with_flag, with_given, with_named}
 use Rattle.mr_words.specs.Command.{forever_rule, program_app, proxy_app}
-use Rattle.mr_words.specs.Words.{Say, SaysPlainly, path_in}
+use Rattle.mr_words.specs.Words.{AreLoopValues, HasLoopValues, LacksLoopValues, Say, SaysPlainly, is_on_loops, path_in, usual_loop_values}
+use Rattle.mr_words.specs.declared.loop_words.LoopValues.{LoopValues}
 use Rattle.mr_words.specs.declared.service_words.ProxyValues.{ProxyValues}
 use Rattle.mr_words.specs.declared.words.Wanted.TheVariants.{Proxy}
 
@@ -179,6 +180,14 @@ module _ (config listen room : Text) (config_plain : IsPlainWord config) (listen
   unfolding clap_on_literals
   forever_found = ap (λ (w : Walk). Some (codes "proxy", finished leaf.rules w.held)) forever_walked.ends
 
+-- rows of a proxy by threads, and of one on loops of which nothing is said
+by_threads : (rows : List Row) (values : Option LoopValues) → is_on_loops rows ≡ false → LacksLoopValues rows → values ≡ None → AreLoopValues rows values
+by_threads rows values threads lacks none = subst (AreLoopValues rows) (sym none) (threads, lacks)
+
+on_loops : (rows : List Row) (values : Option LoopValues) → is_on_loops rows ≡ true → HasLoopValues rows usual_loop_values → values ≡ Some usual_loop_values
+    → AreLoopValues rows values
+on_loops rows values loops has some = subst (AreLoopValues rows) (sym some) (loops, has)
+
 -- words that plainly say a proxy say it to `clap`
 pub proxy_said : (said : List Text) (values : ProxyValues) → SaysPlainly said (Proxy values) → Say said (Proxy values)
 proxy_said said values (inl says) =
@@ -193,7 +202,7 @@ proxy_said said values (inl says) =
         rows,
         subst (λ (w : List Text). subcommand_of program_app w ≡ Some (codes "proxy", rows)) (sym says.words_are)
             (short_found config listen config_plain listen_plain),
-        record { config_is = refl; listen_is = refl; room_is = says.room_is; clients_is = says.clients_is; turns_is = says.turns_is; leg_is = says.leg_is; idle_is = says.idle_is; metrics_is = sym (ap path_in says.metrics_is) },
+        record { config_is = refl; listen_is = refl; room_is = says.room_is; clients_is = says.clients_is; turns_is = says.turns_is; leg_is = says.leg_is; idle_is = says.idle_is; metrics_is = sym (ap path_in says.metrics_is); loops_are = by_threads rows values.on_loops refl (record { no_loops = refl; no_most = refl; no_quiet = refl }) says.loops_are },
       );
     }
 proxy_said said values (inr (inl says)) =
@@ -212,7 +221,7 @@ proxy_said said values (inr (inl says)) =
         rows,
         subst (λ (w : List Text). subcommand_of program_app w ≡ Some (codes "proxy", rows)) (sym says.words_are)
             (rows_found config listen says.room says.clients says.turns config_plain listen_plain room_taken clients_taken turns_taken),
-        record { config_is = refl; listen_is = refl; room_is = says.room_is; clients_is = says.clients_is; turns_is = says.turns_is; leg_is = says.leg_is; idle_is = says.idle_is; metrics_is = sym (ap path_in says.metrics_is) },
+        record { config_is = refl; listen_is = refl; room_is = says.room_is; clients_is = says.clients_is; turns_is = says.turns_is; leg_is = says.leg_is; idle_is = says.idle_is; metrics_is = sym (ap path_in says.metrics_is); loops_are = by_threads rows values.on_loops refl (record { no_loops = refl; no_most = refl; no_quiet = refl }) says.loops_are },
       );
     }
 proxy_said said values (inr (inr says)) =
@@ -229,6 +238,6 @@ proxy_said said values (inr (inr says)) =
         rows,
         subst (λ (w : List Text). subcommand_of program_app w ≡ Some (codes "proxy", rows)) (sym says.words_are)
             (forever_found config listen says.room config_plain listen_plain room_taken),
-        record { config_is = refl; listen_is = refl; room_is = says.room_is; clients_is = says.clients_is; turns_is = says.turns_is; leg_is = says.leg_is; idle_is = says.idle_is; metrics_is = sym (ap path_in says.metrics_is) },
+        record { config_is = refl; listen_is = refl; room_is = (says.room_is, says.room_fits); clients_is = says.clients_is; turns_is = says.turns_is; leg_is = says.leg_is; idle_is = says.idle_is; metrics_is = sym (ap path_in says.metrics_is); loops_are = on_loops rows values.on_loops refl (record { loops_are = tt; most_are = refl; quiet_is = refl }) says.loops_are },
       );
     }

@@ -19,7 +19,8 @@ use Rattle.mr_pools.specs.declared.hash.NamedHash.TheVariants.{Sum, Fnv}
 use Rattle.mr_words.proofs.TableLemmas.{table_complete}
 use Rattle.mr_words.specs.Explain.{Told, explanation_of, told_by}
 use Rattle.mr_words.specs.declared.explain.Explanation.{Explanation}
-use Rattle.mr_words.specs.Words.{AgreesWith, AreNumberWords, AreReadings, FindsBadReadings, FindsCommand, Found, HasBadReadings, HasExplanation, HasNodeValues, HasOptions, HasPlan, HasPlanned, HasProxyValues, HasSixWords, HasTimeline, HasWatchValues, IsBoundOr, IsNumberIn, IsNumberList, IsNumberOr, IsNumberWord, LacksOptions, LacksSixWords, SamePlanned, Say, SayBadReadings, SayVersion, readings_in, without_end}
+use Rattle.mr_words.specs.Words.{AgreesWith, AreLoopValues, AreNumberWords, AreReadings, FindsBadReadings, FindsCommand, Found, HasBadReadings, HasExplanation, HasLoopValues, HasNodeValues, HasOptions, HasPlan, HasPlanned, HasProxyValues, HasSixWords, HasTimeline, HasWatchValues, IsBoundOr, IsNumberIfGiven, IsNumberIn, IsNumberList, IsNumberOr, IsNumberWord, IsRoom, LacksOptions, LacksSixWords, SamePlanned, Say, SayBadReadings, SayVersion, readings_in, usual_loop_room, usual_room, without_end}
+use Rattle.mr_words.specs.declared.loop_words.LoopValues.{LoopValues}
 use Rattle.mr_words.specs.declared.service_words.NodeValues.{NodeValues}
 use Rattle.mr_words.specs.declared.service_words.ProxyValues.{ProxyValues}
 use Rattle.mr_words.specs.declared.watch_words.WatchValues.{WatchValues}
@@ -144,7 +145,7 @@ same_number : (word other : List ℕ) (number same : ℕ) → word ≡ other →
 same_number word other number same e is other_is =
     is.value ∙ (ap (λ (w : List ℕ). digits_value 10 (without_leading_plus w)) e ∙ sym other_is.value)
 
-same_number_or : (usual : ℕ) (text : Option Text) (number same : ℕ) → IsNumberOr usual text number → IsNumberOr usual text same → number ≡ same
+pub same_number_or : (usual : ℕ) (text : Option Text) (number same : ℕ) → IsNumberOr usual text number → IsNumberOr usual text same → number ≡ same
 same_number_or usual None number same is other_is = is ∙ sym other_is
 same_number_or usual (Some word) number same is other_is = same_number word word number same refl is other_is
 
@@ -153,6 +154,35 @@ same_bound : (usual : ℕ) (forever : Bool) (text : Option Text) (number same : 
 same_bound usual true None number same is other_is = is ∙ sym other_is
 same_bound usual true (Some word) number same is other_is = absurd is
 same_bound usual false text number same is other_is = same_number_or usual text number same is other_is
+
+-- the number of an option, if it isn't left out
+same_number_if : (text : Option Text) (number same : Option ℕ) → IsNumberIfGiven text number → IsNumberIfGiven text same → number ≡ same
+same_number_if None None None is other_is = refl
+same_number_if None None (Some same) is other_is = absurd other_is
+same_number_if None (Some number) same is other_is = absurd is
+same_number_if (Some word) None same is other_is = absurd is
+same_number_if (Some word) (Some number) None is other_is = absurd other_is
+same_number_if (Some word) (Some number) (Some same) is other_is = ap (λ (n : ℕ). Some n) (same_number word word number same refl is other_is)
+
+-- one room
+same_room : (on_loops : Bool) (text : Option Text) (room same : ℕ) → IsRoom on_loops text room → IsRoom on_loops text same → room ≡ same
+same_room false text room same is other_is = same_number_or usual_room text room same is other_is
+same_room true text room same is other_is = same_number_or usual_loop_room text room same is.0 other_is.0
+
+-- one proxy on loops
+same_loop_values : (rows : List Row) (values same : LoopValues) → HasLoopValues rows values → HasLoopValues rows same → values ≡ same
+same_loop_values rows values same is also =
+    let loops : values.loops ≡ same.loops = same_number_if _ _ _ is.loops_are also.loops_are in
+    let most : values.max_clients ≡ same.max_clients = same_number_or _ _ _ _ is.most_are also.most_are in
+    let quiet : values.quiet ≡ same.quiet = is.quiet_is ∙ sym also.quiet_is in
+    ap (λ (l : Option ℕ). record values { loops = l }) loops
+    ∙ (ap (λ (m : ℕ). record same { max_clients = m; quiet = values.quiet }) most ∙ ap (λ (q : Bool). record same { quiet = q }) quiet)
+
+same_loops : (rows : List Row) (values same : Option LoopValues) → AreLoopValues rows values → AreLoopValues rows same → values ≡ same
+same_loops rows None None are also = refl
+same_loops rows None (Some same) are also = let never : false ≡ true = sym are.0 ∙ also.0 in cc
+same_loops rows (Some values) None are also = let never : false ≡ true = sym also.0 ∙ are.0 in cc
+same_loops rows (Some values) (Some same) are also = ap (λ (v : LoopValues). Some v) (same_loop_values rows values same are.1 also.1)
 
 same_numbers : (words : List Text) (numbers same : List ℕ) → AreNumberWords words numbers → AreNumberWords words same → numbers ≡ same
 same_numbers [] [] [] are also = refl
@@ -286,12 +316,13 @@ one_found found (Proxy read) (Proxy values) r p =
     let also : HasProxyValues r.0 values = subst (λ (rows : List Row). HasProxyValues rows values) (same_rows found _ p.0 r.0 p.1 r.1) p.2 in (
       same_inside _ _ _ r.2.config_is also.config_is,
       same_inside _ _ _ r.2.listen_is also.listen_is,
-      same_number_or _ _ _ _ r.2.room_is also.room_is,
+      same_room _ _ _ _ r.2.room_is also.room_is,
       same_bound _ _ _ _ _ r.2.clients_is also.clients_is,
       same_bound _ _ _ _ _ r.2.turns_is also.turns_is,
       same_number_or _ _ _ _ r.2.leg_is also.leg_is,
       same_number_or _ _ _ _ r.2.idle_is also.idle_is,
       sym r.2.metrics_is ∙ also.metrics_is,
+      same_loops r.0 _ _ r.2.loops_are also.loops_are,
     )
 one_found found (Watch read) (Watch values) r p =
     let also : HasWatchValues r.0 values = subst (λ (rows : List Row). HasWatchValues rows values) (same_rows found _ p.0 r.0 p.1 r.1) p.2 in (

@@ -47,13 +47,29 @@ listen_rule = option_rule (codes "listen") None true
 abbrev pub number_rule : List ℕ → Rule
 number_rule name = option_rule name (Some numbers) false
 
+-- an option of this name that gives a number between these two, which may be left out
+abbrev pub number_between_rule : List ℕ → ℕ → ℕ → Rule
+number_between_rule name least most = option_rule name (Some (parser.Unsigned least most)) false
+
+-- how many loops a proxy has, 1 to 64
+abbrev pub loops_rule : Rule
+loops_rule = number_between_rule (codes "loops") 1 64
+
+-- how many clients are served at once, one at least
+abbrev pub max_clients_rule : Rule
+max_clients_rule = number_between_rule (codes "max-clients") 1 18446744073709551615
+
+-- a flag of this name
+abbrev pub flag_rule : List ℕ → Rule
+flag_rule name = record (new_rule name) { long = Some name; action = Some SetTrue }
+
 -- the option that names where metrics are told, which may be left out
 abbrev pub metrics_rule : Rule
 metrics_rule = option_rule (codes "metrics") None false
 
 -- the flag that stands in place of the numbers of clients and turns
 abbrev pub forever_rule : Rule
-forever_rule = record (new_rule (codes "forever")) { long = Some (codes "forever"); action = Some SetTrue }
+forever_rule = flag_rule (codes "forever")
 
 -- a file, which may be left out; help gives it one name
 abbrev pub file_rule : Rule
@@ -113,11 +129,10 @@ proxy_app =
     let with_leg = with_rule with_turns (number_rule (codes "leg-timeout")) in
     let with_idle = with_rule with_leg (number_rule (codes "idle-timeout")) in
     let with_metrics = with_rule with_idle metrics_rule in
-    with_rule with_metrics forever_rule
-
--- a flag of this name
-abbrev pub flag_rule : List ℕ → Rule
-flag_rule name = record (new_rule name) { long = Some name; action = Some SetTrue }
+    let with_forever = with_rule with_metrics forever_rule in
+    let with_loops = with_rule with_forever loops_rule in
+    let with_most = with_rule with_loops max_clients_rule in
+    with_rule with_most (flag_rule (codes "quiet"))
 
 -- where services tell their metrics, of which there is one at least; help gives it one name
 abbrev pub address_rule : Rule

@@ -1,10 +1,10 @@
 -- What private functions that read words say to one another. No clause of a public call cites these definitions.
-use Rattle.std.specs.Prelude.{◌≡◌, ◌≢◌, ⊤, ℕ, List, Option, Some, None, option_map, Result, Ok, Err, Vec, codes}
+use Rattle.std.specs.Prelude.{◌≡◌, ◌≢◌, ⊤, ℕ, true, false, List, Option, Some, None, option_map, Result, Ok, Err, Vec, codes, if◌then◌else◌}
 use Rattle.clap.specs.Values.{kind_of}
-use Rattle.clap.specs.Words.{Row, first_of}
+use Rattle.clap.specs.Words.{Row, first_of, one_of}
 use Rattle.clap.specs.declared.error.Error.{Error}
 use Rattle.clap.specs.declared.error.kind.ErrorKind.TheVariants.{OutOfMemory, DisplayVersion}
-use Rattle.mr_words.specs.Words.{AreReadings, HasTimeline, HasBadReadings, HasWatchValues, Found, FindsCommand, FindsBadReadings}
+use Rattle.mr_words.specs.Words.{AreReadings, HasTimeline, HasBadReadings, HasWatchValues, Found, FindsCommand, FindsBadReadings, IsRoom, is_forever, is_on_loops}
 use Rattle.mr_words.specs.declared.watch_words.WatchValues.{WatchValues}
 use Rattle.mr_words.specs.declared.words.TimelineValues.{TimelineValues}
 use Rattle.mr_words.specs.declared.words.Wanted.{Wanted}
@@ -56,6 +56,26 @@ no_such_fault = codes "no layer of this name has a fault of this number: 'migctl
 -- what is said where a service is given `--forever` beside what it stands in place of
 abbrev pub both_given : List ℕ
 both_given = codes "'--forever' stands in place of '--clients' and '--turns', and neither goes with it"
+
+-- what is said where a proxy by threads is given what says something of loops alone
+abbrev pub no_loops : List ℕ
+no_loops = codes "'--loops', '--max-clients' and '--quiet' go with '--forever' or '--metrics'"
+
+-- what is said where a proxy on loops is given no room
+abbrev pub no_room : List ℕ
+no_room = codes "'--room' is at least 1 with '--forever' or '--metrics'"
+
+-- what is said where a proxy that tells its metrics is given a number of turns
+abbrev pub no_turns : List ℕ
+no_turns = codes "'--turns' doesn't go with '--metrics'"
+
+-- why rows hold no values of a proxy, though each of its words is taken: what says something of loops is given to one by threads, or
+-- one on loops has no room, or else it is bounded though it goes on for good
+pub record SaysWhyNoProxy (rows : List Row) (text : List ℕ) : Type 0 where
+  pub threads : is_on_loops rows ≡ false → text ≡ no_loops
+  pub room : is_on_loops rows ≡ true → ((room : ℕ) → ¬ IsRoom true (one_of (codes "room") rows) room) → text ≡ no_room
+  pub bounds : is_on_loops rows ≡ true → (room : ℕ) → IsRoom true (one_of (codes "room") rows) room
+      → text ≡ (if is_forever rows then both_given else no_turns)
 
 -- what is said where `plan` is given neither of its forms, or parts of both
 abbrev pub neither_form : List ℕ

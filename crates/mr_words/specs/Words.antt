@@ -1,5 +1,5 @@
 -- What the words of the command line say.
-use Rattle.std.specs.Prelude.{◌≡◌, ◌≢◌, ℕ, ◌<◌, ◌^◌, ◌==◌, ◌⊎◌, ⊤, Bool, true, false, List, [], ◌∷◌, map, Option, Some, None, option_map, Result, Ok, Err, codes}
+use Rattle.std.specs.Prelude.{◌≡◌, ◌≢◌, ℕ, ◌<◌, ◌≤◌, ◌^◌, ◌==◌, ◌||◌, ◌⊎◌, ⊤, Bool, true, false, not, List, [], ◌∷◌, map, max, min, Option, Some, None, is_some, option_map, unwrap_or, Result, Ok, Err, codes}
 use Rattle.std.specs.Borrow.{Bor}
 use Rattle.std.specs.List.{slice_split}
 use Rattle.std.specs.Option.{option_map_or}
@@ -10,6 +10,7 @@ use Rattle.clap.specs.declared.error.kind.ErrorKind.TheVariants.{DisplayVersion}
 use Rattle.mr_pools.specs.Hash.{name_of_hash}
 use Rattle.mr_words.specs.Command.{program_app}
 use Rattle.mr_words.specs.Explain.{Told, told_by, explanation_of}
+use Rattle.mr_words.specs.declared.loop_words.LoopValues.{LoopValues}
 use Rattle.mr_words.specs.declared.plan_words.MigrationWords.{MigrationWords}
 use Rattle.mr_words.specs.declared.plan_words.PlanValues.{PlanValues}
 use Rattle.mr_words.specs.declared.plan_words.Planned.{Planned}
@@ -122,9 +123,25 @@ usual_clients = 1
 abbrev pub usual_turns : ℕ
 usual_turns = 1000000
 
--- how many requests may be under way in a proxy, where its words don't say it
+-- how many requests may be under way in a proxy by threads, where its words don't say it
 abbrev pub usual_room : ℕ
 usual_room = 64
+
+-- how many requests may be under way in each loop, where the words don't say it
+abbrev pub usual_loop_room : ℕ
+usual_loop_room = 4096
+
+-- how many clients are served at once, where the words don't say it
+abbrev pub usual_max_clients : ℕ
+usual_max_clients = 10000
+
+-- the most loops of a proxy
+abbrev pub most_loops : ℕ
+most_loops = 64
+
+-- the most loops of a proxy whose words don't say how many
+abbrev pub usual_loops : ℕ
+usual_loops = 4
 
 -- how many milliseconds a leg may wait for its node at a time, where its words don't say it
 abbrev pub usual_leg_timeout : ℕ
@@ -143,11 +160,19 @@ IsNumberOr usual (Some word) number = IsNumberWord word number
 abbrev pub without_end : ℕ
 without_end = 18446744073709551615
 
+-- the flag of this name was given
+abbrev pub has_flag : Text → List Row → Bool
+has_flag id rows = option_map_or (λ word. bytes_eq word (codes "true")) (first_of id rows) false
+
 -- the flag `--forever` was given
 abbrev pub is_forever : List Row → Bool
-is_forever rows = option_map_or (λ word. bytes_eq word (codes "true")) (first_of (codes "forever") rows) false
+is_forever rows = has_flag (codes "forever") rows
 
--- The number of an option that `--forever` stands in place of: with the flag the option is left out, and the number is the
+-- a proxy runs on loops: with `--forever`, and with `--metrics`
+abbrev pub is_on_loops : List Row → Bool
+is_on_loops rows = is_forever rows || is_some (first_of (codes "metrics") rows)
+
+-- The number of an option that bounds nothing that goes on for good: there the option is left out, and the number is the
 -- greatest one; else it is as the option says.
 abbrev pub IsBoundOr : ℕ → Bool → Option Text → ℕ → Type 0
 IsBoundOr usual true None number = number ≡ without_end
@@ -163,20 +188,50 @@ pub record HasNodeValues (rows : List Row) (values : NodeValues) : Type 0 where
   pub idle_is : IsNumberOr usual_idle_timeout (one_of (codes "idle-timeout") rows) values.idle_timeout
   pub metrics_is : first_of (codes "metrics") rows ≡ path_in values.metrics
 
+-- how many requests may be under way in a proxy, in each of its loops if it runs on loops: at least one in a loop
+abbrev pub IsRoom : Bool → Option Text → ℕ → Type 0
+IsRoom false word room = IsNumberOr usual_room word room
+IsRoom true word room = IsNumberOr usual_loop_room word room × (1 ≤ room)
+
+-- the number of an option, if it isn't left out
+abbrev pub IsNumberIfGiven : Option Text → Option ℕ → Type 0
+IsNumberIfGiven None None = ⊤
+IsNumberIfGiven (Some word) (Some number) = IsNumberWord word number
+IsNumberIfGiven _ _ = ⊥
+
+-- the rows that a parse found hold the values of a proxy on loops, of which nothing is said with `--quiet` and without `--forever`
+pub record HasLoopValues (rows : List Row) (values : LoopValues) : Type 0 where
+  pub loops_are : IsNumberIfGiven (one_of (codes "loops") rows) values.loops
+  pub most_are : IsNumberOr usual_max_clients (one_of (codes "max-clients") rows) values.max_clients
+  pub quiet_is : values.quiet ≡ (has_flag (codes "quiet") rows || not (is_forever rows))
+
+-- they hold none of what is said of loops alone
+pub record LacksLoopValues (rows : List Row) : Type 0 where
+  pub no_loops : first_of (codes "loops") rows ≡ None
+  pub no_most : first_of (codes "max-clients") rows ≡ None
+  pub no_quiet : has_flag (codes "quiet") rows ≡ false
+
+-- they hold the values of a proxy on loops, or none where it runs by threads
+abbrev pub AreLoopValues : List Row → Option LoopValues → Type 0
+AreLoopValues rows None = (is_on_loops rows ≡ false) × LacksLoopValues rows
+AreLoopValues rows (Some values) = (is_on_loops rows ≡ true) × HasLoopValues rows values
+
+-- how many loops a proxy has on a machine of so many processors: as many as the words say, or else one for each processor, but four at
+-- most; one at least
+abbrev pub loop_count : LoopValues → ℕ → ℕ
+loop_count values processors = max 1 (min (unwrap_or values.loops (min processors usual_loops)) most_loops)
+
 -- the rows that a parse found hold the values of a proxy
 pub record HasProxyValues (rows : List Row) (values : ProxyValues) : Type 0 where
   pub config_is : first_of (codes "config") rows ≡ Some values.config.now
   pub listen_is : first_of (codes "listen") rows ≡ Some values.listen.now
-  pub room_is : IsNumberOr usual_room (one_of (codes "room") rows) values.room
+  pub room_is : IsRoom (is_on_loops rows) (one_of (codes "room") rows) values.room
   pub clients_is : IsBoundOr usual_clients (is_forever rows) (one_of (codes "clients") rows) values.clients
-  pub turns_is : IsBoundOr usual_turns (is_forever rows) (one_of (codes "turns") rows) values.turns
+  pub turns_is : IsBoundOr usual_turns (is_on_loops rows) (one_of (codes "turns") rows) values.turns
   pub leg_is : IsNumberOr usual_leg_timeout (one_of (codes "leg-timeout") rows) values.leg_timeout
   pub idle_is : IsNumberOr usual_idle_timeout (one_of (codes "idle-timeout") rows) values.idle_timeout
   pub metrics_is : first_of (codes "metrics") rows ≡ path_in values.metrics
-
--- the flag of this name was given
-abbrev pub has_flag : Text → List Row → Bool
-has_flag id rows = option_map_or (λ word. bytes_eq word (codes "true")) (first_of id rows) false
+  pub loops_are : AreLoopValues rows values.on_loops
 
 -- where services tell their metrics, among the values of a watch
 abbrev pub addresses_in : WatchValues → List Text
@@ -345,6 +400,7 @@ pub record SaysProxyAlone (words : List Text) (values : ProxyValues) : Type 0 wh
   pub leg_is : values.leg_timeout ≡ usual_leg_timeout
   pub idle_is : values.idle_timeout ≡ usual_idle_timeout
   pub metrics_is : values.metrics ≡ None
+  pub loops_are : values.on_loops ≡ None
 
 -- the words are `proxy`, the file's name, where it listens and its three numbers, and neither the file's name nor where it listens looks like an option
 pub record SaysProxy (words : List Text) (values : ProxyValues) : Type 0 where
@@ -361,9 +417,14 @@ pub record SaysProxy (words : List Text) (values : ProxyValues) : Type 0 where
   pub leg_is : values.leg_timeout ≡ usual_leg_timeout
   pub idle_is : values.idle_timeout ≡ usual_idle_timeout
   pub metrics_is : values.metrics ≡ None
+  pub loops_are : values.on_loops ≡ None
 
--- the words are `proxy`, the file's name, where it listens, how many requests may be under way, and `--forever`, and neither
--- the file's name nor where it listens looks like an option
+-- what a proxy on loops has whose words say nothing of its loops
+abbrev pub usual_loop_values : LoopValues
+usual_loop_values = record { loops = None; max_clients = usual_max_clients; quiet = false }
+
+-- the words are `proxy`, the file's name, where it listens, how many requests may be under way, one at least, and `--forever`, and
+-- neither the file's name nor where it listens looks like an option
 pub record SaysProxyForever (words : List Text) (values : ProxyValues) : Type 0 where
   pub room : Text
   pub words_are : words ≡ codes "proxy" ∷ codes "--config" ∷ values.config.now ∷ codes "--listen" ∷ values.listen.now
@@ -371,11 +432,13 @@ pub record SaysProxyForever (words : List Text) (values : ProxyValues) : Type 0 
   pub config_is_none : IsNoOption values.config.now
   pub listen_is_none : IsNoOption values.listen.now
   pub room_is : IsNumberWord room values.room
+  pub room_fits : 1 ≤ values.room
   pub clients_is : values.clients ≡ without_end
   pub turns_is : values.turns ≡ without_end
   pub leg_is : values.leg_timeout ≡ usual_leg_timeout
   pub idle_is : values.idle_timeout ≡ usual_idle_timeout
   pub metrics_is : values.metrics ≡ None
+  pub loops_are : values.on_loops ≡ Some usual_loop_values
 
 -- the words are `watch`, the file's name and one address, neither of which looks like an option, and looks go on, as text
 pub record SaysWatch (words : List Text) (values : WatchValues) : Type 0 where
@@ -436,7 +499,7 @@ AgreesWith (Node values) (Node read) = (read.listen.now ≡ values.listen.now) �
 AgreesWith (Proxy values) (Proxy read) = (read.config.now ≡ values.config.now) × (read.listen.now ≡ values.listen.now)
     × (read.room ≡ values.room) × (read.clients ≡ values.clients) × (read.turns ≡ values.turns)
     × (read.leg_timeout ≡ values.leg_timeout) × (read.idle_timeout ≡ values.idle_timeout)
-    × (path_in read.metrics ≡ path_in values.metrics)
+    × (path_in read.metrics ≡ path_in values.metrics) × (read.on_loops ≡ values.on_loops)
 AgreesWith (Watch values) (Watch read) = SameWatch values read
 AgreesWith (Explain explanation) (Explain read) = told_by read ≡ told_by explanation
 AgreesWith _ _ = ⊥

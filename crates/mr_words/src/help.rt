@@ -103,15 +103,18 @@ pub const NODE_NOTES: &str = notes!(
 pub const PROXY_NOTES: &str = notes!(
     "The host is an address, as 127.0.0.1, or localhost. The nodes are those of the configuration, by host and port.\n\
     Its start and its interval are whole seconds, by the clock of this machine.\n\
-    With --room 0, or where as many requests are under way as that, a client is answered SERVER_ERROR busy.\n\
-    Connections are accepted one after another, and each is served in a thread of its own. At 0 clients none is.\n\
-    The turns bound the reads of a node too, for each leg of a request.\n\
+    Connections are accepted one after another. At 0 clients none is. With --forever or --metrics they are served on\n\
+    loops, each of which is a thread and a proxy of its own, with one connection to each node; a request waits while as\n\
+    many are under way in its loop as --room says, and a client while --max-clients are served. Without both each client\n\
+    has a thread and connections of its own; a request beyond --room is answered SERVER_ERROR busy, and the turns bound\n\
+    the reads of a node too, for each leg of a request.\n\
     A leg whose node lets it wait for --leg-timeout milliseconds is lost, as one whose connection broke. A client that\n\
     sends nothing, or reads nothing of what it is answered, for --idle-timeout seconds is dropped.\n\
     With --metrics, GET /metrics is answered at that address, for Prometheus; docs/METRICS.md says what is told.\n\
     The standard input isn't read. Once all connections have ended, 'served <n>' is printed: the number of those that\n\
-    ended without a fault. Where that isn't all of them, the status is 1. With --forever it serves until a signal ends it.",
-    "migctl proxy --config fleet.json --listen 127.0.0.1:11210 --room 256 --forever"
+    ended without a fault. Where that isn't all of them, the status is 1. With --forever it serves until a signal ends\n\
+    it, and says on the standard error what happens, unless --quiet is given.",
+    "migctl proxy --config fleet.json --listen 127.0.0.1:11210 --metrics 127.0.0.1:9001 --forever"
 );
 
 /// The notes of `watch`.
@@ -120,7 +123,7 @@ pub const WATCH_NOTES: &str = notes!(
     address, or has the port 0, is refused before anything is asked. Nodes of the configuration that none of them\n\
     tells of are asked for their 'stats', as memcacheds. Nothing but that is asked.\n\
     A look begins each second, and has at most a second for each service. It shows each proxy (its phase, by how many\n\
-    seconds its clock is ahead of this machine's, requests a second, hits, lost legs, busy), each node (items, hits),\n\
+    seconds its clock is ahead of this machine's, requests a second, hits, lost legs, requests held back), each node (items, hits),\n\
     a bar to the next phase, and the premises: same configuration, new pool empty, clocks near, no clock went back.\n\
     On a terminal a look is drawn in place, in colours unless NO_COLOR is set; elsewhere a line is written for each\n\
     change. With --once there is one look; with --json each is one object, in a line of its own.\n\

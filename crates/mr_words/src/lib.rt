@@ -6,6 +6,7 @@ mod explain;
 mod explanations;
 mod help;
 mod lines;
+mod loop_words;
 mod options;
 mod plan_words;
 mod readings;
@@ -16,6 +17,7 @@ mod words;
 
 pub use explain::{Explanation, find_explanation};
 pub use lines::{node_line, plan_line, pool_line, schedule_line, text_line};
+pub use loop_words::LoopValues;
 pub use plan_words::{MigrationWords, PlanValues, Planned};
 pub use readings::split_at_commas;
 pub use service_words::{NodeValues, ProxyValues};

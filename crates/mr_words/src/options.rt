@@ -1,9 +1,10 @@
 //! The options of the commands, and the numbers that they give.
 ghost use Rattle.std.specs.Prelude.{◌≡◌, ℕ, None, Some, false, true, IfOk, IsOkAnd, IfSome, IfNone, codes};
-ghost use Rattle.clap.specs.Words.{AddsArg, found_of, one_of, rows_of, rule_of};
-ghost use Rattle.mr_words.specs.Command.{config_rule, listen_rule, metrics_rule, number_rule, option_rule};
-ghost use Rattle.mr_words.specs.Words.{IsNumberOr};
+ghost use Rattle.clap.specs.Words.{AddsArg, first_of, found_of, one_of, rows_of, rule_of};
+ghost use Rattle.mr_words.specs.Command.{config_rule, flag_rule, listen_rule, metrics_rule, number_rule, number_between_rule, option_rule};
+ghost use Rattle.mr_words.specs.Words.{IsNumberOr, has_flag, path_in};
 
+use clap::builder::ValueParser;
 use clap::{Arg, ArgAction, ArgMatches, Command, value_parser};
 use std::alloc::{AllocError, Global};
 
@@ -67,6 +68,42 @@ pub fn quantity_option<'a>(alloc: Global, name: &'a str, unit: &'a str, help: &'
     quantity.value_parser(value_parser!(u64))
 }
 
+/// An option that gives a number between these two, which are numbers that it may give, and may be left out.
+pub fn number_between<'a>(
+    alloc: Global,
+    name: &'a str,
+    least: u64,
+    most: u64,
+    help: &'a str,
+) -> Arg<'a>
+    ensures rule { rule_of result ≡ number_between_rule name.entry.now least most }
+    ensures local { result.global ≡ false }
+{
+    let number = option(alloc, name, "number", help);
+    number.value_parser(ValueParser::unsigned(least, most))
+}
+
+/// A flag, by its name.
+pub fn flag<'a>(alloc: Global, name: &'a str, help: &'a str) -> Arg<'a>
+    ensures rule { rule_of result ≡ flag_rule name.entry.now }
+    ensures local { result.global ≡ false }
+{
+    Arg::new(alloc, name)
+        .long(name)
+        .action(ArgAction::SetTrue)
+        .help(help)
+}
+
+/// Whether a flag was given.
+pub fn is_given(matches: &ArgMatches, name: &str) -> bool
+    ensures { result ≡ has_flag name.now (rows_of (found_of matches.now)) }
+{
+    match matches.get_str(name) {
+        Some(word) => word == "true",
+        None => false,
+    }
+}
+
 /// A command with one more option, where there was memory for both.
 pub fn with_option<'a>(
     command: Result<Command<'a>, AllocError>,
@@ -75,6 +112,13 @@ pub fn with_option<'a>(
     ensures { IfOk result (λ whole. IsOkAnd command.entry (λ old. AddsArg old option.entry whole)) }
 {
     command?.arg(option)
+}
+
+/// The text that the words give to an option, or to a word of their own.
+pub fn text_in<'a>(matches: &ArgMatches<'a>, name: &str) -> Option<&'a str>
+    ensures { path_in result ≡ first_of name.now (rows_of (found_of matches.now)) }
+{
+    matches.get_str(name)
 }
 
 /// The number that an option gives, or the usual one where the option was left out. It is none where the option's word is

@@ -6,7 +6,7 @@ ghost use Rattle.mr_words.specs.Command.{at_rule, plan_app, planned_file_rule, s
 ghost use Rattle.mr_words.specs.Words.{HasOptions, HasPlan, HasSixWords, IsNumberIn, LacksOptions, path_in};
 
 use crate::help::{PLAN_NOTES, PLAN_USAGE};
-use crate::options::{option, with_option};
+use crate::options::{option, text_in, with_option};
 use clap::{Arg, ArgAction, ArgMatches, Command, value_parser};
 use mr_pools::NamedHash;
 use std::alloc::{AllocError, Global};
@@ -110,13 +110,6 @@ pub fn plan_command<'a>(alloc: Global) -> Result<Command<'a>, AllocError>
     let plan = with_option(plan, interval);
     let plan = with_option(plan, hash);
     with_option(plan, second)
-}
-
-/// The text that the words give to an option, or to a word of their own.
-fn text_in<'a>(matches: &ArgMatches<'a>, name: &str) -> Option<&'a str>
-    ensures { path_in result ≡ first_of name.now (rows_of (found_of matches.now)) }
-{
-    matches.get_str(name)
 }
 
 /// The number that the words give to an option, or to a word of their own. It is none where they give none.

@@ -2,14 +2,17 @@
 ghost use Rattle.std.specs.Prelude.{◌≡◌, ℕ, false, IfOk, IfSome, IfNone, codes};
 ghost use Rattle.clap.specs.Words.{app_of, found_of, one_of, rows_of, rule_of};
 ghost use Rattle.mr_words.specs.Command.{node_app, proxy_app, forever_rule, number_rule};
-ghost use Rattle.mr_words.specs.Words.{HasNodeValues, HasProxyValues, IsBoundOr, is_forever};
+ghost use Rattle.mr_words.specs.Words.{HasNodeValues, HasProxyValues, IsBoundOr};
 
 use crate::help::{NODE_NOTES, PROXY_NOTES};
-use crate::options::{
-    config_option, listen_option, metrics_option, number_option, number_or, quantity_option,
-    with_option,
+use crate::loop_words::{
+    LoopValues, asks_for_loops, loops_in, loops_option, max_clients_option, quiet_flag, room_in,
 };
-use clap::{Arg, ArgAction, ArgMatches, Command};
+use crate::options::{
+    config_option, flag, is_given, listen_option, metrics_option, number_option, number_or,
+    quantity_option, with_option,
+};
+use clap::{Arg, ArgMatches, Command};
 use std::alloc::{AllocError, Global};
 
 /// How many items a node holds, where its words don't say it.
@@ -20,9 +23,6 @@ const USUAL_CLIENTS: u64 = 1;
 
 /// How many reads are made of a connection, where the words don't say it.
 const USUAL_TURNS: u64 = 1_000_000;
-
-/// How many requests may be under way in a proxy, where its words don't say it.
-const USUAL_ROOM: u64 = 64;
 
 /// How many milliseconds a leg may wait for its node at a time, where the words of a proxy don't say it.
 const USUAL_LEG_TIMEOUT: u64 = 5_000;
@@ -57,11 +57,11 @@ pub struct ProxyValues<'a> {
     pub config: &'a str,
     /// Where clients connect: a host and a port, with a colon between them.
     pub listen: &'a str,
-    /// How many requests may be under way at once.
+    /// How many requests may be under way at once, in each loop if it runs on loops.
     pub room: u64,
     /// How many clients are served, until the command ends.
     pub clients: u64,
-    /// How many reads are made at most of each client's connection, and of a node for each leg.
+    /// How many reads are made at most of each client's connection, and of a node for each leg. Loops bound them by time alone.
     pub turns: u64,
     /// How many milliseconds a leg's connecting, each of its reads and each of its writes may wait for its node; 0 for as
     /// many as it takes.
@@ -70,6 +70,8 @@ pub struct ProxyValues<'a> {
     pub idle_timeout: u64,
     /// Where metrics are told, if they are: a host and a port, with a colon between them.
     pub metrics: Option<&'a str>,
+    /// What is said of its loops, where it runs on loops and not by threads.
+    pub on_loops: Option<LoopValues>,
 }
 
 /// The option that says how many clients are served.
@@ -127,10 +129,11 @@ fn forever_flag<'a>(alloc: Global) -> Arg<'a>
     ensures rule { rule_of result ≡ forever_rule }
     ensures local { result.global ≡ false }
 {
-    Arg::new(alloc, "forever")
-        .long("forever")
-        .action(ArgAction::SetTrue)
-        .help("Serve every connection for as long as it lasts, in place of --clients and --turns")
+    flag(
+        alloc,
+        "forever",
+        "Serve every connection for as long as it lasts, in place of --clients and --turns",
+    )
 }
 
 /// The command `node`.
@@ -161,7 +164,7 @@ pub fn proxy_command<'a>(alloc: Global) -> Result<Command<'a>, AllocError>
     let room = number_option(
         alloc,
         "room",
-        "How many requests may be under way at once; 64 where it is left out",
+        "How many requests may be under way at once; where it is left out 64, or 4096 in each loop",
     );
     let proxy = Command::new(alloc, "proxy")
         .about("Serves a proxy that migrates the pool of a configuration")
@@ -174,28 +177,20 @@ pub fn proxy_command<'a>(alloc: Global) -> Result<Command<'a>, AllocError>
     let proxy = with_option(proxy, leg_timeout_option(alloc));
     let proxy = with_option(proxy, idle_timeout_option(alloc));
     let proxy = with_option(proxy, metrics_option(alloc));
-    with_option(proxy, forever_flag(alloc))
+    let proxy = with_option(proxy, forever_flag(alloc));
+    let proxy = with_option(proxy, loops_option(alloc));
+    let proxy = with_option(proxy, max_clients_option(alloc));
+    with_option(proxy, quiet_flag(alloc))
 }
 
-/// Whether the flag `--forever` was given.
-fn asks_forever(matches: &ArgMatches) -> bool
-    ensures { result ≡ is_forever (rows_of (found_of matches.now)) }
-{
-    match matches.get_str("forever") {
-        Some(word) => word == "true",
-        None => false,
-    }
-}
-
-/// The number of an option that `--forever` stands in place of: the greatest one with that flag, and else the option's or
-/// the usual one. It is none where both were given, or where the option's word is no number.
-fn bound_or(matches: &ArgMatches, name: &str, usual: u64) -> Option<u64>
-    ensures found { IfSome result (IsBoundOr usual (is_forever (rows_of (found_of matches.now)))
-        (one_of name.now (rows_of (found_of matches.now)))) }
+/// The number of an option that bounds nothing that goes on for good: the greatest one there, and else the option's or the usual
+/// one. It is none where the option was given there, or where its word is no number.
+fn bound_or(matches: &ArgMatches, name: &str, usual: u64, without_end: bool) -> Option<u64>
+    ensures found { IfSome result (IsBoundOr usual without_end (one_of name.now (rows_of (found_of matches.now)))) }
     ensures missing { IfNone result ((number : ℕ)
-        → ¬ IsBoundOr usual (is_forever (rows_of (found_of matches.now))) (one_of name.now (rows_of (found_of matches.now))) number) }
+        → ¬ IsBoundOr usual without_end (one_of name.now (rows_of (found_of matches.now))) number) }
 {
-    if !asks_forever(matches) {
+    if !without_end {
         return number_or(matches, name, usual);
     }
     match matches.get_str(name) {
@@ -209,11 +204,12 @@ pub fn node_values<'a>(matches: &ArgMatches<'a>) -> Option<NodeValues<'a>>
     ensures found { IfSome result (HasNodeValues (rows_of (found_of matches.now))) }
     ensures missing { IfNone result ((values : NodeValues) → ¬ HasNodeValues (rows_of (found_of matches.now)) values) }
 {
+    let forever = is_given(matches, "forever");
     Some(NodeValues {
         listen: matches.get_str("listen")?,
         capacity: number_or(matches, "capacity", USUAL_CAPACITY)?,
-        clients: bound_or(matches, "clients", USUAL_CLIENTS)?,
-        turns: bound_or(matches, "turns", USUAL_TURNS)?,
+        clients: bound_or(matches, "clients", USUAL_CLIENTS, forever)?,
+        turns: bound_or(matches, "turns", USUAL_TURNS, forever)?,
         idle_timeout: number_or(matches, "idle-timeout", USUAL_IDLE_TIMEOUT)?,
         metrics: matches.get_str("metrics"),
     })
@@ -225,14 +221,17 @@ pub fn proxy_values<'a>(matches: &ArgMatches<'a>) -> Option<ProxyValues<'a>>
     ensures missing { IfNone result
         ((values : ProxyValues) → ¬ HasProxyValues (rows_of (found_of matches.now)) values) }
 {
+    let forever = is_given(matches, "forever");
+    let on_loops = asks_for_loops(matches);
     Some(ProxyValues {
         config: matches.get_str("config")?,
         listen: matches.get_str("listen")?,
-        room: number_or(matches, "room", USUAL_ROOM)?,
-        clients: bound_or(matches, "clients", USUAL_CLIENTS)?,
-        turns: bound_or(matches, "turns", USUAL_TURNS)?,
+        room: room_in(matches, on_loops)?,
+        clients: bound_or(matches, "clients", USUAL_CLIENTS, forever)?,
+        turns: bound_or(matches, "turns", USUAL_TURNS, on_loops)?,
         leg_timeout: number_or(matches, "leg-timeout", USUAL_LEG_TIMEOUT)?,
         idle_timeout: number_or(matches, "idle-timeout", USUAL_IDLE_TIMEOUT)?,
         metrics: matches.get_str("metrics"),
+        on_loops: loops_in(matches)?,
     })
 }

@@ -1,12 +1,11 @@
 //! The words of the command that watches a migration.
 ghost use Rattle.std.specs.Prelude.{◌≡◌, ◌++◌, false, map, IfOk, codes};
 ghost use Rattle.clap.specs.Words.{app_of, found_of, rows_of, rule_of};
-ghost use Rattle.mr_words.specs.Command.{address_rule, flag_rule, watch_app};
-ghost use Rattle.mr_words.specs.Words.{has_flag};
+ghost use Rattle.mr_words.specs.Command.{address_rule, watch_app};
 ghost use Rattle.mr_words.specs.WordSteps.{GivesWatch};
 
 use crate::help::WATCH_NOTES;
-use crate::options::{config_option, with_option};
+use crate::options::{config_option, flag, is_given, with_option};
 use clap::{Arg, ArgAction, ArgMatches, Command};
 use std::alloc::{AllocError, Global};
 
@@ -46,17 +45,6 @@ impl<'a> WatchValues<'a> {
     }
 }
 
-/// A flag, by its name.
-fn flag<'a>(alloc: Global, name: &'a str, help: &'a str) -> Arg<'a>
-    ensures rule { rule_of result ≡ flag_rule name.entry.now }
-    ensures local { result.global ≡ false }
-{
-    Arg::new(alloc, name)
-        .long(name)
-        .action(ArgAction::SetTrue)
-        .help(help)
-}
-
 /// The words that name where services tell their metrics, of which there is one at least.
 fn addresses<'a>(alloc: Global) -> Arg<'a>
     ensures rule { rule_of result ≡ address_rule }
@@ -87,16 +75,6 @@ pub fn watch_command<'a>(alloc: Global) -> Result<Command<'a>, AllocError>
     let watch = with_option(watch, once);
     let watch = with_option(watch, json);
     with_option(watch, addresses(alloc))
-}
-
-/// Whether a flag was given.
-fn is_given(matches: &ArgMatches, name: &str) -> bool
-    ensures { result ≡ has_flag name.now (rows_of (found_of matches.now)) }
-{
-    match matches.get_str(name) {
-        Some(word) => word == "true",
-        None => false,
-    }
 }
 
 /// These texts, in a list of their own.

@@ -9,7 +9,7 @@ import threading
 import time
 
 from cases.silence import check_took
-from client import BUSY, DELETED, LOST, MISS, NOT_FOUND, PATIENCE, SETTLING, STORED, Client, delete_of, get_of, hits, set_of
+from client import DELETED, LOST, MISS, NOT_FOUND, PATIENCE, SETTLING, STORED, Client, delete_of, get_of, hits, set_of
 from fake import SlowNode
 from fleet import Fleet
 from moments import moment, within
@@ -21,7 +21,7 @@ from scraping import asked, scraped, wait_for
 from wanted import Wrong, check, check_true
 
 UNPROVED = "MIGCTL_UNPROVED" in os.environ
-ANSWERS = ("hit", "miss", "stored", "deleted", "not found", "leg lost", "busy", "out of memory", "clock fault", "other fault")
+ANSWERS = ("hit", "miss", "stored", "deleted", "not found", "leg lost", "out of memory", "clock fault", "other fault")
 MIB = 1 << 20
 BOUNDS = "0.0001 0.00025 0.0005 0.001 0.0025 0.005 0.01 0.025 0.05 0.1 0.25 0.5 1 2.5 5 +Inf".split()  # by docs/METRICS.md
 
@@ -113,10 +113,12 @@ def connections_are_counted():
 
 @case
 def a_proxy_counts_what_it_answers():
-    """A get of a key twice is two legs and two hits; what asks for no answer counts; a leg to what doesn't run is lost."""
+    """A get of a key twice is two legs and two hits; what asks for no answer counts; a leg to what doesn't run is lost, and takes no
+    time, since it can't be sent. The room is that of both loops."""
     with Fleet() as fleet:
         node, dead = fleet.node(), fleet.keep(place_at("127.0.0.1")).address()
-        told = told_proxy(fleet, fleet.config([node, dead], hash_name="sum"))
+        told = told_proxy(fleet, fleet.config([node, dead], hash_name="sum"), "--loops", "2", "--room", "32")
+        wait_for(told.address, ("migctl_proxy_link_up", "0", node.address), 2)
         client = told.service.client()
         here, lost = key_at(0, 2, "sum", "h"), key_at(1, 2, "sum", "l")
         client.ask(set_of(here, "v") + get_of(here, here), STORED + hits((here, "v"), (here, "v")))
@@ -138,8 +140,9 @@ def a_proxy_counts_what_it_answers():
             ("0", dead, "lost"): 3,
         }
         check("legs", wanted, legs)
-        check("each leg was timed", 12, samples[("migctl_proxy_leg_seconds_count",)])
-        check("the last bound has all", 12, samples[("migctl_proxy_leg_seconds_bucket", "+Inf")])
+        check("each leg that went was timed", 9, samples[("migctl_proxy_leg_seconds_count",)])
+        check("the last bound has all", 9, samples[("migctl_proxy_leg_seconds_bucket", "+Inf")])
+        check("held back", 0, samples[("migctl_proxy_requests_held_back_total",)])
 
 
 @case
@@ -175,9 +178,14 @@ def a_proxy_tells_of_each_node_of_full_pools():
     with Fleet() as fleet:
         pools = [names(pool, 128 if UNPROVED else 1024) for pool in range(2)]
         told = told_proxy(fleet, fleet.config(*pools))
-        legs = {name[1:]: number for name, number in told.samples().items() if name[0] == "migctl_proxy_legs_total"}
+        samples = told.samples()
+        legs = {name[1:]: number for name, number in samples.items() if name[0] == "migctl_proxy_legs_total"}
         wanted = [(f"{pool}", name, it) for pool in range(2) for name in pools[pool] for it in ("carried", "lost")]
         check("how many legs of each", [dict.fromkeys(wanted, 0)], [legs])
+        for family in ("up", "breaks_total"):
+            links = {name[1:]: number for name, number in samples.items() if name[0] == f"migctl_proxy_link_{family}"}
+            wanted = [(f"{pool}", name) for pool in range(2) for name in pools[pool]]
+            check(f"{family} of each", [dict.fromkeys(wanted, 0)], [links])
 
 
 def names(pool, count, length=12):
@@ -270,14 +278,74 @@ def a_service_tells_its_version():
 
 
 @case
-def a_proxy_without_room_counts_who_it_turns_away():
+def a_proxy_counts_each_request_that_it_holds_back():
+    """With room for one, the requests of two other clients wait until its leg is back, and are answered then. Each counts once."""
     with Fleet() as fleet:
-        told = told_proxy(fleet, fleet.config([fleet.node()]), "--room", "0")
-        told.service.ask(get_of("k"), BUSY)
+        slow = fleet.keep(SlowNode())
+        told = told_proxy(fleet, fleet.config([slow.address]), "--loops", "1", "--room", "1")
+        wait_for(told.address, ("migctl_proxy_link_up", "0", slow.address), 1)
         samples = told.samples()
-        check("busy", 1, samples[("migctl_proxy_answers_total", "busy")])
+        check("the loops and their room", (1, 1), (samples[("migctl_proxy_loops",)], samples[("migctl_proxy_room_requests",)]))
         check("issued none", {"get": 0, "set": 0, "delete": 0}, requests_of(samples, "old-only"))
         check_true("no last issue", ("migctl_proxy_last_issue_seconds",) not in samples)
+        clients = told.service.clients(3)
+        for number, client in enumerate(clients):
+            client.send(get_of("k"))
+            slow.wait_for(1)
+            wait_for(told.address, ("migctl_proxy_requests_held_back_total",), number)
+            check("under way", 1, told.samples()[("migctl_proxy_requests_under_way",)])
+        for _ in clients:
+            slow.wait_for(1)
+            slow.answer_all({"k": "v"})
+        for client in clients:
+            client.expect(hits(("k", "v")))
+        samples = told.samples()
+        check("held back", 2, samples[("migctl_proxy_requests_held_back_total",)])
+        check("answered", {"get": 3, "set": 0, "delete": 0}, requests_of(samples, "old-only"))
+
+
+@case
+def a_proxy_tells_how_its_links_stand():
+    """Of two loops each has a connection to the node, loses it with the node, dials meanwhile, and has one again."""
+    with Fleet() as fleet:
+        node = fleet.node()
+        told = told_proxy(fleet, fleet.config([node]), "--loops", "2")
+        up, breaks, dials = ((f"migctl_proxy_link_{it}", "0", node.address) for it in ("up", "breaks_total", "dials_total"))
+        wait_for(told.address, up, 2)
+        samples = told.samples()
+        check("loops, breaks and dials", (2, 0, 2), (samples[("migctl_proxy_loops",)], samples[breaks], samples[dials]))
+        node.kill()
+        wait_for(told.address, up, 0)
+        check("breaks", 2, told.samples()[breaks])
+        node.begin_again()
+        wait_for(told.address, up, 2)
+        samples = told.samples()
+        check("breaks", 2, samples[breaks])
+        check_true("it was dialled meanwhile", samples[dials] >= 4)
+        told.service.ask(set_of("k", "v") + get_of("k"), STORED + hits(("k", "v")))
+
+
+@case
+def a_proxy_tells_whether_clients_wait():
+    """With as many clients as it serves at once it takes no more until one has left."""
+    with Fleet() as fleet:
+        told = told_proxy(fleet, fleet.config([fleet.node()]), "--max-clients", "2")
+        wait = ("migctl_proxy_clients_wait",)
+        samples = told.samples()
+        check("at first", (0, 2), (samples[wait], samples[("migctl_proxy_max_clients",)]))
+        first, second = told.service.clients(2)
+        for client in (first, second):
+            client.ask(get_of("k"), MISS)
+        wait_for(told.address, wait, 1)
+        third = told.service.client()
+        third.send(get_of("k"))
+        check("what comes of the third", (b"", b"<nothing more>"), third.piece(1, 0.3))
+        check("connections", 2, told.samples()[("migctl_open_connections",)])
+        first.quit()
+        third.expect(MISS)
+        check("connections", 3, told.samples()[("migctl_connections_total",)])
+        third.quit()
+        wait_for(told.address, wait, 0)
 
 
 @case

@@ -1,4 +1,5 @@
-"""Proxies, before their migration begins: how requests reach nodes, and what becomes of the answers."""
+"""Proxies, before their migration begins: how requests reach nodes, and what becomes of the answers. What differs on loops is in
+cases/loops.py."""
 import random
 import time
 
@@ -167,10 +168,11 @@ def a_request_waits_for_its_node_while_others_are_answered():
 
 @case
 def sixty_four_requests_are_open_at_once_and_one_more_is_busy():
-    """That is the room of a proxy where its words don't say otherwise. What is refused reaches no node, and costs nothing."""
+    """That is the room of a proxy by threads where its words don't say otherwise. What is refused reaches no node, and costs
+    nothing."""
     with Fleet() as fleet:
         slow = fleet.keep(SlowNode())
-        proxy = fleet.proxy(fleet.config([slow.address]))
+        proxy = fleet.proxy_by_threads(fleet.config([slow.address]))
         keys = [f"key{n}" for n in range(64)]
         clients = proxy.clients(64)
         for count in (20, 64):
@@ -192,11 +194,11 @@ def sixty_four_requests_are_open_at_once_and_one_more_is_busy():
 
 @case
 def a_proxy_has_the_room_that_its_words_say():
-    """With room for two requests the third is busy, and without any each one is."""
+    """By threads: with room for two requests the third is busy, and without any each one is."""
     with Fleet() as fleet:
         slow = fleet.keep(SlowNode())
         config = fleet.config([slow.address])
-        one, two, three = fleet.proxy(config, "--room", "2").clients(3)
+        one, two, three = fleet.proxy_by_threads(config, "--room", "2").clients(3)
         one.send(get_of("a"))
         two.send(get_of("b"))
         slow.wait_for(2)
@@ -208,7 +210,7 @@ def a_proxy_has_the_room_that_its_words_say():
         slow.wait_for(1)
         slow.answer_all({})
         three.expect(MISS)
-        fleet.proxy(config, "--room", "0").client().ask(get_of("d") + delete_of("d"), BUSY + BUSY)
+        fleet.proxy_by_threads(config, "--room", "0").client().ask(get_of("d") + delete_of("d"), BUSY + BUSY)
         slow.wait_for(0)
 
 
@@ -258,13 +260,13 @@ def requests_reach_nodes_in_one_spelling():
 
 @case
 def a_proxy_needs_no_node_that_it_sends_nothing_to():
-    """Before a migration the new pool needn't be there, after it the old one; a node is connected to at its first leg."""
+    """Before a migration the new pool needn't be there, after it the old one; by threads a node is connected to at its first leg."""
     with Fleet() as fleet:
         running, seen = fleet.nodes(2), fleet.keep(FakeNode(answering([])))
         here = [it.address for it in running]
         gone = [fleet.keep(place_at("127.0.0.1")).address(), seen.address]
         for config in (fleet.config(here, gone), fleet.config(gone, here, start=1000)):
-            client = fleet.proxy(config).client()
+            client = fleet.proxy_by_threads(config).client()
             for place in (0, 1):
                 key = key_at(place, 2)
                 client.ask(set_of(key, "v") + get_of(key) + delete_of(key), STORED + hits((key, "v")) + DELETED)
@@ -303,7 +305,7 @@ def the_turns_of_a_proxy_bound_the_reads_of_a_reply():
 
 @case
 def what_a_node_refuses_is_passed_on():
-    """An error of a node is the server's to a client, with its own text, and the connections go on."""
+    """An error of a node is the server's to a client, with its own text, and by threads the connections go on."""
     with Fleet() as fleet:
         passed = (
             (b"SERVER_ERROR out of memory\r\n", b"SERVER_ERROR out of memory\r\n"),
@@ -314,7 +316,7 @@ def what_a_node_refuses_is_passed_on():
             (hits(("k", "v")), hits(("k", "v"))),
         )
         node = fleet.keep(FakeNode(answering([told for told, _ in passed])))
-        client = fleet.proxy(fleet.config([node.address])).client()
+        client = fleet.proxy_by_threads(fleet.config([node.address])).client()
         for _, wanted in passed:
             client.ask(get_of("k"), wanted)
         check("connections to the node", 1, len(node.links))
@@ -322,11 +324,11 @@ def what_a_node_refuses_is_passed_on():
 
 @case
 def a_reply_to_something_else_is_a_lost_leg():
-    """What isn't an answer to the leg's request breaks the link, and the next leg goes over a new one."""
+    """What isn't an answer to the leg's request breaks the link, and by threads the next leg goes over a new one."""
     with Fleet() as fleet:
         strange = (STORED, DELETED, hits(("l", "v")), hits(("k", "v"), ("k", "v")), b"VALUE k\r\n", b"huh\r\n")
         node = fleet.keep(FakeNode(lambda link: answering([hits(("k", "v")), *strange[link.number :][:1]])(link)))
-        client = fleet.proxy(fleet.config([node.address])).client()
+        client = fleet.proxy_by_threads(fleet.config([node.address])).client()
         for _ in strange:
             client.ask(get_of("k"), hits(("k", "v")))
             client.ask(get_of("k"), LOST)
@@ -336,11 +338,11 @@ def a_reply_to_something_else_is_a_lost_leg():
 
 @case
 def a_node_that_ends_within_a_reply_loses_the_leg():
-    """What came of a block isn't handed on, and the next leg goes over a new link."""
+    """What came of a block isn't handed on, and by threads the next leg goes over a new link."""
     with Fleet() as fleet:
         replies = (b"VALUE k 0 5\r\nab", b"VALUE k 0 5\r\nabcde\r\n", b"VALUE k", b"EN")
         node = fleet.keep(FakeNode(lambda link: link.request() and link.send((*replies, hits(("k", "v")))[link.number])))
-        client = fleet.proxy(fleet.config([node.address])).client()
+        client = fleet.proxy_by_threads(fleet.config([node.address])).client()
         for _ in replies:
             client.ask(get_of("k"), LOST)
         client.ask(get_of("k"), hits(("k", "v")))
@@ -348,10 +350,10 @@ def a_node_that_ends_within_a_reply_loses_the_leg():
 
 @case
 def a_node_that_closes_after_each_reply_loses_each_second_leg():
-    """A proxy finds out by a leg that its link is gone: that leg is lost, and the next one goes over a new link."""
+    """A proxy by threads finds out by a leg that its link is gone: that leg is lost, and the next one goes over a new link."""
     with Fleet() as fleet:
         node = fleet.keep(FakeNode(lambda link: link.request() and link.send(hits(("k", f"link {link.number}")))))
-        client = fleet.proxy(fleet.config([node.address])).client()
+        client = fleet.proxy_by_threads(fleet.config([node.address])).client()
         for number in range(5):
             client.ask(get_of("k"), hits(("k", f"link {number}")))
             client.ask(get_of("k"), LOST)
@@ -359,10 +361,11 @@ def a_node_that_closes_after_each_reply_loses_each_second_leg():
 
 @case
 def a_node_may_go_away_and_come_back():
-    """Its keys are lost meanwhile, all others are served; once it is back each connection that knew it before loses one leg."""
+    """Its keys are lost meanwhile, all others are served; once it is back each connection of a proxy by threads that knew it before
+    loses one leg."""
     with Fleet() as fleet:
         away, other = fleet.nodes(2)
-        proxy = fleet.proxy(fleet.config([away, other]))
+        proxy = fleet.proxy_by_threads(fleet.config([away, other]))
         key, staying = key_at(0, 2), key_at(1, 2)
         asking, silent = proxy.clients(2)
         for client in (asking, silent):
@@ -385,10 +388,11 @@ def a_node_may_go_away_and_come_back():
 
 @case
 def the_connections_of_a_client_to_nodes_end_with_it():
-    """One connection leads to a node for each client of a proxy, and no longer than that client is there. The proxy goes on."""
+    """One connection leads to a node for each client of a proxy by threads, and no longer than that client is there. The proxy goes
+    on."""
     with Fleet() as fleet:
         node = fleet.node(clients=3)
-        proxy = fleet.proxy(fleet.config([node]))
+        proxy = fleet.proxy_by_threads(fleet.config([node]))
         for number in range(3):
             with proxy.client() as client:
                 for turn in range(5):

@@ -103,7 +103,7 @@ def clients_do_not_wait_for_one_another():
 
 @case
 def sixty_four_clients_ask_at_once():
-    """Each has a thread of its own, and gets its own answers: here all send before any of them reads."""
+    """Each gets its own answers: here all send before any of them reads."""
     with Fleet() as fleet:
         for service in both(fleet):
             clients, asked = service.clients(64), []
@@ -230,10 +230,11 @@ def one_client_is_served_where_the_words_do_not_say_how_many():
 
 @case
 def a_service_without_an_end_goes_on_after_its_first_clients():
-    """With --forever it serves one client after another, and those at once, and says nothing of whom it served."""
+    """With --forever it serves one client after another, and those at once, and says nothing of whom it served, a proxy that is told
+    so nothing at all."""
     with Fleet() as fleet:
         node = fleet.serve("node", "--forever")
-        proxy = fleet.serve("proxy", "--config", str(fleet.config([fleet.node()])), "--forever")
+        proxy = fleet.serve("proxy", "--config", str(fleet.config([fleet.node()])), "--forever", "--quiet")
         for service in (node, proxy):
             for number in range(3):
                 client = service.client()

@@ -19,11 +19,11 @@ def check_took(what, begun, least, most):
 
 @case(waits=True)
 def a_leg_whose_node_is_silent_is_lost_after_its_time():
-    """Its place is free then, its connection carries no leg again, and what comes over it late answers nothing."""
+    """By threads its place is free then, its connection carries no leg again, and what comes over it late answers nothing."""
     with Fleet() as fleet:
         slow = fleet.keep(SlowNode())
         fast = fleet.node()
-        proxy = fleet.proxy(fleet.config([slow.address, fast]), "--room", "1", "--leg-timeout", "700")
+        proxy = fleet.proxy_by_threads(fleet.config([slow.address, fast]), "--room", "1", "--leg-timeout", "700")
         key, other_key = key_at(0, 2), key_at(1, 2)
         client, other = proxy.clients(2)
         for number, request in enumerate((get_of(key), set_of(key, "v"), delete_of(key))):
@@ -42,10 +42,10 @@ def a_leg_whose_node_is_silent_is_lost_after_its_time():
 
 @case(waits=True)
 def a_leg_whose_node_answers_piece_by_piece_is_not_lost():
-    """The bound is of each read, not of all of them."""
+    """By threads the bound is of each read, not of all of them."""
     with Fleet() as fleet:
         slow = fleet.keep(SlowNode())
-        client = fleet.proxy(fleet.config([slow.address]), "--leg-timeout", "900").client()
+        client = fleet.proxy_by_threads(fleet.config([slow.address]), "--leg-timeout", "900").client()
         client.send(get_of("k"))
         slow.wait_for(1)
         (link, _), = slow.waiting
@@ -82,7 +82,8 @@ def a_leg_waits_five_seconds_where_the_words_do_not_say_it():
 @case(waits=True)
 def a_stopped_node_costs_its_own_keys_alone():
     """In a middle phase, 80 clients ask for its keys and 20 for others, which are served throughout. A delete that needs it
-    is never acknowledged. Once it goes on everything is served, and nothing that was deleted comes back."""
+    is never acknowledged. Once it goes on everything is served, on loops as soon as their links are up, and nothing that was
+    deleted comes back."""
     with Fleet() as fleet:
         pools = Pools(fleet)
         config = pools.config(fleet, int(time.time()) - HOUR // 2, HOUR)
@@ -105,6 +106,8 @@ def a_stopped_node_costs_its_own_keys_alone():
         finally:
             pools.old[0].go_on()
         for key, client in zip(stuck, asking):
+            if proxy.loops:
+                client.ask_until(get_of(key), MISS, LOST)
             client.ask(get_of(key), MISS)
             client.ask(set_of(key, "w") + get_of(key), STORED + hits((key, "w")))
             client.ask(delete_of(key) + get_of(key), NOT_FOUND + MISS)
@@ -112,10 +115,11 @@ def a_stopped_node_costs_its_own_keys_alone():
 
 @case(waits=True)
 def a_node_that_accepts_nobody_loses_its_legs():
-    """Its queue of connections is full, so that connecting to it takes until the system gives up."""
+    """Its queue of connections is full, so that connecting to it takes until the system gives up: by threads the leg waits for
+    that."""
     with Fleet() as fleet:
         full = fleet.keep(FullQueue())
-        client = fleet.proxy(fleet.config([full.address]), "--leg-timeout", "700").client()
+        client = fleet.proxy_by_threads(fleet.config([full.address]), "--leg-timeout", "700").client()
         begun = time.monotonic()
         client.ask(get_of("k"), LOST)
         check_took("the leg was lost", begun, 0.65, 5)

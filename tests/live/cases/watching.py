@@ -103,7 +103,8 @@ def text_of_proxy(phase):
             "clock_steps_back_total 0",
             "proxy_hop 0",
             *(f'proxy_phase{{phase="{it}"}} {int(it == phase)}' for it in PHASES),
-            *(f'proxy_answers_total{{kind="{it}"}} 0' for it in ("hit", "leg lost", "busy")),
+            *(f'proxy_answers_total{{kind="{it}"}} 0' for it in ("hit", "leg lost")),
+            "proxy_requests_held_back_total 0",
         )
     )
 
@@ -136,7 +137,8 @@ def listen_silently(fleet):
 
 
 def listen_with(fleet, answer):
-    """The address of a service that answers this, whatever it is asked."""
+    """The address of a service that answers this, whatever it is asked, to each of its clients: a proxy on loops is one that asks
+    nothing."""
     listener = fleet.keep(socket.create_server(("127.0.0.1", 0)))
 
     def serve():
@@ -145,9 +147,15 @@ def listen_with(fleet, answer):
                 stream, _ = listener.accept()
             except OSError:
                 return
-            with stream:
+            threading.Thread(target=answer_one, args=(stream,), daemon=True).start()
+
+    def answer_one(stream):
+        with stream:
+            try:
                 stream.recv(4096)
                 stream.sendall(answer)
+            except OSError:
+                pass  # who asked is gone
 
     threading.Thread(target=serve, daemon=True).start()
     return "127.0.0.1:%d" % listener.getsockname()[1]

@@ -1,5 +1,5 @@
 -- What single steps of asking do.
-use Rattle.std.specs.Prelude.{◌≡◌, ℕ, ◌<◌, ◌⊎◌, List, [], ◌∷◌, length, false, Option, Some, None, Result, Ok, Err}
+use Rattle.std.specs.Prelude.{◌≡◌, ℕ, ◌<◌, ◌⊎◌, List, [], ◌∷◌, length, true, false, Option, Some, None, Result, Ok, Err}
 use Rattle.mr_history.specs.declared.op_id.OpId.{OpId}
 use Rattle.mr_node.specs.Output.{reply_to_refusal}
 use Rattle.mr_text.specs.declared.cause.Cause.{Cause}
@@ -15,7 +15,8 @@ use Rattle.mr_proxy.specs.declared.error.ProxyError.TheVariants.{NumbersSpent, O
 use Rattle.mr_desks.specs.declared.step.Step.TheVariants.{Issue, GiveUp}
 use Rattle.mr_loop.specs.declared.asker.Asker.{Asker}
 use Rattle.mr_loop.specs.declared.asking.Pause.{Pause}
-use Rattle.mr_loop.specs.declared.asking.Pause.TheVariants.{NeedsQueue, NeedsMemory}
+use Rattle.mr_loop.specs.declared.asking.Pause.TheVariants.{NeedsRoom, NeedsQueue, NeedsMemory}
+use Rattle.mr_loop.specs.declared.counts.ClientCounts.{ClientCounts}
 use Rattle.mr_loop.specs.declared.front.Begun.{Begun}
 use Rattle.mr_loop.specs.declared.front.Begun.TheVariants.{Issued, Told, Later}
 use Rattle.mr_loop.specs.declared.inbox.Inbox.{Inbox}
@@ -23,14 +24,16 @@ use Rattle.mr_loop.specs.declared.inbox.Input.{Input}
 use Rattle.mr_loop.specs.declared.inbox.Input.TheVariants as input
 use Rattle.mr_loop.specs.declared.link.Link.{Link}
 use Rattle.mr_loop.specs.Events.{FrontView, Event, after_event, after_all}
-use Rattle.mr_loop.specs.Asking.{Asking, tells, denial, given_up_unless, IsDoneFor, IsClear}
-use Rattle.mr_loop.specs.Links.{are_clear, all_sent, all_up}
+use Rattle.mr_loop.specs.Asking.{Asking, is_full, tells, denies, given_up_unless, IsDoneFor, IsClear, HasPlaces}
+use Rattle.mr_loop.specs.Links.{first_full, all_sent, all_up}
 
--- why what a client sent is held back: a queue is full, or memory for its turn is refused
+-- why what a client sent is held back: there is no room, a queue is full, or memory for its turn is refused
 abbrev pub PausesFor : Asker → FrontView → List Link → Input → Pause → Type 0
-PausesFor asker front links (input.Asks request) NeedsQueue =
-    are_clear asker.limits.most_legs front.core.routing (sheets_of front.core asker.reading request) links ≡ false
-PausesFor asker front links input NeedsMemory = Unit {0}
+PausesFor asker front links (input.Asks request) NeedsRoom = is_full front.core ≡ true
+PausesFor asker front links (input.Asks request) (NeedsQueue number) =
+    (is_full front.core ≡ false)
+    × (first_full asker.limits.most_legs front.core.routing (sheets_of front.core asker.reading request) links ≡ Some number)
+PausesFor asker front links input NeedsMemory = HasPlaces asker front links input
 PausesFor asker front links input other = ⊥
 
 -- what became of a request that was handed to the core
@@ -40,8 +43,8 @@ IssuesSo asker request old (Issued issued) new =
     × (new ≡ after_event (Event.Does asker.client (Issue asker.reading request)) old)
     × (issued.op ≡ next_op old.core) × (issued.legs.items ≡ sheets_of old.core asker.reading request)
 IssuesSo asker request old Told new =
-    ((refusal_of old.core ≡ Some NumbersSpent) × (new ≡ after_all (tells asker.client (denial request cause.NumbersSpent)) old))
-    ⊎ ((refusal_of old.core ≡ None) × (new ≡ after_all (tells asker.client (denial request cause.OutOfMemory)) old))
+    ((refusal_of old.core ≡ Some NumbersSpent) × (new ≡ after_all (denies asker.client request cause.NumbersSpent) old))
+    ⊎ ((refusal_of old.core ≡ None) × (new ≡ after_all (denies asker.client request cause.OutOfMemory) old))
 IssuesSo asker request old (Later back) new = (back ≡ request) × (new ≡ old)
 
 -- the request was issued, and isn't begun after all: no leg of it went
@@ -49,7 +52,7 @@ abbrev pub IsWithdrawn : ℕ → OpId → Option Reply → FrontView → FrontVi
 IsWithdrawn client op denial old new =
     (reading : ℕ) (request : Request) (before : FrontView) → client < length before.clients → op ≡ next_op before.core
     → old ≡ after_event (Event.Does client (Issue reading request)) before
-    → new ≡ after_all (tells client denial)
+    → new ≡ after_all (Event.Denies cause.OutOfMemory ∷ tells client denial)
     (after_all (Event.Alone (Issue reading request) ∷ Event.Alone (GiveUp (next_op before.core)) ∷ []) before)
 
 -- the cause that a client is told of what the core refused
@@ -84,5 +87,5 @@ abbrev pub RefusesSo : Asker → TextError → FrontView → Result (Unit {0}) (
 RefusesSo asker refusal old (Ok _) new = new ≡ after_all (tells asker.client (reply_to_refusal refusal)) old
 RefusesSo asker refusal old (Err (pause, back)) new = (pause ≡ NeedsMemory) × (back ≡ input.Refused refusal) × (new ≡ old)
 
-abbrev pub asking : Inbox → FrontView → List Link → Asking
-asking inbox front links = record { inbox = inbox; front = front; links = links }
+abbrev pub asking : Inbox → FrontView → List Link → ClientCounts → Asking
+asking inbox front links counts = record { inbox = inbox; front = front; links = links; counts = counts }

@@ -5,15 +5,19 @@ use Rattle.mr_text.specs.Stream.{IsUnfinished}
 use Rattle.mr_loop.specs.declared.link.Link.{Link}
 use Rattle.mr_loop.specs.declared.link.LinkEnd.{LinkEnd}
 use Rattle.mr_loop.specs.declared.link.LinkEnd.TheVariants.{Whole, Surplus, Mismatch, Complaint, Refused, Down}
+use Rattle.mr_loop.specs.declared.link_counts.LinkCounts.{LinkCounts}
 use Rattle.mr_loop.specs.declared.sent_legs.SentLeg.{SentLeg}
+use Rattle.mr_loop.specs.Counts.{CountsCarried, leg_lost}
 use Rattle.mr_loop.specs.Events.{FrontView, after_event}
 use Rattle.mr_loop.specs.Returning.{giving_up, HasTaken, TakesComplaint, IsSurplus, IsMismatch, IsRefused}
 
-module _ (old : Link) (front : FrontView) where
+module _ (now : ℕ) (old : Link) (front : FrontView) where
   -- some replies were taken; what came next, and the legs that were left
   pub record StopsAt (Next : List ℕ → List SentLeg → Type 0) (new : Link) (front' : FrontView) : Type 0 where
     pub rest : List ℕ
     pub taken : HasTaken old.reader.kept old.legs front rest new.legs front'
+    pub counted : CountsCarried now old.legs new.legs old.counts new.counts
+    pub same_state : new.is_up ≡ old.is_up
     pub next : Next rest new.legs
 
   -- the first leg has a reply that is no answer to it, and its request is given up
@@ -21,12 +25,23 @@ module _ (old : Link) (front : FrontView) where
     pub rest : List ℕ
     pub sent : SentLeg
     pub between : FrontView
+    pub counts : LinkCounts
     pub taken : HasTaken old.reader.kept old.legs front rest (sent ∷ new.legs) between
+    pub counted : CountsCarried now old.legs (sent ∷ new.legs) old.counts counts
+    pub lost : new.counts ≡ leg_lost now sent counts
+    pub same_state : new.is_up ≡ old.is_up
     pub next : IsMismatch rest (sent ∷ new.legs)
     pub happens : front' ≡ after_event (giving_up sent) between
 
+  -- the reply that was taken last is a complaint
+  pub record StopsAtComplaint (new : Link) (front' : FrontView) : Type 0 where
+    pub taken : TakesComplaint old.reader.kept old.legs front new.legs front'
+    pub counted : CountsCarried now old.legs new.legs old.counts new.counts
+    pub same_state : new.is_up ≡ old.is_up
+
   pub record StopsWhole (new : Link) (front' : FrontView) : Type 0 where
     pub taken : HasTaken old.reader.kept old.legs front new.reader.kept new.legs front'
+    pub counted : CountsCarried now old.legs new.legs old.counts new.counts
     pub unfinished : IsUnfinished SpellsReply RefusesReply new.reader.kept
     pub same_out : new.out ≡ old.out
     pub same_state : new.is_up ≡ old.is_up
@@ -35,6 +50,6 @@ module _ (old : Link) (front : FrontView) where
   TakesReplies Whole new front' = StopsWhole new front'
   TakesReplies Surplus new front' = StopsAt IsSurplus new front'
   TakesReplies Mismatch new front' = StopsAtMismatch new front'
-  TakesReplies Complaint new front' = TakesComplaint old.reader.kept old.legs front new.legs front'
+  TakesReplies Complaint new front' = StopsAtComplaint new front'
   TakesReplies (Refused refusal) new front' = StopsAt (IsRefused refusal) new front' ⊎ IsTrue (old.reader.closed || old.reader.ended)
   TakesReplies Down new front' = ⊥

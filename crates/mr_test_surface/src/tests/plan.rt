@@ -48,7 +48,8 @@ fn a_configuration_is_planned_with(rt: HostRuntime) -> Result<(), Fail> {
     let config = config(rt.alloc())?;
     assert_eq!(rt; count_legs(rt.alloc(), &config)?, 1);
     assert!(rt; !are_near(rt.alloc(), &config, &[999, 1100])?);
-    assert_eq!(rt; end(&timeline(&config))?, NewOnlyTime::Since(1200));
+    let times: ChainTimes = timeline(&config).copy();
+    assert_eq!(rt; end(&times)?, NewOnlyTime::Since(1200));
     Ok(())
 }
 

@@ -7,8 +7,8 @@ use mr_servers::HostServers;
 use mr_sockets::OverListener;
 use mr_text::{OverReader, OverWriter};
 use mr_tool::{
-    HostFiles, SocketCarrier, WRONG_WORDS, Wanted, read_words, run_words, serve_node, serve_proxy,
-    write_plan,
+    HostFiles, LoopValues, SocketCarrier, WRONG_WORDS, Wanted, read_words, run_words, serve_node,
+    serve_proxy, write_plan,
 };
 use mr_workers::{Desk, SharedNode};
 use std::alloc::Global;
@@ -23,6 +23,16 @@ fn words_are_read(rt: HostRuntime) -> Result<(), Fail> {
     let wanted = read_words(rt.alloc(), &["run"])?;
     assert!(rt; matches!(wanted, Wanted::Run(None)));
     Ok(())
+}
+
+#[test]
+fn loops_are_counted(rt: HostRuntime) {
+    let values = LoopValues {
+        loops: None,
+        max_clients: 1,
+        quiet: false,
+    };
+    assert_eq!(rt; (values.count(0), values.count(3), values.count(9)), (1, 3, 4));
 }
 
 #[test]

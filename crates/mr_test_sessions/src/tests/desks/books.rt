@@ -6,7 +6,7 @@ use super::{NEW, desk_of, issue};
 use crate::tests::broken::Broken;
 use crate::tests::{delete_of, get_of, is, is_at, must};
 use mr_clock::FixedClock;
-use mr_desks::{Carried, Desk, DeskError, RecordedProxy, RecordedState, Share, Step};
+use mr_desks::{Carried, Desk, DeskError, RecordedProxy, RecordedState, Share, SharedState, Step};
 use mr_history::OpId;
 use mr_proxy::{Leg, Taken};
 use mr_test_nodes::core_of;
@@ -263,4 +263,10 @@ fn a_book_gives_its_answers_again(rt: HostRuntime) {
     let mut state = RecordedState::new(rt.alloc(), core, 4);
     get_twice(&rt, rt.alloc(), &mut state);
     has_one_answer(&rt, rt.alloc(), state);
+}
+
+#[test]
+fn a_session_at_a_state_without_a_book_begins_with_no_issue(rt: HostRuntime) {
+    let share: Share = SharedState::<Broken>::share();
+    is(&rt, "count", &share.count(), &0);
 }

@@ -22,7 +22,7 @@ enum Left {
 /// A run: its words and its input, how often it asks for a file, and what it leaves.
 type Row = (&'static [&'static str], &'static [u8], u32, Left);
 
-static ROWS: [Row; 21] = [
+static ROWS: [Row; 22] = [
     (
         &["plan", "--config", "fleet.json", "--at", "1000"],
         b"delete k\r\n",
@@ -130,6 +130,24 @@ static ROWS: [Row; 21] = [
             "fleet.json",
             "--listen",
             "127.0.0.1:0",
+            "--clients",
+            "0",
+        ],
+        b"",
+        1,
+        Left::Wrote(b"served 0\n"),
+    ),
+    (
+        &[
+            "proxy",
+            "--config",
+            "fleet.json",
+            "--listen",
+            "127.0.0.1:0",
+            "--metrics",
+            "127.0.0.1:0",
+            "--loops",
+            "2",
             "--clients",
             "0",
         ],

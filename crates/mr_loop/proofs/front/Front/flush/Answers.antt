@@ -10,7 +10,7 @@ returns-clause-flushed c =
     let there : slice_get c.self.inside.clients.items c.args.client ≡ Some c.index_mut.result.now = slice_get_read _ _ _ _ refl within c.index_mut.ensures.value in
     rw (← c.self.view_is)
     (on_ok c.flush.result c.flush.ensures.flushed (λ same.
-    front_flushed c.self.inside.core c.self.inside.clients.items c.self.inside.touched.items c.args.client c.index_mut.result.now c.flush.new.self there same))
+    front_flushed c.self.inside.core c.self.inside.clients.items c.self.inside.touched.items c.self.inside.counts c.args.client c.index_mut.result.now c.flush.new.self there same))
 
 pub returns-clause-in_part : goal.returns-clause-in_part
 returns-clause-in_part c =
@@ -18,4 +18,4 @@ returns-clause-in_part c =
     let there : slice_get c.self.inside.clients.items c.args.client ≡ Some c.index_mut.result.now = slice_get_read _ _ _ _ refl within c.index_mut.ensures.value in
     rw (← c.self.view_is)
     (on_err c.flush.result c.flush.ensures.in_part (λ same.
-    front_part c.self.inside.core c.self.inside.clients.items c.self.inside.touched.items c.args.client c.index_mut.result.now c.flush.new.self there same))
+    front_part c.self.inside.core c.self.inside.clients.items c.self.inside.touched.items c.self.inside.counts c.args.client c.index_mut.result.now c.flush.new.self there same))

@@ -14,6 +14,14 @@ invariant_of-self c =
     omega (arith, before, fewer, now, more, c.push_reserved.ensures.capacity) in
     is
 
+pub invariant_of-self-in_default : goal.invariant_of-self-in_default
+invariant_of-self-in_default c =
+    let before : length c.self.inside.touched.items + length c.self.inside.core.outstanding ≤ vec_capacity c.self.inside.touched = c.self.invariant in
+    let kept = kept_taken c.self.inside.core c.sheet.result.now.id c.args.said in
+    let now = ap (λ (p : ProxyView). length p.outstanding) c.take_reply.ensures.state in
+    let is : length c.self.inside.touched.items + length c.take_reply.new.self.outstanding ≤ vec_capacity c.self.inside.touched = omega (arith, before, kept, now) in
+    is
+
 pub invariant_of-self-in_default-2 : goal.invariant_of-self-in_default-2
 invariant_of-self-in_default-2 c =
     let before : length c.self.inside.touched.items + length c.self.inside.core.outstanding ≤ vec_capacity c.self.inside.touched = c.self.invariant in

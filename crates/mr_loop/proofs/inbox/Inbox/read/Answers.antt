@@ -11,6 +11,7 @@ returns-then-self c =
         goes_on = c.requires.goes_on;
         next = n;
         same_held = c.requires.held;
+        same_wait = refl;
         same_end = refl;
         done = refl;
       },
@@ -26,6 +27,7 @@ returns-else-self c =
         goes_on = c.requires.goes_on;
         next = n;
         same_held = c.requires.held;
+        same_wait = refl;
         same_end = refl;
         done = c.requires.goes_on;
       },

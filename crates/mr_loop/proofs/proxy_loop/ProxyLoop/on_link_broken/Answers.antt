@@ -1,5 +1,6 @@
-use Rattle.std.proofs.Common.{◌<◌, length, refl}
+use Rattle.std.proofs.Common.{◌≡◌, ◌<◌, length, refl, sym, ◌∙◌}
 use Rattle.std.proofs.lemmas.Option.{slice_get_read}
+use Rattle.mr_loop.proofs.KeptLemmas.{places, kept_break}
 use Rattle.mr_loop.proofs.proxy_loop.ProxyLoop.on_link_broken.Goals as goal
 
 pub returns : goal.returns
@@ -13,3 +14,11 @@ returns c =
       breaks = c.break_off.ensures;
       becomes = refl;
     })
+
+pub invariant_of-self : goal.invariant_of-self
+invariant_of-self c =
+    let kept : places c.break_off.new.front ≡ places c.self.inside.front =
+    kept_break c.args.now c.index_mut.result.now c.self.inside.front c.break_off.new.self c.break_off.new.front c.break_off.ensures in
+    let same : length c.self.inside.inboxes.items ≡ length c.self.inside.front.clients = c.self.invariant in
+    let is : length c.self.inside.inboxes.items ≡ length c.break_off.new.front.clients = same ∙ sym kept in
+    is

@@ -1,0 +1,12 @@
+-- What the driver's pure helpers answer.
+pub mod Flow
+pub mod Hearing
+pub mod Loads
+pub mod Reading
+pub mod Reports
+pub mod Seats
+pub mod Stages
+pub mod Times
+pub mod Tokens
+pub mod Waits
+pub mod Writing

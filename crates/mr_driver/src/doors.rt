@@ -1,0 +1,210 @@
+//! What loops are told by other threads, and asked.
+
+use crate::loads::CLOSED;
+use crate::reports::LoopReport;
+use crate::tokens::mail_token;
+use crossbeam_channel::{Receiver, Sender, unbounded};
+use mio::{Poll, Token, Waker};
+use std::alloc::{AllocError, Global};
+use std::io;
+use std::net::{Net, TcpStream};
+use std::sync::atomic::{AtomicBool, AtomicU64, Ordering};
+use std::sync::{Arc, Wait};
+use std::time::{Clock, Duration, Instant};
+
+/// For how many milliseconds an answer of the loops is waited for.
+const ANSWER_MILLIS: u64 = 1_000;
+
+/// What a loop is told.
+#[derive(Drop)]
+pub(crate) enum Mail {
+    /// One more client, whose socket never waits.
+    Client(TcpStream),
+    /// It is to tell of itself there. A place there is kept for the answer, so that nobody waits for who asked.
+    Tell(Sender<LoopReport>),
+    /// No more clients come.
+    NoMore,
+}
+
+/// What a loop tells of its clients.
+pub(crate) struct Tally {
+    /// How many it has, those among them that it wasn't told of yet; `CLOSED` where it takes no more.
+    pub(crate) clients: AtomicU64,
+    /// How many have left it in order.
+    pub(crate) served: AtomicU64,
+}
+
+impl Drop for Tally {
+    fn drop(self) {
+        let Self {
+            clients: _,
+            served: _,
+        } = self;
+    }
+}
+
+impl Tally {
+    /// The loop takes no more clients.
+    pub(crate) fn close(&self) {
+        self.clients.store(CLOSED, Ordering::SeqCst);
+    }
+}
+
+/// A loop's end.
+#[derive(Drop)]
+pub(crate) struct Side {
+    pub(crate) poll: Poll,
+    pub(crate) mail: Receiver<Mail>,
+    pub(crate) tally: Arc<Tally, Global>,
+}
+
+/// The other end.
+#[derive(Drop)]
+pub(crate) struct Door {
+    mail: Sender<Mail>,
+    waker: Waker,
+    tally: Arc<Tally, Global>,
+}
+
+/// The two ends of what a loop is told.
+pub(crate) fn open_door<R: Net>(rt: &R, alloc: Global) -> io::Result<(Side, Door)> {
+    let poll = Poll::new(rt)?;
+    let waker = Waker::new(poll.registry(), Token(mail_token()))?;
+    let (to, from) = unbounded(alloc)?;
+    let tally = Arc::new(
+        alloc,
+        Tally {
+            clients: AtomicU64::new(0),
+            served: AtomicU64::new(0),
+        },
+    )?;
+    let side = Side {
+        poll,
+        mail: from,
+        tally: Arc::try_clone(&tally)?,
+    };
+    let door = Door {
+        mail: to,
+        waker,
+        tally,
+    };
+    Ok((side, door))
+}
+
+impl Door {
+    /// Tells the loop something. Whether it will hear it: one that has ended doesn't.
+    fn tell<R: Wait>(&self, rt: &R, mail: Mail) -> bool {
+        self.mail.send(rt, mail).is_ok() && self.waker.wake().is_ok()
+    }
+
+    /// Hands the loop a client. One that has ended takes no more, and counts as the fullest from then on.
+    fn hand<R: Wait>(&self, rt: &R, stream: TcpStream) {
+        self.tally.clients.fetch_add(1, Ordering::SeqCst);
+        if !self.tell(rt, Mail::Client(stream)) {
+            self.tally.close();
+        }
+    }
+
+    /// Asks the loop to tell of itself. The answer comes at what is given back; none comes of one that has ended.
+    fn ask<R: Wait>(&self, rt: &R, alloc: Global) -> Result<Receiver<LoopReport>, AllocError> {
+        let (to, from) = unbounded(alloc)?;
+        let _ = self.tell(rt, Mail::Tell(to));
+        Ok(from)
+    }
+}
+
+/// By which loops are told of clients, and asked. Threads may share it.
+#[derive(Drop)]
+pub struct Doors {
+    doors: Vec<Door>,
+    full: AtomicBool,
+}
+
+impl Doors {
+    /// The doors of these loops.
+    pub(crate) fn new(doors: Vec<Door>) -> Doors {
+        Doors {
+            doors,
+            full: AtomicBool::new(false),
+        }
+    }
+
+    /// What each loop tells of itself, in order. One that has ended or doesn't answer within a second is left out.
+    pub fn ask<R: Wait + Clock>(
+        &self,
+        rt: &R,
+        alloc: Global,
+    ) -> Result<Vec<LoopReport>, AllocError> {
+        let mut answers = Vec::with_capacity(alloc, self.doors.len())?;
+        for door in &self.doors {
+            answers.push(door.ask(rt, alloc)?)?;
+        }
+        let mut reports = Vec::with_capacity(alloc, answers.len())?;
+        let begun = Instant::now(rt);
+        for answer in &answers {
+            if let Ok(report) = answer.recv_timeout(rt, rest_of(rt, &begun)) {
+                reports.push(report)?;
+            }
+        }
+        Ok(reports)
+    }
+
+    /// Whether clients are kept in the backlog, since as many are served as may be.
+    pub fn is_full(&self) -> bool {
+        self.full.load(Ordering::SeqCst)
+    }
+
+    /// As many are served as may be, or fewer. Whether that is news.
+    pub(crate) fn note_full(&self, is_full: bool) -> bool {
+        self.full.swap(is_full, Ordering::SeqCst) != is_full
+    }
+
+    /// Whether there is no loop.
+    pub(crate) fn is_empty(&self) -> bool {
+        self.doors.is_empty()
+    }
+
+    /// Puts how many clients each loop has in place of what stands there.
+    pub(crate) fn weigh(&self, loads: &mut Vec<u64>) -> Result<(), AllocError> {
+        loads.clear();
+        for door in &self.doors {
+            loads.push(door.tally.clients.load(Ordering::SeqCst))?;
+        }
+        Ok(())
+    }
+
+    /// Hands a client to the loop of this number. It is closed where there is none.
+    pub(crate) fn hand<R: Wait>(&self, rt: &R, number: usize, stream: TcpStream) {
+        if let Some(door) = self.doors.get(number) {
+            door.hand(rt, stream);
+        }
+    }
+
+    /// Tells each loop that no more clients come.
+    pub(crate) fn close<R: Wait>(&self, rt: &R) {
+        for door in &self.doors {
+            let _ = door.tell(rt, Mail::NoMore);
+        }
+    }
+
+    /// How many clients have left the loops in order.
+    pub(crate) fn served(&self) -> u64 {
+        let mut served: u64 = 0;
+        for door in &self.doors {
+            served = served.saturating_add(door.tally.served.load(Ordering::SeqCst));
+        }
+        served
+    }
+}
+
+/// How long may still be waited for the loops' answers, since this moment. Nothing more where the clock gives no reading.
+fn rest_of<R: Clock>(rt: &R, begun: &io::Result<Instant>) -> Duration {
+    match (begun, Instant::now(rt)) {
+        (Ok(begun), Ok(now)) => {
+            Duration::from_millis(ANSWER_MILLIS).saturating_sub(now.saturating_duration_since(
+                *begun,
+            ))
+        }
+        _ => Duration::ZERO,
+    }
+}

@@ -1,0 +1,33 @@
+//! Proxies over sockets, a loop each: what a `ProxyLoop` decides is read, written, dialled and timed here, and nothing is decided.
+//! Each loop has a thread, a poll, its clients and one link to each node of its own; one thread more accepts, and hands each socket
+//! to the loop with the fewest clients. Any thread may ask the loops what they did.
+#![tactic(auto)]
+
+mod accepting;
+mod clients;
+mod clocks;
+mod doors;
+mod engine;
+mod flow;
+mod hearing;
+mod link;
+mod links;
+mod loads;
+mod reading;
+mod reports;
+mod seat;
+mod serving;
+mod stages;
+mod times;
+mod tokens;
+mod turns;
+mod waits;
+mod writing;
+
+pub use accepting::listen_at;
+pub use doors::Doors;
+pub use hearing::{Deaf, Hears, LinkTrouble, LoopEvent};
+pub use loads::least_loaded;
+pub use reports::{LinkReport, LoopReport};
+pub use serving::{DriverBounds, Loops, open_loops, serve};
+pub use times::{bound_of, next_pause, tick_of};

@@ -1,0 +1,145 @@
+//! Loops and the thread that accepts their clients.
+ghost use Rattle.std.specs.Prelude.{◌≤◌};
+
+use crate::accepting::accept_all;
+use crate::doors::{Door, Doors, open_door};
+use crate::engine::Timing;
+use crate::hearing::{Hears, LoopEvent};
+use crate::link::Link;
+use crate::links::Links;
+use crate::times::bound_of;
+use crate::turns::{Planned, run_loop};
+use mr_counting::ClockWatch;
+use mr_loop::ProxyLoop;
+use mr_sockets::{Patience, node_address};
+use std::alloc::{AllocError, Global};
+use std::net::{Net, TcpListener, TcpStream};
+use std::sync::Wait;
+use std::thread::{Scope, Threads};
+use std::time::Clock;
+use std::{io, thread};
+
+/// How many clients are served, and how long is waited for who is silent.
+#[derive(Clone, Copy, Debug)]
+pub struct DriverBounds {
+    /// How many clients are accepted. With `u64::MAX` the service doesn't end.
+    pub clients: u64,
+    /// How many are served at a time. Further ones wait in the listener's backlog until one has left.
+    pub most_clients: u64,
+    /// How long is waited for clients and for nodes.
+    pub patience: Patience,
+}
+
+/// The same in microseconds.
+fn timing_of(patience: Patience) -> Timing {
+    Timing {
+        leg_bound: bound_of(patience.leg_millis),
+        idle_bound: bound_of(patience.client_seconds.saturating_mul(1_000)),
+    }
+}
+
+/// Loops that aren't started yet, whose nodes are dialled.
+#[derive(Drop)]
+pub struct Loops {
+    planned: Vec<Planned>,
+}
+
+/// A link to each node of a machine, which is down, in the order of the machine's own.
+fn links_of(alloc: Global, machine: &ProxyLoop) -> Result<Links, AllocError> {
+    let mut links = Vec::with_capacity(alloc, machine.links())?;
+    for pool in machine.core().routing().pools() {
+        for name in pool.names() {
+            links.push(Link::new(node_address(name.as_str())))?;
+        }
+    }
+    Links::new(alloc, links)
+}
+
+/// Dials the nodes of a machine.
+fn plan<R: Net>(rt: &R, alloc: Global, mut machine: ProxyLoop) -> io::Result<(Planned, Door)> {
+    let (side, door) = open_door(rt, alloc)?;
+    let mut links = links_of(alloc, &machine)?;
+    links.dial_all(rt, side.poll.registry(), &mut machine);
+    let planned = Planned {
+        side,
+        links,
+        machine,
+    };
+    Ok((planned, door))
+}
+
+/// A loop for each machine, whose nodes are dialled: so there are descriptors for its links before clients have them. The error is of
+/// the kind `OutOfMemory` where memory was refused.
+pub fn open_loops<R: Net>(
+    rt: &R,
+    alloc: Global,
+    machines: Vec<ProxyLoop>,
+) -> io::Result<(Loops, Doors)> {
+    let mut planned = Vec::with_capacity(alloc, machines.len())?;
+    let mut doors = Vec::with_capacity(alloc, machines.len())?;
+    for machine in machines {
+        let (side, door) = plan(rt, alloc, machine)?;
+        planned.push(side)?;
+        doors.push(door)?;
+    }
+    Ok((Loops { planned }, Doors::new(doors)))
+}
+
+/// Starts a thread for each loop. Whether each could be started.
+fn start_loops<
+    's,
+    'e,
+    R: Net<Listener = TcpListener, Stream = TcpStream> + Threads + Wait + Clock + Sync,
+    E: Hears + Sync,
+>(
+    rt: &'s R,
+    scope: &'s Scope<'s, &'e ()>,
+    alloc: Global,
+    loops: Loops,
+    timing: Timing,
+    watch: &'s ClockWatch,
+    ears: &'s E,
+) -> bool {
+    let Loops { planned } = loops;
+    let mut all = true;
+    for one in planned {
+        let begun = scope.spawn(move || {
+            if run_loop(rt, alloc, one, timing, watch, ears).is_err() {
+                ears.hear(LoopEvent::NoMemory);
+            }
+        });
+        all = all && begun.is_ok();
+    }
+    all
+}
+
+/// Serves so many clients that come to a listener by these loops, and gives how many of them ended without a fault, once all have: by
+/// a quit, at the end of what they sent, or with a request that was refused and answered.
+///
+/// Each loop has a thread; the caller's thread accepts, and hands each client to the loop that has the fewest, by these doors, which
+/// are those of the loops. The readings of the clock of phases are watched. Where there is no loop, or one can't be started, nobody is
+/// accepted.
+pub fn serve<
+    R: Net<Listener = TcpListener, Stream = TcpStream> + Threads + Wait + Clock + Sync,
+    E: Hears + Sync,
+>(
+    rt: &R,
+    alloc: Global,
+    listener: &TcpListener,
+    loops: Loops,
+    doors: &Doors,
+    bounds: DriverBounds,
+    watch: &ClockWatch,
+    ears: &E,
+) -> u64
+    ensures { result ≤ bounds.clients }
+{
+    let timing = timing_of(bounds.patience);
+    thread::scope(thread::scope_env(), rt, move |scope| {
+        if start_loops(rt, scope, alloc, loops, timing, watch, ears) && !doors.is_empty() {
+            accept_all(rt, alloc, listener, doors, bounds, ears);
+        }
+        doors.close(rt);
+    });
+    doors.served().min(bounds.clients)
+}

@@ -1,0 +1,238 @@
+//! The turns of a loop: it waits for events, and does what follows from them.
+ghost use Rattle.std.specs.Prelude.{◌≡◌, ◌≤◌, length};
+
+use crate::clients::Clients;
+use crate::clocks::Clocks;
+use crate::doors::{Mail, Side};
+use crate::engine::{Engine, Timing};
+use crate::flow::signs_of;
+use crate::hearing::{Hears, LoopEvent};
+use crate::links::Links;
+use crate::reports::{LoopReport, report_of};
+use crate::times::{next_at, tick_of};
+use crate::tokens::{Origin, origin_of};
+use crate::waits::Waits;
+use crossbeam_channel::{Receiver, Sender};
+use mio::Events;
+use mio::event::Event;
+use mr_counting::ClockWatch;
+use mr_loop::ProxyLoop;
+use std::alloc::{AllocError, Global};
+use std::io;
+use std::net::Net;
+use std::sync::Wait;
+use std::time::Clock;
+
+/// How many events are looked at in one turn.
+const EVENTS: usize = 1_024;
+
+/// How many bytes of a socket are read in one turn, so that each other one has its turn too.
+const SHARE: usize = 65_536;
+
+/// How often it is looked whether a client was silent for too long, in microseconds.
+const SWEEP: u64 = 1_000_000;
+
+/// A loop that isn't started yet, whose nodes are dialled.
+#[derive(Drop)]
+pub(crate) struct Planned {
+    pub(crate) side: Side,
+    pub(crate) links: Links,
+    pub(crate) machine: ProxyLoop,
+}
+
+/// A loop that runs.
+struct EventLoop<'a, R: Net + Clock, E: Hears> {
+    alloc: Global,
+    engine: Engine<'a, R, E>,
+    links: Links,
+    clients: Clients,
+    mail: Receiver<Mail>,
+    no_more: bool,
+    next_tick: u64,
+    next_sweep: u64,
+    /// The loop was late, so that the time counts with the next turn alone.
+    is_late: bool,
+}
+
+impl<'a, R: Net + Clock, E: Hears> Drop for EventLoop<'a, R, E> {
+    fn drop(self) {
+        let Self {
+            alloc: _,
+            engine: _,
+            links: _,
+            clients: _,
+            mail: _,
+            no_more: _,
+            next_tick: _,
+            next_sweep: _,
+            is_late: _,
+        } = self;
+    }
+}
+
+impl<'a, R: Net + Clock, E: Hears> EventLoop<'a, R, E> {
+    /// What the loop waits for, beside events.
+    fn waits(&self) -> Waits {
+        Waits {
+            is_busy: self.clients.are_busy() || self.links.are_busy(),
+            is_timed: self.links.are_timed()
+                || self.clients.are_timed()
+                || self.engine.machine.core().outstanding() > 0,
+            is_bounded: self.engine.timing.is_idle_bounded() && !self.clients.is_empty(),
+            begin: self.engine.now,
+            next_tick: self.next_tick,
+            next_sweep: self.next_sweep,
+        }
+    }
+
+    /// What the time does to the links, where it is time to look. Who waits for memory is tried again.
+    fn tick(&mut self) {
+        let now = self.engine.now;
+        if self.is_late || now < self.next_tick {
+            return;
+        }
+        self.next_tick = next_at(now, tick_of(self.engine.timing.leg_bound));
+        self.engine.machine.on_tick(now);
+        self.links.tick_all(&mut self.engine);
+        self.clients.call_starved();
+    }
+
+    /// What the time does to the clients, where it is time to look.
+    fn sweep(&mut self) {
+        if self.is_late || self.engine.now < self.next_sweep {
+            return;
+        }
+        self.next_sweep = next_at(self.engine.now, SWEEP);
+        self.clients.sweep_all(&mut self.engine);
+    }
+
+    /// Tells of itself. Who asked may be gone.
+    fn answer(&self, asker: Sender<LoopReport>)
+    where
+        R: Wait,
+    {
+        match report_of(self.alloc, &self.engine.machine) {
+            Ok(report) => {
+                let _ = asker.send(self.engine.rt, report);
+            }
+            Err(_) => self.engine.hear(LoopEvent::NoMemory),
+        }
+    }
+
+    /// Takes what other threads have told.
+    fn take_mail(&mut self)
+    where
+        R: Wait,
+    {
+        for _ in 0..u64::MAX {
+            match self.mail.try_recv(self.engine.rt) {
+                Ok(Mail::Client(socket)) => self.clients.admit(&mut self.engine, socket),
+                Ok(Mail::Tell(asker)) => self.answer(asker),
+                Ok(Mail::NoMore) => self.no_more = true,
+                Err(_) => return,
+            }
+        }
+    }
+
+    /// Something happened.
+    fn note(&mut self, event: &Event)
+    where
+        R: Wait,
+    {
+        match origin_of(self.engine.machine.links(), event.token().0) {
+            Origin::Mail => self.take_mail(),
+            Origin::Link(number) => self.links.note(&mut self.engine, number, signs_of(event)),
+            Origin::Client(place) => self.clients.note(place, signs_of(event)),
+        }
+    }
+
+    /// Waits for what happens, and notes it. A process that was stopped may hear of nothing at first: then the loop is late.
+    fn wait(&mut self, events: &mut Events) -> io::Result<()>
+    where
+        R: Wait,
+    {
+        let waits = self.waits();
+        self.engine.poll.poll(events, waits.patience())?;
+        self.engine.move_on();
+        self.is_late = !self.is_late && waits.is_overslept_at(self.engine.now);
+        for event in &*events {
+            self.note(event);
+        }
+        Ok(())
+    }
+
+    /// Waits, and does what follows from what has happened. What came counts before the time does: where the loop itself was late,
+    /// nobody is ended for that.
+    fn turn(&mut self, events: &mut Events, input: &mut [u8]) -> io::Result<()>
+    where
+        R: Wait,
+    {
+        self.wait(events)?;
+        self.links.read_all(&mut self.engine, input);
+        self.tick();
+        self.clients.go_on(&mut self.engine, &mut self.links);
+        self.clients.serve_all(&mut self.engine, input);
+        self.links.write_all(&mut self.engine);
+        self.clients.tell_all(&mut self.engine);
+        self.sweep();
+        Ok(())
+    }
+
+    /// Takes turns, until all clients have ended and no more come.
+    fn run(&mut self, events: &mut Events, input: &mut [u8])
+    where
+        R: Wait,
+    {
+        let rt = self.engine.rt;
+        for _ in rt.forever() {
+            if self.no_more && self.clients.is_empty() {
+                return;
+            }
+            if self.turn(events, input).is_err() {
+                return;
+            }
+        }
+    }
+}
+
+/// Serves the clients that a loop is told of, until all have ended and no more come. One for which there is no memory serves nobody.
+pub(crate) fn run_loop<R: Net + Wait + Clock, E: Hears>(
+    rt: &R,
+    alloc: Global,
+    planned: Planned,
+    timing: Timing,
+    watch: &ClockWatch,
+    ears: &E,
+) -> Result<(), AllocError> {
+    let Planned {
+        side,
+        links,
+        machine,
+    } = planned;
+    let Side { poll, mail, tally } = side;
+    let clients = Clients::new(alloc, machine.links(), tally)?;
+    let mut events = Events::with_capacity(alloc, EVENTS)?;
+    let mut input = vec![in alloc; 0u8; SHARE]?;
+    let mut running = EventLoop {
+        alloc,
+        engine: Engine {
+            rt,
+            ears,
+            poll,
+            clocks: Clocks::new(rt, watch),
+            timing,
+            now: 0,
+            machine,
+        },
+        links,
+        clients,
+        mail,
+        no_more: false,
+        next_tick: 0,
+        next_sweep: 0,
+        is_late: false,
+    };
+    running.run(&mut events, input.as_mut_slice());
+    running.clients.close();
+    Ok(())
+}

@@ -1,0 +1,64 @@
+//! How long a loop may wait for events.
+ghost use Rattle.std.specs.Prelude.{◌≡◌, option_map};
+ghost use Rattle.std.specs.Duration.{as_nanos};
+ghost use Rattle.mr_driver.specs.Waits.{end_in, nanos_in, is_overslept_in};
+
+use crate::times::{next_at, until};
+use std::time::Duration;
+
+/// How much later than it meant to a loop may wake before it is late, in microseconds.
+const MOST_LATE: u64 = 25_000;
+
+/// What a loop waits for, beside events. Moments are in microseconds.
+#[derive(Clone, Copy, Debug)]
+pub(crate) struct Waits {
+    /// There is something that can be done at once.
+    pub(crate) is_busy: bool,
+    /// Something ends at some time: a pause, a dial, a leg; or room or memory is wanted, of which no event tells.
+    pub(crate) is_timed: bool,
+    /// There are clients who mustn't be silent for too long.
+    pub(crate) is_bounded: bool,
+    /// The time when it begins to wait.
+    pub(crate) begin: u64,
+    /// When it is looked at the links.
+    pub(crate) next_tick: u64,
+    /// When it is looked at the clients.
+    pub(crate) next_sweep: u64,
+}
+
+impl Waits {
+    /// Until when the loop may wait. None for as long as nothing happens.
+    fn end(&self) -> Option<u64>
+        ensures { result ≡ end_in self.now }
+    {
+        if self.is_busy {
+            Some(self.begin)
+        } else if self.is_timed {
+            Some(self.next_tick)
+        } else if self.is_bounded {
+            Some(self.next_sweep)
+        } else {
+            None
+        }
+    }
+
+    /// How long the loop may wait. None for as long as nothing happens.
+    pub(crate) fn patience(&self) -> Option<Duration>
+        ensures { option_map as_nanos result ≡ nanos_in self.now }
+    {
+        match self.end() {
+            Some(end) => Some(until(self.begin, end)),
+            None => None,
+        }
+    }
+
+    /// Whether it is so late that the loop itself was.
+    pub(crate) fn is_overslept_at(&self, now: u64) -> bool
+        ensures { result ≡ is_overslept_in now self.now }
+    {
+        match self.end() {
+            Some(end) => now > next_at(end.max(self.begin), MOST_LATE),
+            None => false,
+        }
+    }
+}

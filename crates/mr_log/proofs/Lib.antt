@@ -1,0 +1,7 @@
+mod KindLemmas
+mod WaitingLemmas
+mod RunLemmas
+mod ApartLemmas
+mod NodeLemmas
+mod TextLemmas
+mod TimeLemmas

@@ -1,0 +1,9 @@
+pub mod Kinds
+pub mod Laws
+pub mod Lines
+pub mod Log
+pub mod Nodes
+pub mod Runs
+pub mod Time
+pub mod Waiting
+pub mod Watching

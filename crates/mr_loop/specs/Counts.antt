@@ -1,0 +1,125 @@
+-- What a loop counts, and what a link does.
+use Rattle.std.specs.Prelude.{◌≡◌, ℕ, ◌+◌, ◌-◌, ◌^◌, min, Bool, List, [], ◌∷◌, ◌++◌, replicate, Option, Some, None, slice_index, slice_set, if◌then◌else◌}
+use Rattle.mr_text.specs.declared.cause.Cause.{Cause}
+use Rattle.mr_phases.specs.Schedule.{Hop, phase_of}
+use Rattle.mr_proxy.specs.Answer.{AnswerView}
+use Rattle.mr_counting.specs.Counting.{one_more}
+use Rattle.mr_counting.specs.LegTimes.{bounds, place_in}
+use Rattle.mr_counting.specs.ProxyCounts.{request_counted, answer_counted, cause_counted, later_of}
+use Rattle.mr_counting.specs.declared.answer_counts.AnswerCounts.{AnswerCounts}
+use Rattle.mr_counting.specs.declared.request_counts.PhaseCounts.{PhaseCounts}
+use Rattle.mr_counting.specs.declared.request_counts.RequestCounts.{RequestCounts}
+use Rattle.mr_loop.specs.declared.counts.ClientCounts.{ClientCounts}
+use Rattle.mr_loop.specs.declared.counts.LoopCounts.{LoopCounts}
+use Rattle.mr_loop.specs.declared.link_counts.LegTimes.{LegTimes}
+use Rattle.mr_loop.specs.declared.link_counts.LinkCounts.{LinkCounts}
+use Rattle.mr_loop.specs.declared.sent_legs.SentLeg.{SentLeg}
+
+-- no request in any phase
+abbrev pub no_phases : PhaseCounts
+no_phases = record { old_only = 0; both_read_old = 0; both_read_new = 0; new_only = 0 }
+
+-- no request of any command
+abbrev pub no_requests : RequestCounts
+no_requests = record { gets = no_phases; sets = no_phases; deletes = no_phases }
+
+-- no answer of any kind
+abbrev pub no_answers : AnswerCounts
+no_answers = record {
+  hits = 0;
+  misses = 0;
+  stored = 0;
+  deleted = 0;
+  not_found = 0;
+  leg_lost = 0;
+  busy = 0;
+  out_of_memory = 0;
+  clock_fault = 0;
+  other_fault = 0;
+}
+
+-- no request came to an answer yet
+abbrev pub no_counts : LoopCounts
+no_counts = record { requests = no_requests; answers = no_answers; last_issue = None }
+
+-- an answer is counted, and its request in the phase of its own reading
+abbrev pub with_counted : List Hop → AnswerView → LoopCounts → LoopCounts
+with_counted hops answer counts = record {
+  requests = request_counted answer.request (phase_of hops answer.reading) counts.requests;
+  answers = answer_counted answer counts.answers;
+  last_issue = later_of counts.last_issue answer.reading;
+}
+
+-- the answer is counted, if there is one
+abbrev pub counted_if : List Hop → Option AnswerView → LoopCounts → LoopCounts
+counted_if hops None counts = counts
+counted_if hops (Some answer) counts = with_counted hops answer counts
+
+-- a request was not begun for this cause
+abbrev pub with_denied : Cause → LoopCounts → LoopCounts
+with_denied cause counts = record counts { answers = cause_counted cause counts.answers }
+
+-- no client came yet
+abbrev pub no_clients : ClientCounts
+no_clients = record { came = 0; left = 0; held_back = 0 }
+
+-- what stands first of a client is held back: it counts once, however often it is tried
+abbrev pub held_once : Bool → ClientCounts → ClientCounts
+held_once waits counts = if waits then counts else record counts { held_back = one_more counts.held_back }
+
+-- no leg took any time
+abbrev pub no_times : LegTimes
+no_times = record { counts = replicate 16 0; micros = 0 }
+
+-- the count at a place is one more
+abbrev pub one_more_at : ℕ → List ℕ → List ℕ
+one_more_at place counts = slice_set counts place (one_more (slice_index counts place))
+
+-- a leg took so many microseconds
+abbrev pub timed : ℕ → LegTimes → LegTimes
+timed micros times = record {
+  counts = one_more_at (place_in bounds micros) times.counts;
+  micros = min (times.micros + micros) (2 ^ 64 - 1);
+}
+
+-- nothing happened to a link yet
+abbrev pub no_link_counts : LinkCounts
+no_link_counts = record { dials = 0; breaks = 0; carried = 0; lost = 0; times = no_times }
+
+-- the reply of a leg came at this time
+abbrev pub leg_carried : ℕ → SentLeg → LinkCounts → LinkCounts
+leg_carried now sent counts =
+    record counts { carried = one_more counts.carried; times = timed (now - sent.sent_at) counts.times }
+
+-- a leg went, and at this time no reply can come any more that answers it
+abbrev pub leg_lost : ℕ → SentLeg → LinkCounts → LinkCounts
+leg_lost now sent counts =
+    record counts { lost = one_more counts.lost; times = timed (now - sent.sent_at) counts.times }
+
+-- a leg couldn't go: it is lost, and took no time
+abbrev pub leg_unsent : LinkCounts → LinkCounts
+leg_unsent counts = record counts { lost = one_more counts.lost }
+
+-- the replies of these legs came at this time, in their order
+abbrev pub legs_carried : ℕ → List SentLeg → LinkCounts → LinkCounts
+legs_carried now [] counts = counts
+legs_carried now (sent ∷ legs) counts = legs_carried now legs (leg_carried now sent counts)
+
+-- these legs are lost at this time, in their order
+abbrev pub legs_lost : ℕ → List SentLeg → LinkCounts → LinkCounts
+legs_lost now [] counts = counts
+legs_lost now (sent ∷ legs) counts = legs_lost now legs (leg_lost now sent counts)
+
+-- a connection that was there is gone
+abbrev pub break_counted : Bool → LinkCounts → LinkCounts
+break_counted was_up counts = if was_up then record counts { breaks = one_more counts.breaks } else counts
+
+-- a dial was begun
+abbrev pub dial_counted : LinkCounts → LinkCounts
+dial_counted counts = record counts { dials = one_more counts.dials }
+
+-- of these legs the first have their replies now and are counted as carried, and the others are left
+pub record CountsCarried (now : ℕ) (legs left : List SentLeg) (old new : LinkCounts) : Type 0 where
+  pub carried : List SentLeg
+  pub splits : legs ≡ carried ++ left
+  pub counted : new ≡ legs_carried now carried old

@@ -1,0 +1,106 @@
+//! What a link counts of its legs and its connections, each count since the loop began and as far as 64 bits go.
+ghost use Rattle.std.specs.Prelude.{◌≡◌};
+ghost use Rattle.mr_loop.specs.Counts.{no_times, timed, no_link_counts, leg_carried, leg_lost, leg_unsent, break_counted, dial_counted};
+
+use crate::sent_legs::SentLeg;
+use mr_counting::{BUCKETS, one_more, place_of_time};
+
+/// How long legs took.
+#[derive(Clone, Copy, Debug, PartialEq, Eq)]
+pub struct LegTimes {
+    /// How many took no longer than a bound, and longer than the one before it: by the bounds of
+    /// `mr_counting::LegTimes`, of which the last is none.
+    pub counts: [u64; BUCKETS],
+    /// How long they took in all, in microseconds.
+    pub micros: u64,
+}
+
+impl LegTimes {
+    /// None yet.
+    fn new() -> LegTimes
+        ensures { result ≡ no_times }
+    {
+        LegTimes {
+            counts: [0; BUCKETS],
+            micros: 0,
+        }
+    }
+
+    /// Counts a leg that took so many microseconds.
+    fn add(&mut self, micros: u64)
+        ensures { self.new ≡ timed micros self.old }
+    {
+        let place = place_of_time(micros);
+        self.counts[place] = one_more(self.counts[place]);
+        self.micros = self.micros.saturating_add(micros);
+    }
+}
+
+/// What became of the legs of a link, and of its connections.
+#[derive(Clone, Copy, Debug, PartialEq, Eq)]
+pub struct LinkCounts {
+    /// Dials that were begun.
+    pub dials: u64,
+    /// Connections that were there and are gone.
+    pub breaks: u64,
+    /// Legs whose replies came.
+    pub carried: u64,
+    /// Legs that went and whose connection was gone before a reply that answers them, and those that couldn't go.
+    pub lost: u64,
+    /// How long those took that went: to the reply, or to the connection's end.
+    pub times: LegTimes,
+}
+
+impl LinkCounts {
+    /// Nothing yet.
+    pub(crate) fn new() -> LinkCounts
+        ensures { result ≡ no_link_counts }
+    {
+        LinkCounts {
+            dials: 0,
+            breaks: 0,
+            carried: 0,
+            lost: 0,
+            times: LegTimes::new(),
+        }
+    }
+
+    /// The reply of a leg came at this time.
+    pub(crate) fn add_carried(&mut self, now: u64, sent: &SentLeg)
+        ensures { self.new ≡ leg_carried now sent.now self.old }
+    {
+        self.carried = one_more(self.carried);
+        self.times.add(now.saturating_sub(sent.sent_at));
+    }
+
+    /// A leg went, and at this time no reply can come any more that answers it.
+    pub(crate) fn add_lost(&mut self, now: u64, sent: &SentLeg)
+        ensures { self.new ≡ leg_lost now sent.now self.old }
+    {
+        self.lost = one_more(self.lost);
+        self.times.add(now.saturating_sub(sent.sent_at));
+    }
+
+    /// A leg couldn't go.
+    pub(crate) fn add_unsent(&mut self)
+        ensures { self.new ≡ leg_unsent self.old }
+    {
+        self.lost = one_more(self.lost);
+    }
+
+    /// The connection is gone, if there was one.
+    pub(crate) fn add_break(&mut self, was_up: bool)
+        ensures { self.new ≡ break_counted was_up self.old }
+    {
+        if was_up {
+            self.breaks = one_more(self.breaks);
+        }
+    }
+
+    /// A dial began.
+    pub(crate) fn add_dial(&mut self)
+        ensures { self.new ≡ dial_counted self.old }
+    {
+        self.dials = one_more(self.dials);
+    }
+}

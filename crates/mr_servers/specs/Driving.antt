@@ -1,0 +1,28 @@
+-- What a proxy on loops is told to be, and why its loops couldn't be opened.
+use Rattle.std.specs.Prelude.{◌≡◌, ⊤, List, [], ◌∷◌, length, Option, Some, None}
+use Rattle.std.specs.declared.io.ErrorKind.{ErrorKind}
+use Rattle.std.specs.declared.io.ErrorKind.TheVariants as kind
+use Rattle.mr_loop.specs.LoopView.{LoopView}
+use Rattle.mr_servers.specs.Reports.{room_of}
+use Rattle.mr_servers.specs.declared.driving.Known.{Known}
+use Rattle.mr_servers.specs.declared.fault.OpenFault.{OpenFault}
+use Rattle.mr_servers.specs.declared.fault.OpenFault.TheVariants.{Net, OutOfMemory}
+
+-- this is the routing and the schedule of the first machine, the room of all, and how many they are
+pub record IsKnown (first : LoopView) (machines : List LoopView) (known : Known) : Type 0 where
+  pub routing : known.routing ≡ first.front.core.routing
+  pub schedule : known.schedule ≡ first.front.core.schedule
+  pub room : known.room ≡ room_of machines
+  pub loops : known.loops ≡ length machines
+
+-- what is known of machines, if there is one
+abbrev pub IsKnownOf : List LoopView → Option Known → Type 0
+IsKnownOf [] None = ⊤
+IsKnownOf [] (Some known) = ⊥
+IsKnownOf (first ∷ others) None = ⊥
+IsKnownOf (first ∷ others) (Some known) = IsKnown first (first ∷ others) known
+
+-- memory was refused, or anything else failed
+abbrev pub fault_of : ErrorKind → OpenFault
+fault_of kind.OutOfMemory = OutOfMemory
+fault_of _ = Net
