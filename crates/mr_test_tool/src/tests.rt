@@ -1,6 +1,7 @@
-//! A module of tests for fleets that are played event by event, one for plans and scripts, and one for the commands of the
-//! program.
+//! A module of tests for fleets that are played event by event, one for plans and scripts, one for the commands of the program,
+//! and one that a library user could have written.
 mod plan;
+mod surface;
 mod tool;
 mod world;
 

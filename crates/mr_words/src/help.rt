@@ -108,8 +108,9 @@ pub const PROXY_NOTES: &str = notes!(
     many are under way in its loop as --room says, and a client while --max-clients are served. Without both each client\n\
     has a thread and connections of its own; a request beyond --room is answered SERVER_ERROR busy, and the turns bound\n\
     the reads of a node too, for each leg of a request.\n\
-    A leg whose node lets it wait for --leg-timeout milliseconds is lost, as one whose connection broke. A client that\n\
-    sends nothing, or reads nothing of what it is answered, for --idle-timeout seconds is dropped.\n\
+    A leg is lost, as one whose connection broke, that has no whole reply --leg-timeout milliseconds after it went; by\n\
+    threads, one whose node is silent for so long. A client that sends nothing and waits for no answer, or reads nothing\n\
+    of what it is answered, for --idle-timeout seconds is dropped.\n\
     With --metrics, GET /metrics is answered at that address, for Prometheus; docs/METRICS.md says what is told.\n\
     The standard input isn't read. Once all connections have ended, 'served <n>' is printed: the number of those that\n\
     ended without a fault. Where that isn't all of them, the status is 1. With --forever it serves until a signal ends\n\

@@ -98,7 +98,7 @@ fn turns_option<'a>(alloc: Global) -> Arg<'a>
     )
 }
 
-/// The option that says how long a leg waits for its node.
+/// The option that says how long a leg may take.
 fn leg_timeout_option<'a>(alloc: Global) -> Arg<'a>
     ensures rule { rule_of result ≡ number_rule (codes "leg-timeout") }
     ensures local { result.global ≡ false }
@@ -107,7 +107,7 @@ fn leg_timeout_option<'a>(alloc: Global) -> Arg<'a>
         alloc,
         "leg-timeout",
         "milliseconds",
-        "How long a leg waits for its node at a time, 0 for no bound; 5000 where it is left out",
+        "How long a leg may take, 0 for no bound; 5000 where it is left out",
     )
 }
 

@@ -1,16 +1,17 @@
 //! The commands of the program, and the services that it begins.
+use super::get;
 use super::plan::config;
-use super::pools::routing;
-use super::text::get;
 use mr_clock::FixedClock;
+use mr_desks::{Desk, SharedNode};
+use mr_pools::NamedHash;
 use mr_servers::HostServers;
 use mr_sockets::OverListener;
+use mr_test_support::routing;
 use mr_text::{OverReader, OverWriter};
 use mr_tool::{
     HostFiles, LoopValues, SocketCarrier, WRONG_WORDS, Wanted, read_words, run_words, serve_node,
     serve_proxy, write_plan,
 };
-use mr_workers::{Desk, SharedNode};
 use std::alloc::Global;
 use std::net::{Net, TcpListener, TcpStream};
 use std::sync::Wait;
@@ -68,7 +69,7 @@ fn serve_proxy_to_nobody<
     D: Desk<SocketCarrier<N>> + Sync,
     R: Threads + Wait + Clock + Sync,
 >(rt: &R, alloc: Global, net: N, listener: OverListener, desk: &D) -> Result<u64, Fail> {
-    let routing = routing(alloc)?;
+    let routing = routing(alloc, &[b"7101"], NamedHash::Sum)?;
     let (_, served) = serve_proxy(
         rt,
         alloc,

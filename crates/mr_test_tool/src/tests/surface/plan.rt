@@ -1,5 +1,5 @@
 //! Configurations and what follows from one, scripts, and the transcripts of their plays.
-use super::text::get;
+use super::get;
 use mr_plan::{
     Advice, ChainTimes, Checked, Config, Format, KeptVerdict, MAX_DATA_ONE, NewOnlyTime, Outcome,
     PhaseTimes, PlanError, RequestPlan, Script, Standing, advise, check_transcript, plan,
