@@ -25,10 +25,11 @@ use Rattle.mr_proxy.specs.Sound.{IsSound}
 use Rattle.mr_proxy.specs.Transitions.{place_of_op, pending_with, open_sheet_in, open_sheet, open_legs_of, noted_by, settled, after_take, taken_by, taken_of, left_by, after_give_up, given_up_in, given_up_of}
 use Rattle.mr_proxy.proofs.OpenLemmas.{issue_opens_lem, take_closes_one_lem, give_up_closes_lem}
 use Rattle.mr_proxy.proofs.SoundLemmas.{noting_in}
+use Rattle.mr_proxy.specs.Replay.{after, replay, is_issue}
+use Rattle.mr_proxy.specs.declared.step.Step.{Step}
+use Rattle.mr_proxy.specs.declared.step.Step.TheVariants.{Issue, Take, GiveUp}
 use Rattle.mr_desks.specs.Recorded.{Gave, SlotStands, PendingStands, CoreStands, AnswerStands, IsRecordedCore}
-use Rattle.mr_desks.specs.Replay.{after, replay, is_issue, IsNoted, IsBookStep, AreSteps}
-use Rattle.mr_desks.specs.declared.step.Step.{Step}
-use Rattle.mr_desks.specs.declared.step.Step.TheVariants.{Issue, Take, GiveUp}
+use Rattle.mr_desks.specs.Books.{IsNoted, IsBookStep, AreSteps}
 
 plus_nothing : (n : ℕ) → n + 0 ≡ n
 plus_nothing n = omega arith

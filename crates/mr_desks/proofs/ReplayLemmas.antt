@@ -2,8 +2,9 @@
 use Rattle.std.proofs.Common.{◌≡◌, ◌∙◌, ℕ, ◌+◌, ◌<◌, List, [], ◌∷◌, ◌++◌, length, drop, slice_index_or, Option, Some, None, ap, subst, sym, append_assoc}
 use Rattle.mr_proxy.specs.Answer.{AnswerView}
 use Rattle.mr_proxy.specs.ProxyView.{ProxyView}
-use Rattle.mr_desks.specs.Replay.{after, answer_at, answers_of, with_answer, IsBookStep, AreSteps}
-use Rattle.mr_desks.specs.declared.step.Step.{Step}
+use Rattle.mr_proxy.specs.Replay.{after, answer_at, answers_of, with_answer}
+use Rattle.mr_proxy.specs.declared.step.Step.{Step}
+use Rattle.mr_desks.specs.Books.{IsBookStep, AreSteps}
 use Rattle.mr_desks.proofs.ClosingLemmas.{rest_is}
 
 module _ (p p' : ProxyView) (steps : List Step) (i : ℕ) (step : Step) (in_range : i < length steps) (is : step ≡ slice_index_or steps i step)

@@ -4,11 +4,11 @@ use Rattle.mr_history.specs.declared.op_id.OpId.{OpId}
 use Rattle.mr_proxy.specs.Answer.{AnswerView}
 use Rattle.mr_history.specs.OpIds.{is_same_op}
 use Rattle.mr_proxy.specs.ProxyView.{ProxyView, opening_of, AreAlike}
-use Rattle.mr_desks.specs.Replay.{answers_of}
+use Rattle.mr_proxy.specs.Replay.{answers_of}
+use Rattle.mr_proxy.specs.declared.step.Step.{Step}
 use Rattle.mr_desks.specs.declared.book.Book.{Book}
 use Rattle.mr_desks.specs.declared.close_error.CloseError.{CloseError}
 use Rattle.mr_desks.specs.declared.close_error.CloseError.TheVariants.{BookDiffers, OutOfMemory}
-use Rattle.mr_desks.specs.declared.step.Step.{Step}
 
 -- one of the answers is that to the request of this op
 abbrev pub has_op : List AnswerView → OpId → Bool

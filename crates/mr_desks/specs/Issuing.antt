@@ -5,10 +5,10 @@ use Rattle.mr_history.specs.declared.op_id.OpId.{OpId}
 use Rattle.mr_proxy.specs.Issue.{next_op, sheets_of, after_issue}
 use Rattle.mr_proxy.specs.Transitions.{open_legs_of}
 use Rattle.mr_proxy.specs.declared.sheet.LegSheet.{LegSheet}
+use Rattle.mr_proxy.specs.declared.step.Step.TheVariants.{Issue}
 use Rattle.mr_desks.specs.Recorded.{Recorded}
 use Rattle.mr_desks.specs.declared.desk_error.DeskError.{DeskError}
 use Rattle.mr_desks.specs.declared.desk_error.DeskError.TheVariants.{ClockFault, NumbersSpent, NoRoom, BookFull, OutOfMemory}
-use Rattle.mr_desks.specs.declared.step.Step.TheVariants.{Issue}
 
 -- what one call of a clock does: the clock before it, the reading or none at a fault, and the clock after it
 abbrev pub ClockRelation : Type 0 → Type 1

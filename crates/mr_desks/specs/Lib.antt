@@ -1,3 +1,4 @@
+pub mod Books
 pub mod Carriers
 pub mod Closing
 pub mod Desk
@@ -6,7 +7,6 @@ pub mod Direct
 pub mod Issuing
 pub mod Local
 pub mod Recorded
-pub mod Replay
 pub mod SentLegs
 pub mod Shared
 pub mod Taking

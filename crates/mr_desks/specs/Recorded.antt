@@ -7,8 +7,9 @@ use Rattle.mr_proxy.specs.ProxyView.{ProxyView, opening_of}
 use Rattle.mr_proxy.specs.Transitions.{open_legs_of}
 use Rattle.mr_proxy.specs.declared.sheet.LegSheet.{LegSheet}
 use Rattle.mr_proxy.specs.declared.slot.Slot.{Slot}
-use Rattle.mr_desks.specs.Replay.{replay, is_issue, AreSteps}
-use Rattle.mr_desks.specs.declared.step.Step.{Step}
+use Rattle.mr_proxy.specs.Replay.{replay, is_issue}
+use Rattle.mr_proxy.specs.declared.step.Step.{Step}
+use Rattle.mr_desks.specs.Books.{AreSteps}
 
 -- the proxy, the steps that it made since it was fresh, and the most that the book keeps
 pub record Recorded : Type 0 where

@@ -6,8 +6,8 @@ use Rattle.mr_proxy.specs.Transitions.{open_sheet, taken_of, after_take, after_g
 use Rattle.mr_proxy.specs.declared.sheet.LegBack.{LegBack}
 use Rattle.mr_proxy.specs.declared.taken.Taken.{Taken}
 use Rattle.mr_proxy.specs.declared.taken.Taken.TheVariants.{Waiting, Answered, Stranger}
+use Rattle.mr_proxy.specs.declared.step.Step.TheVariants.{Take, GiveUp}
 use Rattle.mr_desks.specs.Recorded.{Gave, Recorded, AnswerStands}
-use Rattle.mr_desks.specs.declared.step.Step.TheVariants.{Take, GiveUp}
 
 -- What becomes of a leg that came back: what the proxy makes of its reply, and a stranger where the sheet isn't that of an
 -- open leg of the proxy's own.

@@ -1,10 +1,9 @@
 //! What a recorded proxy comes to.
 ghost use Rattle.std.specs.Prelude.{◌≡◌, count_by};
 ghost use Rattle.mr_proxy.specs.ProxyView.{opening_of};
-ghost use Rattle.mr_desks.specs.Replay.{replay, is_issue};
+ghost use Rattle.mr_proxy.specs.Replay.{replay, is_issue};
 
-use crate::step::Step;
-use mr_proxy::ProxyCore;
+use mr_proxy::{ProxyCore, Step};
 
 /// A proxy, and the book of all steps that it made since it was fresh.
 #[derive(Drop)]

@@ -16,11 +16,10 @@ use crate::carrier::Carrier;
 use crate::desk_error::DeskError;
 use crate::replaying::answers_in;
 use crate::share::Share;
-use crate::step::Step;
 use mr_clock::Clock;
 use mr_history::OpId;
 use mr_join::LegReply;
-use mr_proxy::{Answer, Issued, LegBack, ProxyCore, ProxyError, Taken, issue_copy};
+use mr_proxy::{Answer, Issued, LegBack, ProxyCore, ProxyError, Step, Taken, issue_copy};
 use mr_text::Request;
 use std::alloc::{AllocError, Global};
 use std::marker::{Model, PhantomData};
@@ -63,7 +62,7 @@ fn discard(_noted: LegBack) {}
 impl<C: Carrier> RecordedState<C> {
     ghost use Rattle.std.specs.Prelude.{[]};
     ghost use Rattle.mr_proxy.specs.ProxyView.{IsFresh, opening_of};
-    ghost use Rattle.mr_desks.specs.Replay.{answers_of};
+    ghost use Rattle.mr_proxy.specs.Replay.{answers_of};
 
     /// The fresh proxy with an empty book, which keeps at most so many steps. It takes no memory.
     pub fn new(alloc: Global, core: ProxyCore, limit: u64) -> RecordedState<C>

@@ -2,10 +2,10 @@
 ghost use Rattle.std.specs.Prelude.{◌≡◌, option_map, IfOk, OnOk};
 ghost use Rattle.mr_proxy.specs.ProxyView.{opening_of};
 ghost use Rattle.mr_proxy.specs.Transitions.{taken_of, after_take};
-ghost use Rattle.mr_desks.specs.Replay.{after, answered_in, answer_at, answers_of, IsBookStep, AreSteps};
+ghost use Rattle.mr_proxy.specs.Replay.{after, answered_in, answer_at, answers_of};
+ghost use Rattle.mr_desks.specs.Books.{IsBookStep, AreSteps};
 
-use crate::step::Step;
-use mr_proxy::{Answer, LegBack, ProxyCore, Taken, issue_copy};
+use mr_proxy::{Answer, LegBack, ProxyCore, Step, Taken, issue_copy};
 use std::alloc::{AllocError, Global};
 
 /// Takes a copy of a reply, as the proxy does, and gives the answer that it brings, if it brings one.

@@ -12,8 +12,8 @@ use Rattle.mr_history.specs.declared.op_id.OpId.{OpId}
 use Rattle.mr_node.specs.Output.{reply_to_refusal}
 use Rattle.mr_proxy.specs.Answer.{AnswerView}
 use Rattle.mr_proxy.specs.Issue.{next_op, sheets_of}
-use Rattle.mr_desks.specs.Replay.{answer_at}
-use Rattle.mr_desks.specs.declared.step.Step.TheVariants.{Issue, GiveUp}
+use Rattle.mr_proxy.specs.Replay.{answer_at}
+use Rattle.mr_proxy.specs.declared.step.Step.TheVariants.{Issue, GiveUp}
 use Rattle.mr_loop.specs.declared.asker.Asker.{Asker}
 use Rattle.mr_loop.specs.declared.asker.Limits.{Limits}
 use Rattle.mr_loop.specs.declared.asking.Pause.{Pause}

@@ -9,7 +9,7 @@ use Rattle.mr_pools.specs.Routing.{RoutingView}
 use Rattle.mr_history.specs.declared.op_id.OpId.{OpId}
 use Rattle.mr_proxy.specs.Issue.{next_op, refusal_of, sheets_of}
 use Rattle.mr_proxy.specs.declared.sheet.LegSheet.{LegSheet}
-use Rattle.mr_desks.specs.declared.step.Step.TheVariants.{Issue}
+use Rattle.mr_proxy.specs.declared.step.Step.TheVariants.{Issue}
 use Rattle.mr_loop.specs.declared.asker.Asker.{Asker}
 use Rattle.mr_loop.specs.declared.front.Begun.TheVariants.{Told}
 use Rattle.mr_loop.specs.declared.asking.Pause.{Pause}

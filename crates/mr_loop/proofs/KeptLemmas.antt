@@ -6,9 +6,9 @@ use Rattle.mr_node.specs.Output.{reply_to_refusal}
 use Rattle.mr_proxy.specs.Answer.{AnswerView}
 use Rattle.mr_proxy.specs.Issue.{sheets_of}
 use Rattle.mr_proxy.specs.ProxyView.{ProxyView}
-use Rattle.mr_desks.specs.Replay.{answer_at}
-use Rattle.mr_desks.specs.declared.step.Step.{Step}
-use Rattle.mr_desks.specs.declared.step.Step.TheVariants.{Issue, Take, GiveUp}
+use Rattle.mr_proxy.specs.Replay.{answer_at}
+use Rattle.mr_proxy.specs.declared.step.Step.{Step}
+use Rattle.mr_proxy.specs.declared.step.Step.TheVariants.{Issue, Take, GiveUp}
 use Rattle.mr_loop.specs.declared.asker.Asker.{Asker}
 use Rattle.mr_loop.specs.declared.asking.Pause.{Pause}
 use Rattle.mr_loop.specs.declared.asking.Pause.TheVariants.{NeedsBytes, NeedsRoom, NeedsReader, NeedsQueue, NeedsMemory, IsDone}

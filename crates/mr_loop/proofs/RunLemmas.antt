@@ -3,8 +3,8 @@ use Rattle.std.proofs.Common.{◌≡◌, List, [], ◌∷◌, ◌++◌, refl, sy
 use Rattle.std.proofs.lemmas.List.{append-nil}
 use Rattle.mr_text.specs.declared.reply.Reply.{Reply}
 use Rattle.mr_proxy.specs.ProxyView.{ProxyView}
-use Rattle.mr_desks.specs.Replay.{after, replay}
-use Rattle.mr_desks.specs.declared.step.Step.{Step}
+use Rattle.mr_proxy.specs.Replay.{after, replay}
+use Rattle.mr_proxy.specs.declared.step.Step.{Step}
 use Rattle.mr_loop.specs.declared.sent_legs.SentLeg.{SentLeg}
 use Rattle.mr_loop.specs.Events.{FrontView, Event, after_event, after_all, step_of, steps_of}
 use Rattle.mr_loop.specs.Returning.{TakesAll}

@@ -6,7 +6,7 @@ use Rattle.mr_text.specs.declared.error.TextError.{TextError}
 use Rattle.mr_text.specs.declared.error.TextError.TheVariants.{LineTooLong, BadKey, BadNumber, WrongWords, DataTooLong, BadDataEnd, UnknownCommand, Truncated, Closed, OutOfMemory}
 use Rattle.mr_text.specs.declared.reply.Reply.{Reply}
 use Rattle.mr_join.specs.declared.leg_reply.LegReply.{LegReply}
-use Rattle.mr_sessions.specs.Answering.{IsAnswer}
+use Rattle.mr_proxy.specs.NodeReplies.{IsAnswer}
 use Rattle.mr_loop.specs.declared.sent_legs.SentLeg.{SentLeg}
 use Rattle.mr_loop.specs.Events.{FrontView, Event, after_event, after_all}
 use Rattle.mr_loop.specs.Returning.{Reads, TakesAll, HasTaken, taking, IsRefused}

@@ -13,9 +13,9 @@ use Rattle.mr_history.proofs.TestLemmas.{same_op}
 use Rattle.mr_proxy.specs.Answer.{AnswerView}
 use Rattle.mr_proxy.specs.Issue.{next_op}
 use Rattle.mr_proxy.specs.ProxyView.{ProxyView}
-use Rattle.mr_desks.specs.Replay.{answer_at}
-use Rattle.mr_desks.specs.declared.step.Step.{Step}
-use Rattle.mr_desks.specs.declared.step.Step.TheVariants.{Issue, Take, GiveUp}
+use Rattle.mr_proxy.specs.Replay.{answer_at}
+use Rattle.mr_proxy.specs.declared.step.Step.{Step}
+use Rattle.mr_proxy.specs.declared.step.Step.TheVariants.{Issue, Take, GiveUp}
 use Rattle.mr_loop.specs.declared.client.Client.{Client}
 use Rattle.mr_loop.specs.declared.turns.Turn.{Turn}
 use Rattle.mr_loop.specs.declared.turns.Turn.TheVariants.{Waits, Answered, Says}

@@ -12,7 +12,7 @@ use Rattle.mr_proxy.specs.Issue.{next_op, refusal_of, sheets_of}
 use Rattle.mr_proxy.specs.ProxyView.{ProxyView}
 use Rattle.mr_proxy.specs.declared.error.ProxyError.{ProxyError}
 use Rattle.mr_proxy.specs.declared.error.ProxyError.TheVariants.{NoRoom, OutOfMemory, NumbersSpent, NoSuchOp}
-use Rattle.mr_desks.specs.declared.step.Step.TheVariants.{Issue, GiveUp}
+use Rattle.mr_proxy.specs.declared.step.Step.TheVariants.{Issue, GiveUp}
 use Rattle.mr_loop.specs.declared.asker.Asker.{Asker}
 use Rattle.mr_loop.specs.declared.asker.Limits.{Limits}
 use Rattle.mr_loop.specs.declared.asking.Pause.{Pause}

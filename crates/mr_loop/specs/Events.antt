@@ -5,9 +5,9 @@ use Rattle.mr_text.specs.declared.reply.Reply.{Reply}
 use Rattle.mr_proxy.specs.Answer.{AnswerView}
 use Rattle.mr_proxy.specs.Issue.{next_op}
 use Rattle.mr_proxy.specs.ProxyView.{ProxyView}
-use Rattle.mr_desks.specs.Replay.{after, answer_at}
-use Rattle.mr_desks.specs.declared.step.Step.{Step}
-use Rattle.mr_desks.specs.declared.step.Step.TheVariants.{Issue, Take, GiveUp}
+use Rattle.mr_proxy.specs.Replay.{after, answer_at}
+use Rattle.mr_proxy.specs.declared.step.Step.{Step}
+use Rattle.mr_proxy.specs.declared.step.Step.TheVariants.{Issue, Take, GiveUp}
 use Rattle.mr_loop.specs.declared.client.Client.{Client}
 use Rattle.mr_loop.specs.declared.counts.LoopCounts.{LoopCounts}
 use Rattle.mr_loop.specs.declared.turns.Turn.{Turn}

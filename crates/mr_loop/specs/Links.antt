@@ -4,7 +4,7 @@ use Rattle.mr_text.specs.Stream.{ReaderView}
 use Rattle.mr_pools.specs.Routing.{RoutingView, pool_of, place_of}
 use Rattle.mr_proxy.specs.Sheets.{pool_at}
 use Rattle.mr_proxy.specs.declared.sheet.LegSheet.{LegSheet}
-use Rattle.mr_sessions.specs.Requesting.{text_for}
+use Rattle.mr_proxy.specs.NodeRequests.{text_for}
 use Rattle.mr_loop.specs.declared.asker.Asker.{Asker}
 use Rattle.mr_loop.specs.declared.link.Link.{Link}
 use Rattle.mr_loop.specs.declared.link_counts.LinkCounts.{LinkCounts}

@@ -1,5 +1,5 @@
 -- The loop as contracts see it, and what each thing that happens does to it.
-use Rattle.std.specs.Prelude.{◌≡◌, ℕ, Bool, true, false, ◌⊎◌, ◌||◌, IsTrue, List, [], ◌∷◌, ◌++◌, map, Option, Some, None, ◌&&◌, drop, length, slice_get, slice_set, sum_by, replicate}
+use Rattle.std.specs.Prelude.{◌≡◌, ℕ, Bool, true, false, ◌⊎◌, ◌||◌, IsTrue, List, [], ◌∷◌, ◌++◌, map, Option, Some, None, ◌&&◌, not, drop, length, slice_get, slice_set, sum_by, replicate}
 use Rattle.mr_text.specs.Stream.{Becomes}
 use Rattle.mr_pools.specs.Routing.{RoutingView}
 use Rattle.mr_proxy.specs.ProxyView.{ProxyView}
@@ -160,6 +160,11 @@ is_nothing (x ∷ xs) = false
 abbrev pub is_idle_in : Option Client → Bool
 is_idle_in None = true
 is_idle_in (Some client) = is_nothing client.turns && is_nothing client.out
+
+-- the client of a place took all that it was told, and waits for answers to what it asked
+abbrev pub is_waiting_in : Option Client → Bool
+is_waiting_in None = false
+is_waiting_in (Some client) = is_nothing client.out && not (is_nothing client.turns)
 
 -- so many bytes were written to a client
 pub record ClientRead (client count : ℕ) (old new : LoopView) : Type 0 where

@@ -7,8 +7,8 @@ use Rattle.mr_text.specs.declared.error.TextError.TheVariants.{Closed, OutOfMemo
 use Rattle.mr_text.specs.declared.reply.Reply.{Reply}
 use Rattle.mr_text.specs.declared.reply.Reply.TheVariants.{Items, Stored, Deleted, NotFound, Error, ClientError, ServerError}
 use Rattle.mr_join.specs.declared.leg_reply.LegReply.{LegReply}
-use Rattle.mr_desks.specs.declared.step.Step.TheVariants.{Take, GiveUp}
-use Rattle.mr_sessions.specs.Answering.{IsAnswer}
+use Rattle.mr_proxy.specs.declared.step.Step.TheVariants.{Take, GiveUp}
+use Rattle.mr_proxy.specs.NodeReplies.{IsAnswer}
 use Rattle.mr_loop.specs.declared.link.Link.{Link}
 use Rattle.mr_loop.specs.declared.link.LinkEnd.{LinkEnd}
 use Rattle.mr_loop.specs.declared.link.LinkEnd.TheVariants.{Whole, Surplus, Mismatch, Complaint, Refused, Down}

@@ -6,8 +6,8 @@ use Rattle.mr_history.specs.declared.op_id.OpId.{OpId}
 use Rattle.mr_proxy.specs.Answer.{AnswerView}
 use Rattle.mr_proxy.specs.Issue.{next_op}
 use Rattle.mr_proxy.specs.ProxyView.{ProxyView}
-use Rattle.mr_desks.specs.Replay.{replay, answer_at}
-use Rattle.mr_desks.specs.declared.step.Step.TheVariants.{Issue, Take, GiveUp}
+use Rattle.mr_proxy.specs.Replay.{replay, answer_at}
+use Rattle.mr_proxy.specs.declared.step.Step.TheVariants.{Issue, Take, GiveUp}
 use Rattle.mr_loop.specs.declared.client.Client.{Client}
 use Rattle.mr_loop.specs.declared.sent_legs.SentLeg.{SentLeg}
 use Rattle.mr_loop.specs.declared.turns.Turn.{Turn}

@@ -1,10 +1,10 @@
 //! The core, with the clients whose requests it has.
 ghost use Rattle.std.specs.Prelude.{◌≡◌, ◌≢◌, ◌<◌, ◌≤◌, true, false, [], ◌∷◌, ◌++◌, length, slice_get, slice_set, IfOk, OnOk, OnErr};
 ghost use Rattle.mr_proxy.specs.Issue.{next_op};
-ghost use Rattle.mr_desks.specs.declared.step.Step.TheVariants.{GiveUp};
+ghost use Rattle.mr_proxy.specs.declared.step.Step.TheVariants.{GiveUp};
 ghost use Rattle.mr_loop.specs.Asking.{denial, is_behind, is_full};
 ghost use Rattle.mr_loop.specs.Events.{Event, after_event, changed, with_answer, fresh_front};
-ghost use Rattle.mr_loop.specs.LoopView.{output_in, is_idle_in};
+ghost use Rattle.mr_loop.specs.LoopView.{output_in, is_idle_in, is_waiting_in};
 ghost use Rattle.mr_loop.specs.Returning.{taking};
 ghost use Rattle.mr_loop.specs.Turns.{fresh_client};
 ghost use Rattle.mr_loop.specs.steps.Asking.{IssuesSo, IsWithdrawn, cause_of};
@@ -285,6 +285,15 @@ impl Front {
     {
         let client = &self.clients[client];
         client.turns.len() == 0 && client.out.len() == 0
+    }
+
+    /// Whether a client took all that it was told, and waits for answers to what it asked.
+    pub(crate) fn is_waiting(&self, client: usize) -> bool
+        requires { client < length self.now.clients }
+        ensures { result ≡ is_waiting_in (slice_get self.now.clients client) }
+    {
+        let client = &self.clients[client];
+        client.out.len() == 0 && client.turns.len() > 0
     }
 
     /// So many bytes were written to a client.

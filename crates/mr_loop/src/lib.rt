@@ -2,11 +2,11 @@
 //! all clients go. It owns no socket and reads no clock; what it is told of bytes and time decides all that it does.
 #![tactic(auto)]
 
-mod answering;
 mod asker;
 mod asking;
 mod clearing;
 mod client;
+mod complaint;
 mod counts;
 mod front;
 mod inbox;
@@ -17,7 +17,6 @@ mod numbering;
 mod out_buffer;
 mod out_sink;
 mod proxy_loop;
-mod requesting;
 mod sending;
 mod sent_legs;
 mod turns;

@@ -8,12 +8,13 @@ ghost use Rattle.mr_loop.specs.Ticking.{is_late};
 ghost use Rattle.mr_loop.specs.steps.Returning.{TakesReplies};
 ghost use Rattle.mr_loop.specs.steps.Sending.{without_last};
 
-use crate::answering::{is_complaint, leg_reply_of};
+use crate::complaint::is_complaint;
 use crate::front::Front;
 use crate::link_counts::LinkCounts;
 use crate::out_buffer::OutBuffer;
 use crate::sending::Mark;
 use crate::sent_legs::{SentLeg, SentLegs};
+use mr_proxy::leg_reply_of;
 use mr_text::{FixedBuffer, ReplyReader, TextError};
 use std::alloc::{AllocError, Global};
 

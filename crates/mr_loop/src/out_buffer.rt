@@ -2,12 +2,11 @@
 ghost use Rattle.std.specs.Prelude.{◌≡◌, ◌≤◌, [], ◌++◌, length, drop, take, OnOk, OnErr};
 ghost use Rattle.mr_text.specs.Canonical.{canonical_reply};
 ghost use Rattle.mr_proxy.specs.Answer.{reply_of};
-ghost use Rattle.mr_sessions.specs.Requesting.{text_for};
+ghost use Rattle.mr_proxy.specs.NodeRequests.{text_for};
 
 use crate::out_sink::OutSink;
-use crate::requesting::write_command;
 use mr_node::NodeCommand;
-use mr_proxy::Answer;
+use mr_proxy::{Answer, write_command};
 use mr_text::{FixedBuffer, Reply, send_reply};
 use std::alloc::{AllocError, Global};
 use std::marker::Model;

@@ -7,5 +7,8 @@ pub mod ProxyView
 pub mod Sheets
 pub mod Issue
 pub mod Transitions
+pub mod Replay
+pub mod NodeRequests
+pub mod NodeReplies
 pub mod Sound
 pub mod steps

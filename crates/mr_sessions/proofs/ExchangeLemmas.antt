@@ -1,5 +1,6 @@
 -- One request and its reply.
-use Rattle.std.proofs.Common.{◌≡◌, ℕ, List, true, Result, Ok, Err, MatchResult, sym, subst, inl, inr}
+use Rattle.std.proofs.Common.{◌≡◌, ℕ, List, true, Option, Some, None, Result, Ok, Err, sym, subst, inl, inr}
+use Rattle.std.specs.Prelude.{MatchOption, ok_or}
 use Rattle.std.specs.Result.{is_ok}
 use Rattle.mr_text.specs.Gathering.{TakesFewCalls}
 use Rattle.mr_text.specs.Sink.{Writes}
@@ -10,11 +11,11 @@ use Rattle.mr_text.specs.Stream.{ReaderView}
 use Rattle.mr_text.specs.declared.reply.Reply.{Reply}
 use Rattle.mr_join.specs.declared.leg_reply.LegReply.{LegReply}
 use Rattle.mr_node.specs.declared.command.NodeCommand.{NodeCommand}
+use Rattle.mr_proxy.specs.NodeReplies.{IsAnswer}
+use Rattle.mr_proxy.specs.NodeRequests.{text_for}
 use Rattle.mr_desks.specs.declared.error.WorkerError.{WorkerError}
 use Rattle.mr_desks.specs.declared.error.WorkerError.TheVariants.{LinkBroken, Mismatch, BookDiffers, ReadFault, WriteFault, TurnsSpent, OutOfMemory, NoThread}
-use Rattle.mr_sessions.specs.Answering.{IsAnswer}
-use Rattle.mr_sessions.specs.Requesting.{HasAsked, text_for}
-use Rattle.mr_sessions.specs.Exchange.{wire, HasFailed}
+use Rattle.mr_sessions.specs.Exchange.{wire, HasAsked, HasFailed}
 use Rattle.mr_sessions.specs.Reading.{HasNoReply}
 use Rattle.mr_sessions.specs.steps.Exchange.{ExchangeIs}
 use Rattle.mr_sessions.specs.steps.Reading.{ReplyIs}
@@ -27,22 +28,28 @@ was_asked command old new (Err _) wrote calls is = cc
 
 module _ (turns : ℕ) (command : NodeCommand) (reader reader' : SourceView) (writer writer' : SinkView) (kept : List ℕ) (replies : ReaderView)
     (asked : HasAsked command writer writer') where
-  -- a reply came, and it is an answer or none
-  pub answered : (reply : Reply) (result : Result LegReply WorkerError) → ReplyIs turns kept reader (Ok reply) replies reader'
-      → MatchResult result (λ leg. IsAnswer command reply leg) (λ fault. (fault ≡ Mismatch) × ((leg : LegReply) → ¬ IsAnswer command reply leg))
-      → ExchangeIs turns command (wire reader writer kept) result (wire reader' writer' replies.kept)
-  answered reply (Ok leg) came is = record {
+  -- a reply came, and it is an answer or none: that is a mismatch
+  by_answer : (reply : Reply) (said : Option LegReply) → ReplyIs turns kept reader (Ok reply) replies reader'
+      → MatchOption said ((leg : LegReply) → ¬ IsAnswer command reply leg) (IsAnswer command reply)
+      → ExchangeIs turns command (wire reader writer kept) (ok_or said Mismatch) (wire reader' writer' replies.kept)
+  by_answer reply (Some leg) came is = record {
     reply = reply;
     replied = record { asked = asked; came = came.0; brought = came.1; next = came.2 };
     answers = is;
   }
-  answered reply (Err fault) came is =
-      subst (λ (f : WorkerError). HasFailed turns command (wire reader writer kept) (wire reader' writer' replies.kept) f) (sym is.0) (inr (record {
-        reply = reply;
-        after = replies.kept;
-        replied = record { asked = asked; came = came.0; brought = came.1; next = came.2 };
-        other = is.1;
-      }))
+  by_answer reply None came is = inr (record {
+    reply = reply;
+    after = replies.kept;
+    replied = record { asked = asked; came = came.0; brought = came.1; next = came.2 };
+    other = is;
+  })
+
+  pub answered : (reply : Reply) (said : Option LegReply) (result : Result LegReply WorkerError) → ReplyIs turns kept reader (Ok reply) replies reader'
+      → MatchOption said ((leg : LegReply) → ¬ IsAnswer command reply leg) (IsAnswer command reply) → result ≡ ok_or said Mismatch
+      → ExchangeIs turns command (wire reader writer kept) result (wire reader' writer' replies.kept)
+  answered reply said result came is becomes =
+      subst (λ (r : Result LegReply WorkerError). ExchangeIs turns command (wire reader writer kept) r (wire reader' writer' replies.kept)) (sym becomes)
+      (by_answer reply said came is)
 
   -- no reply came
   pub unanswered : (fault : WorkerError) → HasNoReply turns kept reader fault reader'

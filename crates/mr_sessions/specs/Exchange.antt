@@ -1,16 +1,17 @@
 -- One request to a node and its reply.
 use Rattle.std.specs.Prelude.{◌≡◌, ℕ, ◌⊎◌, List, ◌++◌}
+use Rattle.mr_text.specs.Gathering.{TakesFewCalls}
 use Rattle.mr_text.specs.Replies.{SpellsReply}
-use Rattle.mr_text.specs.Sink.{SinkView}
+use Rattle.mr_text.specs.Sink.{SinkView, HasWritten, HasStopped}
 use Rattle.mr_text.specs.Source.{SourceView}
 use Rattle.mr_text.specs.Stream.{BeginsWith}
 use Rattle.mr_text.specs.declared.reply.Reply.{Reply}
 use Rattle.mr_join.specs.declared.leg_reply.LegReply.{LegReply}
 use Rattle.mr_node.specs.declared.command.NodeCommand.{NodeCommand}
+use Rattle.mr_proxy.specs.NodeReplies.{IsAnswer}
+use Rattle.mr_proxy.specs.NodeRequests.{text_for}
 use Rattle.mr_desks.specs.declared.error.WorkerError.{WorkerError}
 use Rattle.mr_desks.specs.declared.error.WorkerError.TheVariants.{WriteFault, Mismatch}
-use Rattle.mr_sessions.specs.Answering.{IsAnswer}
-use Rattle.mr_sessions.specs.Requesting.{HasAsked, HasStoppedAsking}
 use Rattle.mr_sessions.specs.Reading.{HasBrought, HasNoReply}
 
 -- both directions of a stream to a node
@@ -25,6 +26,16 @@ pub record Wire : Type 0 where
 -- a wire of these three
 abbrev pub wire : SourceView → SinkView → List ℕ → Wire
 wire reader writer kept = record { reader = reader; writer = writer; kept = kept }
+
+-- the request went out, all of it and nothing else, in one call where it fits the writers' buffer
+pub record HasAsked (command : NodeCommand) (old new : SinkView) : Type 0 where
+  pub wrote : HasWritten (text_for command) old new
+  pub calls : TakesFewCalls (text_for command) 1 old new
+
+-- a beginning of the request went out, and the call that failed was the last
+pub record HasStoppedAsking (command : NodeCommand) (old new : SinkView) : Type 0 where
+  pub stopped : HasStopped (text_for command) old new
+  pub calls : TakesFewCalls (text_for command) 1 old new
 
 module _ (turns : ℕ) (command : NodeCommand) (old new : Wire) where
   -- The request went out, and the reply that stands next in the input came, is taken from it and is this one.

@@ -1,10 +1,8 @@
 pub mod Account
-pub mod Answering
 pub mod Asking
 pub mod ClientSession
 pub mod Exchange
 pub mod Link
 pub mod Own
 pub mod Reading
-pub mod Requesting
 pub mod steps

@@ -4,11 +4,11 @@ ghost use Rattle.mr_sessions.specs.Exchange.{wire};
 ghost use Rattle.mr_sessions.specs.steps.Exchange.{ExchangeIs};
 ghost use Rattle.mr_sessions.specs.steps.Reading.{IsOpen};
 
-use crate::asking::{leg_reply_of, write_command};
 use crate::reading::read_reply;
 use mr_desks::WorkerError;
 use mr_join::LegReply;
 use mr_node::NodeCommand;
+use mr_proxy::{leg_reply_of, write_command};
 use mr_text::{FixedBuffer, ReplyReader, Sink, Source};
 
 /// Sends a node the request of a command, and gives what the reply that stands next says of the leg. At most `turns` reads
@@ -33,5 +33,5 @@ pub(crate) fn exchange<S: Source, W: Sink>(
         return Err(WorkerError::WriteFault);
     }
     let reply = read_reply(reader, replies, buffer, turns)?;
-    leg_reply_of(command, reply)
+    leg_reply_of(command, reply).ok_or(WorkerError::Mismatch)
 }

@@ -2,7 +2,6 @@
 //! streams.
 #![tactic(auto)]
 
-mod asking;
 mod carrying;
 mod destinations;
 mod exchange;

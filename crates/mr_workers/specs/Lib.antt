@@ -1,3 +1,4 @@
+pub use Rattle.mr_desks.specs.Books
 pub use Rattle.mr_desks.specs.Carriers
 pub use Rattle.mr_desks.specs.Closing
 pub use Rattle.mr_desks.specs.Desk
@@ -6,18 +7,15 @@ pub use Rattle.mr_desks.specs.Direct
 pub use Rattle.mr_desks.specs.Issuing
 pub use Rattle.mr_desks.specs.Local
 pub use Rattle.mr_desks.specs.Recorded
-pub use Rattle.mr_desks.specs.Replay
 pub use Rattle.mr_desks.specs.Shared
 pub use Rattle.mr_desks.specs.Taking
 pub use Rattle.mr_desks.specs.WorkerError
 pub use Rattle.mr_fleet.specs.ClientEnd
 pub use Rattle.mr_fleet.specs.Links
 pub use Rattle.mr_sessions.specs.Account
-pub use Rattle.mr_sessions.specs.Answering
 pub use Rattle.mr_sessions.specs.Asking
 pub use Rattle.mr_sessions.specs.ClientSession
 pub use Rattle.mr_sessions.specs.Exchange
 pub use Rattle.mr_sessions.specs.Link
 pub use Rattle.mr_sessions.specs.Own
 pub use Rattle.mr_sessions.specs.Reading
-pub use Rattle.mr_sessions.specs.Requesting

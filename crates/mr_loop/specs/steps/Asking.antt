@@ -12,7 +12,7 @@ use Rattle.mr_text.specs.declared.request.Request.{Request}
 use Rattle.mr_text.specs.declared.reply.Reply.{Reply}
 use Rattle.mr_proxy.specs.Issue.{next_op, refusal_of, sheets_of}
 use Rattle.mr_proxy.specs.declared.error.ProxyError.TheVariants.{NumbersSpent, OutOfMemory, NoRoom, NoSuchOp}
-use Rattle.mr_desks.specs.declared.step.Step.TheVariants.{Issue, GiveUp}
+use Rattle.mr_proxy.specs.declared.step.Step.TheVariants.{Issue, GiveUp}
 use Rattle.mr_loop.specs.declared.asker.Asker.{Asker}
 use Rattle.mr_loop.specs.declared.asking.Pause.{Pause}
 use Rattle.mr_loop.specs.declared.asking.Pause.TheVariants.{NeedsRoom, NeedsQueue, NeedsMemory}

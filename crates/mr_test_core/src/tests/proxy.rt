@@ -1,6 +1,7 @@
 //! Worked values of one proxy: its old pool is 7001 and 7002, its new one 7101 to 7103, its hash the sum of a key's
 //! bytes, and its migration starts at 1000 with an interval of 100 seconds.
 mod answers;
+mod asking;
 mod legs;
 mod memory;
 mod scripts;

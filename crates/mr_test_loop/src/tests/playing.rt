@@ -19,10 +19,14 @@ pub(super) enum Step {
     Sends(usize, &'static [u8], Pause),
     /// A client sends no more; why no more of what it sent is begun.
     Ends(usize, Pause),
+    /// What is there for a client's first requests stands to be told it.
+    Flushes(usize),
     /// A client is told this, and reads it.
     Told(usize, &'static [u8]),
     /// Whether a client may be closed.
     IsFinished(usize, bool),
+    /// Whether a client waits for answers, and took all that it was told.
+    IsWaiting(usize, bool),
     /// A connection is made.
     Up(usize),
     /// A connection breaks.
@@ -103,6 +107,13 @@ fn is_finished(rt: &impl Abort, proxy: &ProxyLoop, client: usize) -> bool {
     proxy.is_finished(client)
 }
 
+fn is_waiting(rt: &impl Abort, proxy: &ProxyLoop, client: usize) -> bool {
+    if client >= proxy.places() {
+        rt.panic("no such place");
+    }
+    proxy.is_waiting(client)
+}
+
 fn comes_up(rt: &impl Abort, run: &mut Run, node: usize) {
     if node >= run.proxy.links() {
         rt.panic("no such link");
@@ -148,6 +159,7 @@ fn take(rt: &impl Abort, row: usize, run: &mut Run, step: Step) {
         Step::Leaves(client) => leaves(rt, &mut run.proxy, client),
         Step::Sends(client, piece, pause) => is(rt, row, sends(rt, run, client, piece), pause),
         Step::Ends(client, pause) => is(rt, row, ends(rt, run, client), pause),
+        Step::Flushes(client) => must(rt, run.proxy.flush(client)),
         Step::Told(client, text) => is_told(rt, row, &mut run.proxy, client, text),
         Step::IsFinished(client, is_so) => holds(
             rt,
@@ -155,6 +167,7 @@ fn take(rt: &impl Abort, row: usize, run: &mut Run, step: Step) {
             is_finished(rt, &run.proxy, client),
             is_so,
         ),
+        Step::IsWaiting(client, is_so) => holds(rt, row, is_waiting(rt, &run.proxy, client), is_so),
         step => take_of_link(rt, row, run, step),
     }
 }

@@ -154,3 +154,26 @@ static MANY_BEGUN: [Step; 14] = [
 fn client_begins_no_more_than_it_may(rt: HostRuntime) {
     let _ = play(&rt, rt.alloc(), 8, FEW_BEGUN, &MANY_BEGUN);
 }
+
+/// A client waits while an answer is missing and it has read all that it is told: not before a request of it is whole, not
+/// while it leaves an answer unread, and not once it is told of all.
+static WAITS: [Step; 13] = [
+    Sends(0, b"get", Pause::NeedsBytes),
+    IsWaiting(0, false),
+    Sends(0, b" k\r\nget b\r\n", Pause::NeedsBytes),
+    IsWaiting(0, true),
+    IsWaiting(1, false),
+    Says(1, b"END\r\n", LinkEnd::Whole),
+    Flushes(0),
+    IsWaiting(0, false),
+    Told(0, b"END\r\n"),
+    IsWaiting(0, true),
+    Says(0, b"END\r\n", LinkEnd::Whole),
+    Told(0, b"END\r\n"),
+    IsWaiting(0, false),
+];
+
+#[test]
+fn client_waits_that_has_read_all(rt: HostRuntime) {
+    let _ = play(&rt, rt.alloc(), 8, WIDE, &WAITS);
+}

@@ -1,6 +1,7 @@
 use Rattle.std.proofs.Common.{◌≡◌, ◌++◌, drop}
 use Rattle.mr_proxy.specs.ProxyView.{opening_of}
-use Rattle.mr_desks.specs.Replay.{answers_of, AreSteps}
+use Rattle.mr_proxy.specs.Replay.{answers_of}
+use Rattle.mr_desks.specs.Books.{AreSteps}
 use Rattle.mr_desks.proofs.replaying.answers_in.Given as goal
 
 -- the answers so far, and those that the steps left will give

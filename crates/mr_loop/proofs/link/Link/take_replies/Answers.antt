@@ -3,7 +3,7 @@ use Rattle.mr_text.specs.Replies.{SpellsReply, RefusesReply}
 use Rattle.mr_text.specs.Stream.{BeginsWith, IsUnfinished}
 use Rattle.mr_join.specs.declared.leg_reply.LegReply.{LegReply}
 use Rattle.mr_proxy.specs.declared.sheet.LegSheet.{LegSheet}
-use Rattle.mr_sessions.specs.Answering.{IsAnswer}
+use Rattle.mr_proxy.specs.NodeReplies.{IsAnswer}
 use Rattle.mr_loop.specs.declared.sent_legs.SentLeg.{SentLeg}
 use Rattle.mr_loop.specs.Counts.{CountsCarried}
 use Rattle.mr_loop.specs.Events.{after_event}

@@ -1,8 +1,6 @@
 -- What a node is asked for a leg.
 use Rattle.std.specs.Prelude.{ℕ, List, [], ◌∷◌, false}
 use Rattle.mr_text.specs.Canonical.{canonical_request}
-use Rattle.mr_text.specs.Gathering.{TakesFewCalls}
-use Rattle.mr_text.specs.Sink.{SinkView, HasWritten, HasStopped}
 use Rattle.mr_text.specs.declared.request.Request.{Request}
 use Rattle.mr_text.specs.declared.request.Request.TheVariants as request
 use Rattle.mr_node.specs.declared.command.NodeCommand.{NodeCommand}
@@ -17,13 +15,3 @@ request_for (Delete key) = request.Delete key false
 -- its text
 abbrev pub text_for : NodeCommand → List ℕ
 text_for command = canonical_request (request_for command)
-
--- the request went out, all of it and nothing else, in one call where it fits the writers' buffer
-pub record HasAsked (command : NodeCommand) (old new : SinkView) : Type 0 where
-  pub wrote : HasWritten (text_for command) old new
-  pub calls : TakesFewCalls (text_for command) 1 old new
-
--- a beginning of the request went out, and the call that failed was the last
-pub record HasStoppedAsking (command : NodeCommand) (old new : SinkView) : Type 0 where
-  pub stopped : HasStopped (text_for command) old new
-  pub calls : TakesFewCalls (text_for command) 1 old new

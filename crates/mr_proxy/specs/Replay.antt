@@ -1,14 +1,13 @@
--- What the steps of a book make of a proxy.
-use Rattle.std.specs.Prelude.{◌≡◌, ◌≢◌, List, [], ◌∷◌, fold, Bool, true, false, Option, Some, None}
-use Rattle.mr_text.specs.declared.request.Request.TheVariants.{Quit}
+-- What steps make of a proxy, and the answers that they give.
+use Rattle.std.specs.Prelude.{List, [], ◌∷◌, fold, Bool, true, false, Option, Some, None}
 use Rattle.mr_proxy.specs.Answer.{AnswerView}
-use Rattle.mr_proxy.specs.Issue.{refusal_of, after_issue}
+use Rattle.mr_proxy.specs.Issue.{after_issue}
 use Rattle.mr_proxy.specs.ProxyView.{ProxyView}
 use Rattle.mr_proxy.specs.Transitions.{taken_of, after_take, given_up_of, after_give_up}
 use Rattle.mr_proxy.specs.declared.taken.Taken.{Taken}
 use Rattle.mr_proxy.specs.declared.taken.Taken.TheVariants.{Waiting, Answered, Stranger}
-use Rattle.mr_desks.specs.declared.step.Step.{Step}
-use Rattle.mr_desks.specs.declared.step.Step.TheVariants.{Issue, Take, GiveUp}
+use Rattle.mr_proxy.specs.declared.step.Step.{Step}
+use Rattle.mr_proxy.specs.declared.step.Step.TheVariants.{Issue, Take, GiveUp}
 
 -- the proxy after a step
 abbrev pub after : ProxyView → Step → ProxyView
@@ -47,20 +46,3 @@ with_answer (Some answer) answers = answer ∷ answers
 abbrev pub answers_of : ProxyView → List Step → List AnswerView
 answers_of p [] = []
 answers_of p (step ∷ steps) = with_answer (answer_at p step) (answers_of (after p step) steps)
-
--- the reply was noted
-abbrev pub IsNoted : Taken → Type 0
-IsNoted (Stranger reply) = ⊥
-IsNoted Waiting = Unit {0}
-IsNoted (Answered answer) = Unit {0}
-
--- the proxy makes this step: it accepts the request, notes the reply, or has the request under way that is given up
-abbrev pub IsBookStep : ProxyView → Step → Type 0
-IsBookStep p (Issue reading request) = (refusal_of p ≡ None) × (request ≢ Quit)
-IsBookStep p (Take back) = IsNoted (taken_of p back.sheet.id back.reply)
-IsBookStep p (GiveUp op) = given_up_of p op ≢ None
-
--- the proxy makes these steps, one after another
-abbrev pub AreSteps : ProxyView → List Step → Type 0
-AreSteps p [] = Unit {0}
-AreSteps p (step ∷ steps) = IsBookStep p step × AreSteps (after p step) steps

@@ -1,30 +1,42 @@
-//! What a node's reply says of a leg.
+//! What a node is asked for a leg, and what its reply says of the leg.
 ghost use Rattle.std.specs.Prelude.{◌≡◌, MatchOption};
+ghost use Rattle.mr_text.specs.Gathering.{TakesFewCalls};
+ghost use Rattle.mr_text.specs.Sink.{Writes};
 ghost use Rattle.mr_join.specs.declared.leg_reply.LegReply.{LegReply};
-ghost use Rattle.mr_sessions.specs.Answering.{IsAnswer, FindsItemOf};
-ghost use Rattle.mr_loop.specs.Returning.{is_complaint};
+ghost use Rattle.mr_proxy.specs.NodeReplies.{IsAnswer, FindsItemOf};
+ghost use Rattle.mr_proxy.specs.NodeRequests.{text_for};
 
 use mr_join::LegReply;
 use mr_node::NodeCommand;
-use mr_text::{Cause, ItemList, Key, Reply};
+use mr_text::{
+    Cause, FixedBuffer, ItemList, Key, Reply, Sink, WriteFault, send_delete, send_get, send_set,
+};
 
-/// Whether the node doesn't know what it was asked.
-pub(crate) fn is_complaint(reply: &Reply) -> bool
-    ensures { result ≡ is_complaint reply.now }
+/// Writes the request of a command, which wants an answer, as `mr_text` writes requests: gathered in the buffer, in which what
+/// stood before is forgotten. The command isn't copied. At a fault a beginning of the request is written, and the call that
+/// failed is the last.
+pub fn write_command<W: Sink>(
+    command: &NodeCommand,
+    buffer: &mut FixedBuffer,
+    writer: &mut W,
+) -> Result<(), WriteFault>
+    ensures text { Writes (text_for command.now) (W.told writer.old) result (W.told writer.new) }
+    ensures calls { TakesFewCalls (text_for command.now) 1 (W.told writer.old) (W.told writer.new) }
 {
-    match reply {
-        Reply::Items(_) => false,
-        Reply::Stored => false,
-        Reply::Deleted => false,
-        Reply::NotFound => false,
-        Reply::Error => true,
-        Reply::ClientError(_) => true,
-        Reply::ServerError(_) => false,
+    match command {
+        NodeCommand::Get(key) => send_get(key, buffer, writer),
+        NodeCommand::Set {
+            key,
+            flags,
+            exptime,
+            block,
+        } => send_set(key, *flags, *exptime, block, buffer, writer),
+        NodeCommand::Delete(key) => send_delete(key, buffer, writer),
     }
 }
 
 /// What a node's reply says of the command's leg. None where it is no answer to the command.
-pub(crate) fn leg_reply_of(command: &NodeCommand, reply: Reply) -> Option<LegReply>
+pub fn leg_reply_of(command: &NodeCommand, reply: Reply) -> Option<LegReply>
     ensures { MatchOption result ((said : LegReply) → ¬ IsAnswer command.now reply said) (IsAnswer command.now reply) }
 {
     match (command, reply) {

@@ -1,8 +1,8 @@
-//! The steps of a proxy that a book keeps.
+//! The steps of a proxy.
 ghost use Rattle.std.specs.Prelude.{◌≡◌, IfOk};
 
+use crate::sheet::LegBack;
 use mr_history::OpId;
-use mr_proxy::LegBack;
 use mr_text::Request;
 use std::alloc::AllocError;
 
