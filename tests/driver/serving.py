@@ -92,10 +92,11 @@ def pairs_of(words):
 
 
 class Proxy:
-    """A proxy on loops that runs. What isn't said has no bound, but for open files, of which it may have 64; and no migration begins."""
+    """A proxy on loops that runs. What isn't said has no bound, but for open files, of which it may have 64; and no migration begins.
+    Some words may stand before those of the program."""
 
     def __init__(self, old, new=("127.0.0.1:1",), loops=1, clients=0, most_clients=0, room=4096, start=YEAR_2100, interval=60,
-                 leg_millis=0, client_seconds=0, most_legs=4096, most_unread=1 << 20, files=64, asks=False, clock=None):
+                 leg_millis=0, client_seconds=0, most_legs=4096, most_unread=1 << 20, files=64, asks=False, before=()):
         self.place = place_at("127.0.0.1")
         self.address = self.place.address()
         words = [loops, clients, most_clients, room, start, interval, leg_millis, client_seconds, most_legs, most_unread]
@@ -103,7 +104,7 @@ class Proxy:
         self.faults = pathlib.Path(HOME, f"faults-{self.place.port}")
         with open(self.output, "wb") as output, open(self.faults, "wb") as faults:
             self.child = CHILDREN.start(
-                [*(clock.words() if clock else ()), program(), self.address, *map(str, words), ",".join(old), ",".join(new)],
+                [*before, program(), self.address, *map(str, words), ",".join(old), ",".join(new)],
                 stdin=subprocess.PIPE if asks else subprocess.DEVNULL, stdout=output, stderr=faults,
                 preexec_fn=lambda: resource.setrlimit(resource.RLIMIT_NOFILE, (files, files)),
             )
@@ -207,6 +208,24 @@ class Proxy:
         """It may take so many bytes more than now, or as many as it likes."""
         limit = resource.RLIM_INFINITY if more is None else self.status("VmSize") * 1024 + more
         resource.prlimit(self.child.pid, resource.RLIMIT_AS, (limit, resource.RLIM_INFINITY))
+
+    def stop(self):
+        """Stops it where it stands, each of its threads."""
+        os.kill(self.child.pid, signal.SIGSTOP)
+        until = time.monotonic() + PATIENCE
+        while not all(state == "T" for state in self.states()):
+            if time.monotonic() > until:
+                raise Wrong("the states of a proxy that is stopped", "T", self.states())
+            time.sleep(0.005)
+
+    def go_on(self):
+        """Has it go on."""
+        os.kill(self.child.pid, signal.SIGCONT)
+
+    def states(self):
+        """The states of its threads, a letter each, as the system tells them."""
+        texts = [it.read_text(encoding="ascii") for it in pathlib.Path(f"/proc/{self.child.pid}/task").glob("*/stat")]
+        return [text.rsplit(")", 1)[1].split()[0] for text in texts]
 
     def open_files(self):
         """How many files it has open."""

@@ -113,3 +113,4 @@ def commands(program):
     yield Command(program, "--version", (MEMORY,))
     yield Command(program, "node --listen 127.0.0.1:0 --clients 0", (MEMORY, NODE))
     yield Command(program, "proxy --config fleet.json --listen 127.0.0.1:0 --clients 0", config)
+    yield Command(program, "proxy --config fleet.json --listen 127.0.0.1:0 --metrics 127.0.0.1:0 --loops 2 --clients 0", config)

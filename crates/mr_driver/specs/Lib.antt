@@ -5,7 +5,9 @@ pub mod Loads
 pub mod Reading
 pub mod Reports
 pub mod Seats
+pub mod Serving
 pub mod Stages
+pub mod Tickets
 pub mod Times
 pub mod Tokens
 pub mod Waits

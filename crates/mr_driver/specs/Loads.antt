@@ -1,5 +1,9 @@
 -- Which loop gets the next client.
-use Rattle.std.specs.Prelude.{ℕ, ◌==◌, ◌+◌, ◌-◌, ◌^◌, nat_eq, if◌then◌else◌, List, Option, fold, min, position}
+use Rattle.std.specs.Prelude.{ℕ, Bool, ◌==◌, ◌+◌, ◌-◌, ◌^◌, nat_eq, if◌then◌else◌, List, Option, fold, min, position}
+
+-- the clients of a loop, and the greatest number there is where it has ended
+abbrev pub load_of : Bool → ℕ → ℕ
+load_of has_ended clients = if has_ended then 2 ^ 64 - 1 else clients
 
 -- the first place at which the least number stands
 abbrev pub place_of_least : List ℕ → Option ℕ

@@ -1,5 +1,5 @@
 -- How long a loop may wait for events.
-use Rattle.std.specs.Prelude.{ℕ, Bool, false, nat_lt, max, if◌then◌else◌, Option, Some, None, option_map}
+use Rattle.std.specs.Prelude.{ℕ, ◌+◌, Bool, false, ◌||◌, ◌&&◌, nat_eq, nat_lt, max, if◌then◌else◌, Option, Some, None, option_map}
 use Rattle.mr_driver.specs.declared.waits.Waits.{Waits}
 use Rattle.mr_driver.specs.Times.{nanos_until, next_at}
 
@@ -24,3 +24,11 @@ is_overslept_after now before (Some end) = nat_lt (next_at (max end before) 2500
 -- it is more than 25 milliseconds later than it was to wait
 abbrev pub is_overslept_in : ℕ → Waits → Bool
 is_overslept_in now w = is_overslept_after now w.begin (end_in w)
+
+-- for how many turns a loop has been late: none and then one where it was overslept; two after one; and one more after two and more
+-- while there is more to be heard or read at once, 64 at most
+abbrev pub late_turns_after : ℕ → Bool → Bool → ℕ
+late_turns_after turns is_overslept has_more =
+    if nat_eq turns 0 then (if is_overslept then 1 else 0)
+    else if nat_eq turns 1 || (has_more && nat_lt turns 64) then turns + 1
+    else 0

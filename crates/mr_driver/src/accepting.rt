@@ -24,7 +24,7 @@ pub fn listen_at<R: Net>(rt: &R, address: SocketAddrV4) -> io::Result<TcpListene
     Ok(listener)
 }
 
-/// Hands a client to the loop that has the fewest. It is closed where that isn't possible.
+/// Hands a client to the loop that has the fewest. It is closed where that isn't possible, as where memory is refused.
 fn hand_over<R: Wait>(
     rt: &R,
     doors: &Doors,
@@ -36,10 +36,10 @@ fn hand_over<R: Wait>(
         return Ok(());
     }
     doors.weigh(loads)?;
-    if let Some(number) = least_loaded(loads) {
-        doors.hand(rt, number, stream);
+    match least_loaded(loads) {
+        Some(number) => doors.hand(rt, number, stream),
+        None => Ok(()),
     }
-    Ok(())
 }
 
 /// Whether one more client may be accepted. It is heard where clients begin to wait.
@@ -70,7 +70,8 @@ fn pause_after<R: Clock, E: Hears>(rt: &R, error: &io::Error, ears: &E) {
     }
 }
 
-/// Accepts one client, if one more may come; else it is looked again a moment later. Whether one was accepted.
+/// Accepts one client, if one more may come; else it is looked again a moment later. Whether one was accepted, who counts also where
+/// memory to hand it over is refused.
 fn accept_one<R: Wait + Clock, E: Hears>(
     rt: &R,
     listener: &TcpListener,
@@ -85,7 +86,9 @@ fn accept_one<R: Wait + Clock, E: Hears>(
     }
     match listener.accept() {
         Ok((stream, _)) => {
-            hand_over(rt, doors, loads, stream)?;
+            if hand_over(rt, doors, loads, stream).is_err() {
+                ears.hear(LoopEvent::NoMemory);
+            }
             Ok(true)
         }
         Err(error) => {

@@ -1,6 +1,7 @@
 //! The clients of a loop. The place of a client in the machine is its seat here.
 
 mod asking;
+mod holding;
 mod telling;
 
 use crate::doors::Tally;
@@ -9,7 +10,7 @@ use crate::flow::Signs;
 use crate::hearing::{Hears, LoopEvent, want_of};
 use crate::links::number_of;
 use crate::seat::Seat;
-use crate::times::has_passed;
+use crate::tickets::Ticket;
 use crate::tokens::client_token;
 use mio::net::TcpStream;
 use mio::{Interest, Token};
@@ -19,7 +20,6 @@ use std::alloc::{AllocError, Global};
 use std::collections::VecDeque;
 use std::net::Net;
 use std::sync::Arc;
-use std::sync::atomic::Ordering;
 use std::time::Clock;
 use std::{io, net};
 
@@ -30,11 +30,13 @@ pub(crate) struct Clients {
     /// Whose turn it is.
     ready: VecDeque<usize>,
     /// Who waits for room, or waited for what there may be again; the first one first.
-    held: VecDeque<usize>,
+    held: VecDeque<Ticket>,
     /// Who waits for memory.
-    starved: VecDeque<usize>,
+    starved: VecDeque<Ticket>,
     /// Who waits for each link, the first one first.
-    queued: Vec<VecDeque<usize>>,
+    queued: Vec<VecDeque<Ticket>>,
+    /// The number of the ticket that was given last; 0 for none.
+    last_ticket: u64,
     /// Who is told what is there.
     told: VecDeque<usize>,
     /// Some are held back, which was heard.
@@ -59,6 +61,7 @@ impl Clients {
             held: VecDeque::new(alloc),
             starved: VecDeque::new(alloc),
             queued,
+            last_ticket: 0,
             told: VecDeque::new(alloc),
             are_held: false,
             tally,
@@ -80,23 +83,29 @@ impl Clients {
         self.are_held || !self.told.is_empty()
     }
 
-    /// Nobody comes any more.
-    pub(crate) fn close(&self) {
-        self.tally.close();
+    /// Whether nobody comes any more, and all that came have left.
+    pub(crate) fn are_over(&self) -> bool {
+        self.tally.is_over()
+    }
+
+    /// Nobody is taken any more.
+    pub(crate) fn end(&self) {
+        self.tally.end();
     }
 
     /// A client is there no more. What it asked is told to nobody.
     fn drop_client(&mut self, machine: &mut ProxyLoop, place: usize) {
         if self.seats.try_remove(place).is_some() {
-            self.tally.clients.fetch_sub(1, Ordering::SeqCst);
+            self.tally.remove();
             if place < machine.places() {
                 machine.on_client_left(place);
             }
         }
     }
 
-    /// A place and a seat for one more client, and room for it in each list.
+    /// A place and a seat for one more client, and room for it in each list, but for those of links, which take memory as they grow.
     fn make_seat(&mut self, machine: &mut ProxyLoop) -> Result<usize, AllocError> {
+        self.sift_all();
         let most = self.seats.len().saturating_add(1);
         self.seats.reserve(1)?;
         self.ready.reserve(most)?;
@@ -135,7 +144,7 @@ impl Clients {
         socket: net::TcpStream,
     ) {
         if let Err(error) = self.seat(engine, socket) {
-            self.tally.clients.fetch_sub(1, Ordering::SeqCst);
+            self.tally.remove();
             match error.kind() {
                 io::ErrorKind::OutOfMemory => engine.hear(LoopEvent::NoMemory),
                 _ => {
@@ -160,10 +169,14 @@ impl Clients {
         self.make_ready_to_read(place);
     }
 
-    /// A client who was silent for too long is there no more.
+    /// A client who was silent for too long is there no more, unless it is others who keep it waiting.
     fn sweep<R: Net + Clock, E: Hears>(&mut self, engine: &mut Engine<'_, R, E>, place: usize) {
+        if place >= engine.machine.places() {
+            return;
+        }
+        let is_waiting = engine.machine.is_waiting(place);
         if let Some(seat) = self.seats.get(place)
-            && has_passed(engine.timing.idle_bound, seat.moved_at, engine.now)
+            && seat.is_idle(is_waiting, engine.timing.idle_bound, engine.now)
         {
             self.drop_client(&mut engine.machine, place);
         }

@@ -1,9 +1,9 @@
 //! What loops are told by other threads, and asked.
 
-use crate::loads::CLOSED;
+use crate::loads::load_of;
 use crate::reports::LoopReport;
 use crate::tokens::mail_token;
-use crossbeam_channel::{Receiver, Sender, unbounded};
+use crossbeam_channel::{Receiver, SendError, Sender, unbounded};
 use mio::{Poll, Token, Waker};
 use std::alloc::{AllocError, Global};
 use std::io;
@@ -22,16 +22,18 @@ pub(crate) enum Mail {
     Client(TcpStream),
     /// It is to tell of itself there. A place there is kept for the answer, so that nobody waits for who asked.
     Tell(Sender<LoopReport>),
-    /// No more clients come.
-    NoMore,
 }
 
-/// What a loop tells of its clients.
+/// What a loop and its door tell each other by what both see at any time.
 pub(crate) struct Tally {
-    /// How many it has, those among them that it wasn't told of yet; `CLOSED` where it takes no more.
-    pub(crate) clients: AtomicU64,
+    /// How many clients were handed to the loop and haven't left it, those among them that it wasn't told of yet.
+    clients: AtomicU64,
     /// How many have left it in order.
-    pub(crate) served: AtomicU64,
+    served: AtomicU64,
+    /// No more clients come.
+    are_all: AtomicBool,
+    /// The loop takes no more clients.
+    has_ended: AtomicBool,
 }
 
 impl Drop for Tally {
@@ -39,14 +41,49 @@ impl Drop for Tally {
         let Self {
             clients: _,
             served: _,
+            are_all: _,
+            has_ended: _,
         } = self;
     }
 }
 
 impl Tally {
+    /// Nobody, yet.
+    fn new() -> Tally {
+        Tally {
+            clients: AtomicU64::new(0),
+            served: AtomicU64::new(0),
+            are_all: AtomicBool::new(false),
+            has_ended: AtomicBool::new(false),
+        }
+    }
+
+    /// A client is the loop's no more.
+    pub(crate) fn remove(&self) {
+        self.clients.fetch_sub(1, Ordering::SeqCst);
+    }
+
+    /// A client leaves in order.
+    pub(crate) fn add_served(&self) {
+        self.served.fetch_add(1, Ordering::SeqCst);
+    }
+
+    /// Whether no more clients come, and all that came have left. Whoever was handed over before no more came is counted by then.
+    pub(crate) fn is_over(&self) -> bool {
+        self.are_all.load(Ordering::SeqCst) && self.clients.load(Ordering::SeqCst) == 0
+    }
+
     /// The loop takes no more clients.
-    pub(crate) fn close(&self) {
-        self.clients.store(CLOSED, Ordering::SeqCst);
+    pub(crate) fn end(&self) {
+        self.has_ended.store(true, Ordering::SeqCst);
+    }
+
+    /// By how many clients it is known which loop gets the next one.
+    fn load(&self) -> u64 {
+        load_of(
+            self.has_ended.load(Ordering::SeqCst),
+            self.clients.load(Ordering::SeqCst),
+        )
     }
 }
 
@@ -71,13 +108,7 @@ pub(crate) fn open_door<R: Net>(rt: &R, alloc: Global) -> io::Result<(Side, Door
     let poll = Poll::new(rt)?;
     let waker = Waker::new(poll.registry(), Token(mail_token()))?;
     let (to, from) = unbounded(alloc)?;
-    let tally = Arc::new(
-        alloc,
-        Tally {
-            clients: AtomicU64::new(0),
-            served: AtomicU64::new(0),
-        },
-    )?;
+    let tally = Arc::new(alloc, Tally::new())?;
     let side = Side {
         poll,
         mail: from,
@@ -92,16 +123,27 @@ pub(crate) fn open_door<R: Net>(rt: &R, alloc: Global) -> io::Result<(Side, Door
 }
 
 impl Door {
-    /// Tells the loop something. Whether it will hear it: one that has ended doesn't.
-    fn tell<R: Wait>(&self, rt: &R, mail: Mail) -> bool {
-        self.mail.send(rt, mail).is_ok() && self.waker.wake().is_ok()
+    /// Puts something into the loop's mail, and wakes it: what is there already is taken with the next wake, if this one fails.
+    fn tell<R: Wait>(&self, rt: &R, mail: Mail) -> Result<(), SendError<Mail>> {
+        let sent = self.mail.send(rt, mail);
+        let _ = self.waker.wake();
+        sent
     }
 
-    /// Hands the loop a client. One that has ended takes no more, and counts as the fullest from then on.
-    fn hand<R: Wait>(&self, rt: &R, stream: TcpStream) {
+    /// Hands the loop a client. It is closed where memory for that is refused, and where the loop has ended: that one counts as the
+    /// fullest from then on.
+    fn hand<R: Wait>(&self, rt: &R, stream: TcpStream) -> Result<(), AllocError> {
         self.tally.clients.fetch_add(1, Ordering::SeqCst);
-        if !self.tell(rt, Mail::Client(stream)) {
-            self.tally.close();
+        match self.tell(rt, Mail::Client(stream)) {
+            Ok(()) => Ok(()),
+            Err(SendError::Disconnected(_)) => {
+                self.tally.end();
+                Ok(())
+            }
+            Err(SendError::OutOfMemory(_)) => {
+                self.tally.remove();
+                Err(AllocError)
+            }
         }
     }
 
@@ -110,6 +152,12 @@ impl Door {
         let (to, from) = unbounded(alloc)?;
         let _ = self.tell(rt, Mail::Tell(to));
         Ok(from)
+    }
+
+    /// Tells the loop that no more clients come, which takes no memory.
+    fn close(&self) {
+        self.tally.are_all.store(true, Ordering::SeqCst);
+        let _ = self.waker.wake();
     }
 }
 
@@ -168,22 +216,28 @@ impl Doors {
     pub(crate) fn weigh(&self, loads: &mut Vec<u64>) -> Result<(), AllocError> {
         loads.clear();
         for door in &self.doors {
-            loads.push(door.tally.clients.load(Ordering::SeqCst))?;
+            loads.push(door.tally.load())?;
         }
         Ok(())
     }
 
-    /// Hands a client to the loop of this number. It is closed where there is none.
-    pub(crate) fn hand<R: Wait>(&self, rt: &R, number: usize, stream: TcpStream) {
-        if let Some(door) = self.doors.get(number) {
-            door.hand(rt, stream);
+    /// Hands a client to the loop of this number. It is closed where there is none, and where memory is refused.
+    pub(crate) fn hand<R: Wait>(
+        &self,
+        rt: &R,
+        number: usize,
+        stream: TcpStream,
+    ) -> Result<(), AllocError> {
+        match self.doors.get(number) {
+            Some(door) => door.hand(rt, stream),
+            None => Ok(()),
         }
     }
 
     /// Tells each loop that no more clients come.
-    pub(crate) fn close<R: Wait>(&self, rt: &R) {
+    pub(crate) fn close(&self) {
         for door in &self.doors {
-            let _ = door.tell(rt, Mail::NoMore);
+            door.close();
         }
     }
 

@@ -18,6 +18,7 @@ mod reports;
 mod seat;
 mod serving;
 mod stages;
+mod tickets;
 mod times;
 mod tokens;
 mod turns;

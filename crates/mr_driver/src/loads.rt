@@ -1,9 +1,16 @@
 //! Which loop gets the next client.
 ghost use Rattle.std.specs.Prelude.{◌≡◌, ◌==◌, ◌-◌, ◌^◌, fold, min};
-ghost use Rattle.mr_driver.specs.Loads.{place_of_least, clients_in, with_load};
+ghost use Rattle.mr_driver.specs.Loads.{load_of, place_of_least, clients_in, with_load};
 
 /// The load of a loop that takes no more clients.
-pub(crate) const CLOSED: u64 = u64::MAX;
+const CLOSED: u64 = u64::MAX;
+
+/// The load of a loop with so many clients, which may have ended.
+pub(crate) fn load_of(has_ended: bool, clients: u64) -> u64
+    ensures { result ≡ load_of has_ended clients }
+{
+    if has_ended { CLOSED } else { clients }
+}
 
 /// The least of some numbers of clients; the greatest number that there is where there are none.
 fn least_of(loads: &[u64]) -> u64

@@ -1,8 +1,9 @@
 //! The sockets of clients.
 ghost use Rattle.std.specs.Prelude.{◌≡◌, ◌&&◌};
-ghost use Rattle.mr_driver.specs.Seats.{standing_after, is_held_in, is_reading, link_of};
+ghost use Rattle.mr_driver.specs.Seats.{standing_after, is_held_in, is_idle_at, is_reading, keeps_place, link_of, standing_by};
 
 use crate::flow::Flow;
+use crate::times::has_passed;
 use mio::net::TcpStream;
 use mr_loop::Pause;
 
@@ -45,6 +46,17 @@ impl Standing {
             _ => false,
         }
     }
+
+    /// Whether a client who stood otherwise before it was tried, or so, keeps its place: where it is the same request that waits, and
+    /// for the same link.
+    pub(crate) fn keeps_place(self, was: Standing, is_same: bool) -> bool
+        ensures { result ≡ keeps_place was self is_same }
+    {
+        match (was.link(), self.link()) {
+            (Some(before), Some(now)) => is_same && before == now,
+            _ => false,
+        }
+    }
 }
 
 /// How a client stands that asked, by what it needs then.
@@ -67,8 +79,12 @@ pub(crate) struct Seat {
     pub(crate) stream: TcpStream,
     pub(crate) standing: Standing,
     pub(crate) flow: Flow,
-    /// It last sent or took something at this moment.
+    /// It last sent or took something at this moment, or others kept it waiting until then.
     pub(crate) moved_at: u64,
+    /// The number of its last ticket; 0 where it was never held back.
+    pub(crate) ticket: u64,
+    /// It waits for a link, and its ticket stands also among those of who is tried.
+    pub(crate) is_called: bool,
     /// It stands among those whose turn it is.
     pub(crate) is_ready: bool,
     /// It stands among those that are told what is there.
@@ -85,6 +101,8 @@ impl Seat {
             standing: Standing::Reads,
             flow: Flow::new(),
             moved_at: now,
+            ticket: 0,
+            is_called: false,
             is_ready: false,
             is_told: false,
             is_stirred: false,
@@ -99,5 +117,25 @@ impl Seat {
             Standing::Reads => self.flow.has_more,
             _ => false,
         }
+    }
+
+    /// How it stands, if it is held back by the ticket of this number.
+    pub(crate) fn standing_by(&self, ticket: u64) -> Option<Standing>
+        ensures { result ≡ standing_by ticket self.now.ticket self.now.standing }
+    {
+        if self.ticket == ticket && self.standing.is_held() {
+            Some(self.standing)
+        } else {
+            None
+        }
+    }
+
+    /// Whether it was silent for longer than a bound, and it isn't others who keep it waiting: it is owed no answer and isn't held
+    /// back, or it doesn't take what it is told.
+    pub(crate) fn is_idle(&self, is_waiting: bool, bound: u64, now: u64) -> bool
+        ensures { result ≡ is_idle_at is_waiting bound now self.now.standing self.now.flow self.now.moved_at }
+    {
+        let is_kept = is_waiting || self.standing.is_held();
+        has_passed(bound, self.moved_at, now) && (self.flow.is_blocked || !is_kept)
     }
 }

@@ -1,5 +1,6 @@
 //! Loops and the thread that accepts their clients.
-ghost use Rattle.std.specs.Prelude.{◌≤◌};
+ghost use Rattle.std.specs.Prelude.{◌≡◌, ◌≤◌};
+ghost use Rattle.mr_driver.specs.Serving.{timing_of};
 
 use crate::accepting::accept_all;
 use crate::doors::{Door, Doors, open_door};
@@ -11,9 +12,8 @@ use crate::times::bound_of;
 use crate::turns::{Planned, run_loop};
 use mr_counting::ClockWatch;
 use mr_loop::ProxyLoop;
-use mr_sockets::{Patience, node_address};
 use std::alloc::{AllocError, Global};
-use std::net::{Net, TcpListener, TcpStream};
+use std::net::{Net, SocketAddrV4, TcpListener, TcpStream};
 use std::sync::Wait;
 use std::thread::{Scope, Threads};
 use std::time::Clock;
@@ -26,15 +26,20 @@ pub struct DriverBounds {
     pub clients: u64,
     /// How many are served at a time. Further ones wait in the listener's backlog until one has left.
     pub most_clients: u64,
-    /// How long is waited for clients and for nodes.
-    pub patience: Patience,
+    /// How many seconds a client may send nothing and be owed nothing, or take nothing of what it is told; 0 for as many as it likes.
+    pub client_seconds: u64,
+    /// How many milliseconds a node may leave a dial unanswered; 0 for as many as it takes. How long a leg may be without its reply is
+    /// the machine's.
+    pub leg_millis: u64,
 }
 
-/// The same in microseconds.
-fn timing_of(patience: Patience) -> Timing {
+/// How long is waited, in microseconds.
+fn timing_of(bounds: DriverBounds) -> Timing
+    ensures { result ≡ timing_of bounds }
+{
     Timing {
-        leg_bound: bound_of(patience.leg_millis),
-        idle_bound: bound_of(patience.client_seconds.saturating_mul(1_000)),
+        leg_bound: bound_of(bounds.leg_millis),
+        idle_bound: bound_of(bounds.client_seconds.saturating_mul(1_000)),
     }
 }
 
@@ -44,21 +49,24 @@ pub struct Loops {
     planned: Vec<Planned>,
 }
 
-/// A link to each node of a machine, which is down, in the order of the machine's own.
-fn links_of(alloc: Global, machine: &ProxyLoop) -> Result<Links, AllocError> {
-    let mut links = Vec::with_capacity(alloc, machine.links())?;
-    for pool in machine.core().routing().pools() {
-        for name in pool.names() {
-            links.push(Link::new(node_address(name.as_str())))?;
-        }
+/// A link to each of these nodes, which is down, in the order of the machine's own.
+fn links_of(alloc: Global, nodes: &[Option<SocketAddrV4>]) -> Result<Links, AllocError> {
+    let mut links = Vec::with_capacity(alloc, nodes.len())?;
+    for node in nodes {
+        links.push(Link::new(*node))?;
     }
     Links::new(alloc, links)
 }
 
 /// Dials the nodes of a machine.
-fn plan<R: Net>(rt: &R, alloc: Global, mut machine: ProxyLoop) -> io::Result<(Planned, Door)> {
+fn plan<R: Net>(
+    rt: &R,
+    alloc: Global,
+    mut machine: ProxyLoop,
+    nodes: &[Option<SocketAddrV4>],
+) -> io::Result<(Planned, Door)> {
     let (side, door) = open_door(rt, alloc)?;
-    let mut links = links_of(alloc, &machine)?;
+    let mut links = links_of(alloc, nodes)?;
     links.dial_all(rt, side.poll.registry(), &mut machine);
     let planned = Planned {
         side,
@@ -68,17 +76,19 @@ fn plan<R: Net>(rt: &R, alloc: Global, mut machine: ProxyLoop) -> io::Result<(Pl
     Ok((planned, door))
 }
 
-/// A loop for each machine, whose nodes are dialled: so there are descriptors for its links before clients have them. The error is of
-/// the kind `OutOfMemory` where memory was refused.
+/// A loop for each machine, whose nodes are dialled: so there are descriptors for its links before clients have them. The nodes are
+/// those of each machine's links, in their order, by their addresses; one without an address is never dialled. The error is of the
+/// kind `OutOfMemory` where memory was refused.
 pub fn open_loops<R: Net>(
     rt: &R,
     alloc: Global,
     machines: Vec<ProxyLoop>,
+    nodes: &[Option<SocketAddrV4>],
 ) -> io::Result<(Loops, Doors)> {
     let mut planned = Vec::with_capacity(alloc, machines.len())?;
     let mut doors = Vec::with_capacity(alloc, machines.len())?;
     for machine in machines {
-        let (side, door) = plan(rt, alloc, machine)?;
+        let (side, door) = plan(rt, alloc, machine, nodes)?;
         planned.push(side)?;
         doors.push(door)?;
     }
@@ -134,12 +144,12 @@ pub fn serve<
 ) -> u64
     ensures { result ≤ bounds.clients }
 {
-    let timing = timing_of(bounds.patience);
+    let timing = timing_of(bounds);
     thread::scope(thread::scope_env(), rt, move |scope| {
         if start_loops(rt, scope, alloc, loops, timing, watch, ears) && !doors.is_empty() {
             accept_all(rt, alloc, listener, doors, bounds, ears);
         }
-        doors.close(rt);
+        doors.close();
     });
     doors.served().min(bounds.clients)
 }

@@ -11,7 +11,7 @@ use crate::links::Links;
 use crate::reports::{LoopReport, report_of};
 use crate::times::{next_at, tick_of};
 use crate::tokens::{Origin, origin_of};
-use crate::waits::Waits;
+use crate::waits::{Waits, late_turns_after};
 use crossbeam_channel::{Receiver, Sender};
 use mio::Events;
 use mio::event::Event;
@@ -47,11 +47,10 @@ struct EventLoop<'a, R: Net + Clock, E: Hears> {
     links: Links,
     clients: Clients,
     mail: Receiver<Mail>,
-    no_more: bool,
     next_tick: u64,
     next_sweep: u64,
-    /// The loop was late, so that the time counts with the next turn alone.
-    is_late: bool,
+    /// For how many turns the loop has been late, so that the time doesn't count; 0 where it isn't.
+    late_turns: u64,
 }
 
 impl<'a, R: Net + Clock, E: Hears> Drop for EventLoop<'a, R, E> {
@@ -62,10 +61,9 @@ impl<'a, R: Net + Clock, E: Hears> Drop for EventLoop<'a, R, E> {
             links: _,
             clients: _,
             mail: _,
-            no_more: _,
             next_tick: _,
             next_sweep: _,
-            is_late: _,
+            late_turns: _,
         } = self;
     }
 }
@@ -88,7 +86,7 @@ impl<'a, R: Net + Clock, E: Hears> EventLoop<'a, R, E> {
     /// What the time does to the links, where it is time to look. Who waits for memory is tried again.
     fn tick(&mut self) {
         let now = self.engine.now;
-        if self.is_late || now < self.next_tick {
+        if self.late_turns > 0 || now < self.next_tick {
             return;
         }
         self.next_tick = next_at(now, tick_of(self.engine.timing.leg_bound));
@@ -99,7 +97,7 @@ impl<'a, R: Net + Clock, E: Hears> EventLoop<'a, R, E> {
 
     /// What the time does to the clients, where it is time to look.
     fn sweep(&mut self) {
-        if self.is_late || self.engine.now < self.next_sweep {
+        if self.late_turns > 0 || self.engine.now < self.next_sweep {
             return;
         }
         self.next_sweep = next_at(self.engine.now, SWEEP);
@@ -128,7 +126,6 @@ impl<'a, R: Net + Clock, E: Hears> EventLoop<'a, R, E> {
             match self.mail.try_recv(self.engine.rt) {
                 Ok(Mail::Client(socket)) => self.clients.admit(&mut self.engine, socket),
                 Ok(Mail::Tell(asker)) => self.answer(asker),
-                Ok(Mail::NoMore) => self.no_more = true,
                 Err(_) => return,
             }
         }
@@ -146,15 +143,18 @@ impl<'a, R: Net + Clock, E: Hears> EventLoop<'a, R, E> {
         }
     }
 
-    /// Waits for what happens, and notes it. A process that was stopped may hear of nothing at first: then the loop is late.
+    /// Waits for what happens, and notes it. A process that was stopped may hear of nothing at first, and of more than it takes in one
+    /// turn then: so the loop is late until all of that came. The events that are there are those of the turn before.
     fn wait(&mut self, events: &mut Events) -> io::Result<()>
     where
         R: Wait,
     {
         let waits = self.waits();
+        let has_more = waits.is_busy || events.iter().len() >= EVENTS;
         self.engine.poll.poll(events, waits.patience())?;
         self.engine.move_on();
-        self.is_late = !self.is_late && waits.is_overslept_at(self.engine.now);
+        let is_overslept = waits.is_overslept_at(self.engine.now);
+        self.late_turns = late_turns_after(self.late_turns, is_overslept, has_more);
         for event in &*events {
             self.note(event);
         }
@@ -185,7 +185,7 @@ impl<'a, R: Net + Clock, E: Hears> EventLoop<'a, R, E> {
     {
         let rt = self.engine.rt;
         for _ in rt.forever() {
-            if self.no_more && self.clients.is_empty() {
+            if self.clients.are_over() {
                 return;
             }
             if self.turn(events, input).is_err() {
@@ -227,12 +227,11 @@ pub(crate) fn run_loop<R: Net + Wait + Clock, E: Hears>(
         links,
         clients,
         mail,
-        no_more: false,
         next_tick: 0,
         next_sweep: 0,
-        is_late: false,
+        late_turns: 0,
     };
     running.run(&mut events, input.as_mut_slice());
-    running.clients.close();
+    running.clients.end();
     Ok(())
 }

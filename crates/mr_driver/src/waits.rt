@@ -1,13 +1,17 @@
 //! How long a loop may wait for events.
 ghost use Rattle.std.specs.Prelude.{◌≡◌, option_map};
 ghost use Rattle.std.specs.Duration.{as_nanos};
-ghost use Rattle.mr_driver.specs.Waits.{end_in, nanos_in, is_overslept_in};
+ghost use Rattle.mr_driver.specs.Waits.{end_in, late_turns_after, nanos_in, is_overslept_in};
 
 use crate::times::{next_at, until};
 use std::time::Duration;
 
 /// How much later than it meant to a loop may wake before it is late, in microseconds.
 const MOST_LATE: u64 = 25_000;
+
+/// For how many turns at most a loop that was late has the time count for nothing: within them it hears 65,536 events, and reads 4 MiB of
+/// each socket.
+const MOST_LATE_TURNS: u64 = 64;
 
 /// What a loop waits for, beside events. Moments are in microseconds.
 #[derive(Clone, Copy, Debug)]
@@ -60,5 +64,20 @@ impl Waits {
             Some(end) => now > next_at(end.max(self.begin), MOST_LATE),
             None => false,
         }
+    }
+}
+
+/// For how many turns a loop has been late, with this one, where it had been for so many: it becomes so where it was overslept. The
+/// second turn is late with the first one, which may have heard of nothing, and further ones are as long as the one before left
+/// something to be heard or read at once, but not for ever. 0 where it isn't late.
+pub(crate) fn late_turns_after(turns: u64, is_overslept: bool, has_more: bool) -> u64
+    ensures { result ≡ late_turns_after turns is_overslept has_more }
+{
+    if turns == 0 {
+        u64::from(is_overslept)
+    } else if turns == 1 || (has_more && turns < MOST_LATE_TURNS) {
+        turns + 1
+    } else {
+        0
     }
 }

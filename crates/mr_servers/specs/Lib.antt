@@ -1,4 +1,3 @@
-pub mod Addresses
 pub mod Asking
 pub mod Drives
 pub mod DrivesOf

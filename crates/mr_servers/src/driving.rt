@@ -18,6 +18,7 @@ use mr_log::{Happening, Log, Service};
 use mr_loop::ProxyLoop;
 use mr_phases::Schedule;
 use mr_pools::Routing;
+use mr_sockets::node_addresses;
 use std::alloc::{AllocError, Global};
 use std::io::Stderr;
 use std::net::{Net, TcpListener, TcpStream};
@@ -65,16 +66,20 @@ fn fault_of(kind: io::ErrorKind) -> OpenFault
     }
 }
 
-/// A loop for each machine. OutOfMemory where memory is refused, Net where they can't be opened for anything else, as for want of
-/// descriptors.
+/// A loop for each machine, with links to the nodes of a routing. OutOfMemory where memory is refused, Net where they can't be opened for
+/// anything else, as for want of descriptors.
 fn open_all<R: Net>(
     rt: &R,
     alloc: Global,
     machines: Vec<ProxyLoop>,
+    routing: &Routing,
 ) -> Result<(Loops, Doors), OpenFault>
     ensures { IfErr result (λ fault. fault ≢ OpenFault.Metrics) }
 {
-    match open_loops(rt, alloc, machines) {
+    let Ok(nodes) = node_addresses(alloc, routing) else {
+        return Err(OpenFault::OutOfMemory);
+    };
+    match open_loops(rt, alloc, machines, nodes.as_slice()) {
         Ok(opened) => Ok(opened),
         Err(error) => Err(fault_of(error.kind())),
     }
@@ -279,7 +284,7 @@ pub(crate) fn drive<
         Ok(None) => return Ok(0),
         Err(_) => return Err(OpenFault::OutOfMemory),
     };
-    let (loops, doors) = match open_all(rt, alloc, machines) {
+    let (loops, doors) = match open_all(rt, alloc, machines, &known.routing) {
         Ok(opened) => opened,
         Err(fault) => return Err(fault),
     };

@@ -2,7 +2,6 @@
 //! without; and what a watch asks of the machine.
 #![tactic(auto)]
 
-mod addresses;
 mod asking;
 mod drives;
 mod driving;

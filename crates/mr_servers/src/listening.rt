@@ -3,9 +3,8 @@
 ghost use Rattle.std.specs.Prelude.{◌≡◌, [], ◌∷◌, ◌++◌};
 ghost use Rattle.mr_sockets.specs.Listening.{Opens};
 
-use crate::addresses::GhostAddresses;
 use mr_driver::listen_at;
-use mr_sockets::{Listens, OverListener, address_of};
+use mr_sockets::{GhostAddresses, Listens, OverListener, address_of};
 use std::marker::Model;
 use std::net::{Net, SocketAddrV4, TcpListener, TcpStream};
 use std::time::Duration;

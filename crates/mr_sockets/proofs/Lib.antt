@@ -1,3 +1,4 @@
 pub mod AddressLemmas
 pub mod CarrierLemmas
+pub mod NodeLemmas
 pub mod PortLemmas

@@ -1,5 +1,5 @@
 -- The addresses that names of nodes are.
-use Rattle.std.specs.Prelude.{◌≡◌, ℕ, ◌<◌, ◌^◌, ◌⊎◌, List, [], ◌∷◌, ◌++◌, Option, Some, None, codes, decimal}
+use Rattle.std.specs.Prelude.{◌≡◌, ℕ, ◌<◌, ◌^◌, ◌⊎◌, ⊤, List, [], ◌∷◌, ◌++◌, Option, Some, None, codes, decimal}
 use Rattle.std.specs.declared.net.ipv4_addr.Ipv4Addr.{Ipv4Addr}
 use Rattle.std.specs.declared.net.socket_addr.SocketAddrV4.{SocketAddrV4}
 use Rattle.std.specs.Net.Addr.{ipv4_octets}
@@ -40,6 +40,13 @@ GivesAddress text None = (address : SocketAddrV4) → ¬ IsAddress text address
 abbrev pub GivesNodeAddress : List ℕ → Option SocketAddrV4 → Type 0
 GivesNodeAddress name (Some address) = IsNodeAddress name address
 GivesNodeAddress name None = (address : SocketAddrV4) → ¬ IsNodeAddress name address
+
+-- the addresses that names are, in order
+abbrev pub GivesNodeAddresses : List (List ℕ) → List (Option SocketAddrV4) → Type 0
+GivesNodeAddresses [] [] = ⊤
+GivesNodeAddresses [] (given ∷ others) = ⊥
+GivesNodeAddresses (name ∷ names) [] = ⊥
+GivesNodeAddresses (name ∷ names) (given ∷ others) = GivesNodeAddress name given × GivesNodeAddresses names others
 
 -- there is an address that the text is, and one that the name is
 abbrev pub HasAddress : List ℕ → Type 0

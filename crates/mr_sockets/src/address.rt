@@ -1,9 +1,12 @@
 //! The addresses that names of nodes are.
-ghost use Rattle.std.specs.Prelude.{◌≡◌, ◌≢◌, true, false, length, slice_index, MatchOption, decimal};
+ghost use Rattle.std.specs.Prelude.{◌≡◌, ◌≢◌, true, false, length, slice_index, IfOk, MatchOption, decimal};
+ghost use Rattle.std.specs.List.{flat_map};
 ghost use Rattle.std.specs.declared.net.ipv4_addr.Ipv4Addr.{Ipv4Addr};
-ghost use Rattle.mr_sockets.specs.Address.{IsHost, GivesAddress, GivesNodeAddress};
+ghost use Rattle.mr_sockets.specs.Address.{IsHost, GivesAddress, GivesNodeAddress, GivesNodeAddresses};
 ghost use Rattle.mr_sockets.specs.steps.Digits.{BeginsOddly, IsNoPort};
 
+use mr_pools::{Pool, Routing};
+use std::alloc::{AllocError, Global};
 use std::net::{Ipv4Addr, SocketAddrV4};
 
 /// The host that a text is. `localhost` is 127.0.0.1, whatever the machine's tables say.
@@ -70,4 +73,31 @@ pub fn node_address(name: &str) -> Option<SocketAddrV4>
         Some(address) if address.port() > 0 => Some(address),
         _ => None,
     }
+}
+
+/// The addresses that the names of a pool's nodes are, in order.
+fn pool_addresses(alloc: Global, pool: &Pool) -> Result<Vec<Option<SocketAddrV4>>, AllocError>
+    ensures { IfOk result (λ addresses. GivesNodeAddresses pool.now addresses.items) }
+{
+    let mut addresses = Vec::new(alloc);
+    for name in pool.names() {
+        addresses.push(node_address(name.as_str()))?;
+    }
+    Ok(addresses)
+}
+
+/// The addresses that the names of a routing's nodes are, pool by pool, in the order of each pool. None for one that is no address of a
+/// node.
+pub fn node_addresses(
+    alloc: Global,
+    routing: &Routing,
+) -> Result<Vec<Option<SocketAddrV4>>, AllocError>
+    ensures { IfOk result (λ addresses. GivesNodeAddresses (flat_map (λ names. names) routing.now.pools) addresses.items) }
+{
+    let mut addresses = Vec::new(alloc);
+    for pool in routing.pools() {
+        let more = pool_addresses(alloc, pool)?;
+        addresses.extend_from_slice(more.as_slice())?;
+    }
+    Ok(addresses)
 }

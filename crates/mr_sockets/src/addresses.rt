@@ -16,7 +16,7 @@ pub(crate) enum Addresses {
 
 /// Addresses that were asked for, which contracts see as a list and the program doesn't keep.
 #[derive(Drop)]
-pub(crate) struct GhostAddresses {
+pub struct GhostAddresses {
     addresses: Addresses,
 }
 
@@ -32,7 +32,7 @@ impl Model for GhostAddresses {
 
 impl GhostAddresses {
     /// None yet.
-    pub(crate) fn new() -> GhostAddresses
+    pub fn new() -> GhostAddresses
         ensures { result ≡ [] }
     {
         GhostAddresses {
@@ -41,7 +41,7 @@ impl GhostAddresses {
     }
 
     /// One more.
-    pub(crate) fn add(&mut self, address: SocketAddrV4)
+    pub fn add(&mut self, address: SocketAddrV4)
         ensures { self.new ≡ self.old ++ address ∷ [] }
     {
         let before = Snapshot::of(&self.addresses);

@@ -19,12 +19,13 @@ mod seeded_node;
 mod socket_carrier;
 mod tally;
 
-pub use address::{address_of, node_address};
+pub use address::{address_of, node_address, node_addresses};
+pub use addresses::GhostAddresses;
 pub use bounds::ServiceBounds;
 pub use carriers::node_carriers;
 pub use connections::{Service, accept_clients};
 pub use listener::{AcceptFault, Listener, OverListener};
-pub use listening::{HostListens, Listens, open};
+pub use listening::{Listens, open};
 pub use node_service::{run_node, serve_node};
 pub use patience::{Patience, leg_wait};
 pub use proxy_service::{run_proxy, serve_proxy};

@@ -20,7 +20,7 @@ use mr_loop::{Limits, ProxyLoop};
 use mr_phases::Schedule;
 use mr_pools::{NamedHash, NodeName, Pool, Routing};
 use mr_proxy::ProxyCore;
-use mr_sockets::{Patience, address_of};
+use mr_sockets::{address_of, node_addresses};
 use std::alloc::Global;
 use std::{env, thread};
 
@@ -36,11 +36,16 @@ fn pool_of(alloc: Global, word: &str) -> Result<Pool, Misuse> {
     Ok(Pool::new(names)?)
 }
 
-/// The machine of one loop, whose proxy has this number.
-fn machine_of(alloc: Global, number: u32, asked: &Asked<'_>) -> Result<ProxyLoop, Misuse> {
+/// Where keys lie.
+fn routing_of(alloc: Global, asked: &Asked<'_>) -> Result<Routing, Misuse> {
     let old = pool_of(alloc, asked.old)?;
     let new = pool_of(alloc, asked.new)?;
-    let routing = Routing::new(old, new, NamedHash::Fnv)?;
+    Ok(Routing::new(old, new, NamedHash::Fnv)?)
+}
+
+/// The machine of one loop, whose proxy has this number.
+fn machine_of(alloc: Global, number: u32, asked: &Asked<'_>) -> Result<ProxyLoop, Misuse> {
+    let routing = routing_of(alloc, asked)?;
     let schedule = Schedule::new(asked.start, asked.interval)?;
     let core = ProxyCore::new(alloc, number, 0, routing, schedule, asked.room);
     let limits = Limits {
@@ -66,10 +71,8 @@ fn bounds_of(asked: &Asked<'_>) -> DriverBounds {
     DriverBounds {
         clients: asked.clients,
         most_clients: asked.most_clients,
-        patience: Patience {
-            client_seconds: asked.client_seconds,
-            leg_millis: asked.leg_millis,
-        },
+        client_seconds: asked.client_seconds,
+        leg_millis: asked.leg_millis,
     }
 }
 
@@ -84,7 +87,9 @@ fn main(rt: HostRuntime) -> Result<(), Misuse> {
         return Err(Misuse::Words);
     };
     let listener = listen_at(&rt, address)?;
-    let (loops, doors) = open_loops(&rt, alloc, machines_of(alloc, &asked)?)?;
+    let nodes = node_addresses(alloc, &routing_of(alloc, &asked)?)?;
+    let machines = machines_of(alloc, &asked)?;
+    let (loops, doors) = open_loops(&rt, alloc, machines, nodes.as_slice())?;
     let (to, heard) = unbounded(alloc)?;
     let ears = Notes::new(rt.clone()?, to);
     let watch = ClockWatch::new();

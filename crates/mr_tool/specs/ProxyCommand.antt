@@ -40,7 +40,12 @@ bounds_of_proxy values = record { clients = values.clients; turns = values.turns
 
 -- what they bound where it runs on loops: its clients, how many of them are served at once, and how long it waits
 abbrev pub bounds_of_loops : ProxyValues → LoopValues → DriverBounds
-bounds_of_loops values loops = record { clients = values.clients; most_clients = loops.max_clients; patience = patience_of_proxy values }
+bounds_of_loops values loops = record {
+  clients = values.clients;
+  most_clients = loops.max_clients;
+  client_seconds = values.idle_timeout;
+  leg_millis = values.leg_timeout;
+}
 
 -- the most legs that wait in the queue of a node, at each loop with room for so many requests: three quarters of them, but one at least,
 -- and 1024 at most

@@ -154,10 +154,12 @@ fn serve_on_loops<
     let count = loops.count(servers.processors());
     let machines = loops_of(alloc, loaded.config(), values, count)?;
     let digest = loaded.digest(alloc)?;
+    let patience = patience_of(values);
     let bounds = DriverBounds {
         clients: values.clients,
         most_clients: loops.max_clients,
-        patience: patience_of(values),
+        client_seconds: patience.client_seconds,
+        leg_millis: patience.leg_millis,
     };
     let telling = Telling {
         version: version_number(),

@@ -6,6 +6,7 @@ import subprocess
 import time
 
 from client import DELETED, MISS, PATIENCE, STORED, Client, delete_of, get_of, hits, set_of
+from fake import FakeNode, SlowNode
 from helping import LARGEST, VALUE, closing, in_threads, is_proved, wait_until
 from running import case
 from serving import Proxy, StoreNode, some_node
@@ -218,6 +219,80 @@ def who_is_silent_is_closed_where_nothing_else_happens():
             silent.expect_end()
             check_true(f"it is closed soon: {time.monotonic() - begun:.1f} s", time.monotonic() - begun < 6)
             proxy.expect_served(5)
+
+
+@case(waits=True)
+def who_waits_for_a_slow_node_is_not_silent():
+    """It waits for longer than a client may be silent, and may be silent for as long again from when it was answered."""
+    with closing(SlowNode()) as node, Proxy([node.address], client_seconds=2) as proxy:
+        client = proxy.client()
+        client.send(get_of("k"))
+        node.wait_for(1)
+        time.sleep(5)
+        node.answer_all({"k": "v"})
+        client.expect(hits(("k", "v")))
+        time.sleep(1.2)
+        client.send(get_of("l"))
+        node.wait_for(1)
+        node.answer_all({})
+        client.expect(MISS)
+        begun = time.monotonic()
+        client.expect_end()
+        check_true(f"it is closed once it is silent itself: {time.monotonic() - begun:.1f} s", time.monotonic() - begun < 6)
+
+
+@case(waits=True)
+def who_is_owed_no_text_has_its_time_anew():
+    """A request without an answer is one for which its client waits too, until the node has done it."""
+
+    def talk(link):
+        link.request()
+        time.sleep(4.5)
+        link.send(STORED)
+        link.request()
+        link.send(MISS)
+        link.request()
+
+    with closing(FakeNode(talk)) as node, Proxy([node.address], client_seconds=2) as proxy:
+        client = proxy.client()
+        client.send(set_of("k", VALUE, noreply=True))
+        time.sleep(6)
+        client.ask(get_of("k"), MISS)
+
+
+def stays_while_held(**bounds):
+    """A client whose request is held back for longer than a client may be silent is there when its turn comes."""
+    with closing(SlowNode()) as node, Proxy([node.address], client_seconds=1, asks=True, **bounds) as proxy:
+        first, held = proxy.client(), proxy.client()
+        first.send(get_of("k0"))
+        node.wait_for(1)
+        held.send(get_of("k1"))
+        wait_until("a request that is held back", lambda: proxy.tell().counts["held"] == 1)
+        time.sleep(3.5)
+        node.answer_all({})
+        first.expect(MISS)
+        node.wait_for(1)
+        node.answer_all({})
+        held.expect(MISS)
+
+
+@case(waits=True)
+def who_is_held_back_for_room_is_not_silent():
+    stays_while_held(room=1)
+
+
+@case(waits=True)
+def who_is_held_back_for_a_link_is_not_silent():
+    stays_while_held(most_legs=1)
+
+
+@case(waits=True)
+def who_takes_nothing_is_silent():
+    """A client that reads none of its answers is ended, though some of its requests aren't answered yet."""
+    with closing(some_node()) as node, Proxy([node.address], client_seconds=1, asks=True) as proxy:
+        proxy.ask(set_of("large", LARGEST[:100000]), STORED)
+        proxy.client(little_room=True).send(get_of("large") * 200)
+        wait_until("the end of a client that takes nothing", lambda: proxy.tell().counts["left"] == 2)
 
 
 @case

@@ -1,7 +1,9 @@
 """What is bounded: requests under way, legs of a link, clients, open files, memory."""
+import contextlib
 import threading
 import time
 
+import memory
 from client import LOST, MISS, PATIENCE, STORED, Client, get_of, hits, set_of
 from fake import FakeNode, SlowNode
 from helping import LARGEST, MIB, VALUE, closing, expect_nothing, in_threads, wait_until
@@ -103,11 +105,12 @@ def places_that_come_free_together_are_taken_together():
 
 
 def goes_first(proxy, node):
-    """Of three clients that are held back one after another the first goes first."""
-    clients = [proxy.client() for _ in range(4)]
+    """Of seven clients that are held back one after another the first goes first, however often all are looked at before."""
+    clients = [proxy.client() for _ in range(8)]
     for number, it in enumerate(clients):
         it.send(get_of(f"k{number}"))
         wait_until("a request that is held back", lambda wanted=number: proxy.tell().counts["held"] == wanted)
+    time.sleep(0.3)
     for number, it in enumerate(clients):
         node.wait_for(1)
         check("what reaches the node next", [get_of(f"k{number}")], node.requests())
@@ -122,9 +125,39 @@ def who_waits_for_room_first_goes_first():
 
 
 @case
-def room_goes_round():
-    """Who asks one at a time gets its turn while others pipeline over room for one."""
-    with closing(StoreNode()) as node, Proxy([node.address], room=1) as proxy:
+def who_waits_for_a_link_first_goes_first():
+    with closing(SlowNode()) as node, Proxy([node.address], most_legs=1, asks=True) as proxy:
+        goes_first(proxy, node)
+
+
+@case
+def who_left_gives_its_turn_to_nobody():
+    """Who comes to the place of one that was held back and left isn't taken for that one, and waits behind those who were there."""
+    near, far = key_at(0, 2), key_at(1, 2)
+    with closing(SlowNode(), SlowNode()) as (full, other):
+        with Proxy([full.address, other.address], most_legs=1, asks=True) as proxy:
+            first, leaver, waiter = [proxy.client() for _ in range(3)]
+            first.send(get_of(near))
+            full.wait_for(1)
+            leaver.send(get_of(far), get_of(near))
+            other.wait_for(1)
+            wait_until("a request that is held back", lambda: proxy.tell().counts["held"] == 1)
+            waiter.send(set_of(near, "waiter"))
+            wait_until("two requests that are held back", lambda: proxy.tell().counts["held"] == 2)
+            leaver.reset()
+            other.answer_all({})
+            wait_until("the end of a client that broke off", lambda: proxy.tell().counts["left"] == 1)
+            proxy.client().send(set_of(near, "late"))
+            wait_until("three requests that are held back", lambda: proxy.tell().counts["held"] == 3)
+            full.answer_all({})
+            first.expect(MISS)
+            full.wait_for(1)
+            check("what reaches the node next", [set_of(near, "waiter")], full.requests())
+
+
+def goes_round(**bounds):
+    """Who asks one at a time gets its turn while another one pipelines over what there is of one."""
+    with closing(StoreNode()) as node, Proxy([node.address], **bounds) as proxy:
         ended = threading.Event()
         asked = []
 
@@ -141,7 +174,17 @@ def room_goes_round():
                 asked.append(1)
 
         in_threads(pipeline, ask)
-        check_true(f"answers beside a pipeline over room for one: {len(asked)}", len(asked) >= 30)
+        check_true(f"answers beside a pipeline over {bounds}: {len(asked)}", len(asked) >= 30)
+
+
+@case
+def room_goes_round():
+    goes_round(room=1)
+
+
+@case
+def a_link_goes_round():
+    goes_round(most_legs=1)
 
 
 @case
@@ -270,3 +313,43 @@ def want_of_memory_harms_no_other():
         check_true(f"memory was wanting, or enough: {set(ends)}", STORED in ends)
         proxy.ask(set_of("large", LARGEST), STORED)
         proxy.ask(get_of("large"), hits(("large", LARGEST)))
+
+
+@contextlib.contextmanager
+def without_memory(proxy, loops):
+    """Its loops run, and get no memory meanwhile. They aren't asked before, which would leave them room for mail."""
+    wait_until("its threads", lambda: proxy.status("Threads") > loops)
+    time.sleep(1)
+    memory.refuse(proxy)
+    yield
+    memory.grant(proxy)
+
+
+@case(waits=True)
+def a_client_that_is_refused_memory_is_closed_alone():
+    """Memory is refused as a client is handed to its loop. The next ones are served, in its place too, and by its loop too."""
+    numbers = set()
+
+    def talk(link):
+        while link.request():
+            numbers.add(link.number)
+            link.send(MISS)
+
+    with closing(FakeNode(talk)) as node:
+        with Proxy([node.address], loops=2, most_clients=2, before=memory.words()) as proxy:
+            with without_memory(proxy, 2):
+                proxy.client().expect_end()
+            clients = [proxy.client() for _ in range(2)]
+            for it in clients:
+                it.ask(get_of("k"), MISS)
+            check("the links over which the next two ask", {0, 1}, numbers)
+
+
+@case(waits=True)
+def a_proxy_that_is_refused_memory_ends():
+    """Memory is refused as the last client comes, and its loops end all the same."""
+    with closing(StoreNode(), StoreNode()) as (old, new):
+        with Proxy([old.address], [new.address], loops=3, clients=1, before=memory.words()) as proxy:
+            with without_memory(proxy, 3):
+                proxy.client().expect_end()
+            proxy.expect_served(0)

@@ -1,13 +1,15 @@
 """Loops, their links, their clients, and what they tell of themselves."""
-import os
+import fcntl
 import pathlib
-import signal
+import struct
+import termios
+import threading
 import time
 
-from client import MISS, get_of, hits
+from client import MISS, PATIENCE, get_of, hits
 from clocks import MovedClock
 from fake import FakeNode, SlowNode
-from helping import closing, in_threads, wait_until
+from helping import LARGEST, closing, in_threads, wait_until
 from placing import key_at
 from running import case
 from serving import HOME, Proxy, StoreNode
@@ -91,6 +93,17 @@ def it_ends_when_it_was_told_to():
 
 
 @case
+def a_loop_without_clients_ends_with_the_others():
+    """All nodes are there, so nothing happens to it but that it is told."""
+    with closing(StoreNode(), StoreNode()) as (old, new):
+        with Proxy([old.address], [new.address], loops=3, clients=1) as proxy:
+            client = proxy.client()
+            client.ask(get_of("k"), MISS)
+            client.quit()
+            proxy.expect_served(1)
+
+
+@case
 def it_ends_after_clients_that_had_to_wait():
     with closing(StoreNode()) as node, Proxy([node.address], clients=4, most_clients=1) as proxy:
         clients = [proxy.client() for _ in range(4)]
@@ -127,7 +140,7 @@ def loops_tell_of_themselves():
 @case
 def a_clock_that_goes_back_is_heard_of():
     clock = MovedClock(pathlib.Path(HOME, "clock"))
-    with closing(StoreNode()) as node, Proxy([node.address], asks=True, clock=clock) as proxy:
+    with closing(StoreNode()) as node, Proxy([node.address], asks=True, before=clock.words()) as proxy:
         client = proxy.client()
         client.ask(get_of("k"), MISS)
         clock.move(-10)
@@ -164,12 +177,46 @@ def a_proxy_that_was_stopped_goes_on():
         client, other = proxy.client(), proxy.client()
         client.send(get_of("k"))
         node.wait_for(1)
-        os.kill(proxy.child.pid, signal.SIGSTOP)
+        proxy.stop()
         node.answer_all({"k": "v"})
         other.send(get_of("l"))
         time.sleep(3)
-        os.kill(proxy.child.pid, signal.SIGCONT)
+        proxy.go_on()
         client.expect(hits(("k", "v")))
         node.wait_for(1)
         node.answer_all({})
         other.expect(MISS)
+
+
+def all_is_there(stream):
+    """Whether the system at the other end has all that was sent."""
+    return struct.unpack("i", fcntl.ioctl(stream, termios.TIOCOUTQ, struct.pack("i", 0)))[0] == 0
+
+
+@case(waits=True)
+def what_came_before_a_stop_ended_counts_however_much_it_is():
+    """While a proxy is stopped, a reply comes of which it reads a share in each of its turns. All of it counts before the time does."""
+    found, last = hits(("k", LARGEST)), hits(("k", LARGEST[:250000]))
+
+    def talk(link):
+        while link.request():
+            if asked.is_set():
+                proxy.stop()
+            link.send(last if asked.is_set() else found)
+            if asked.is_set():
+                wait_until("a reply that is there", lambda: all_is_there(link.stream))
+                sent.set()
+
+    asked, sent = threading.Event(), threading.Event()
+    with closing(FakeNode(talk)) as node, Proxy([node.address], leg_millis=1000) as proxy:
+        client = proxy.client()
+        for _ in range(10):  # so that the system has room for a quarter of that
+            client.ask(get_of("k"), found)
+        asked.set()
+        client.send(get_of("k"))
+        try:
+            check_true("the reply is there", sent.wait(PATIENCE))
+            time.sleep(2)
+        finally:
+            proxy.go_on()
+        client.expect(last)

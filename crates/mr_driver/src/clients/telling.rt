@@ -8,7 +8,6 @@ use crate::seat::Standing;
 use crate::writing::{Put, write_once};
 use mr_loop::ProxyLoop;
 use std::net::Net;
-use std::sync::atomic::Ordering;
 use std::time::Clock;
 
 impl Clients {
@@ -52,7 +51,7 @@ impl Clients {
     /// A client that isn't read any more leaves in order, once all is written to it.
     fn leave(&mut self, machine: &mut ProxyLoop, place: usize) {
         if place < machine.places() && machine.is_finished(place) {
-            self.tally.served.fetch_add(1, Ordering::SeqCst);
+            self.tally.add_served();
             self.drop_client(machine, place);
         }
     }
@@ -78,12 +77,23 @@ impl Clients {
         }
     }
 
+    /// A client that is owed answers was kept waiting by others until now: its own silence begins anew.
+    fn excuse(&mut self, machine: &ProxyLoop, place: usize, now: u64) {
+        if place < machine.places()
+            && machine.is_waiting(place)
+            && let Some(seat) = self.seats.get_mut(place)
+        {
+            seat.moved_at = now;
+        }
+    }
+
     /// Tells a client what is there for it.
     fn tell<R: Net + Clock, E: Hears>(&mut self, engine: &mut Engine<'_, R, E>, place: usize) {
         let Some(seat) = self.seats.get_mut(place) else {
             return;
         };
         seat.is_told = false;
+        self.excuse(&engine.machine, place, engine.now);
         if engine.machine.flush(place).is_err() {
             engine.hear(LoopEvent::NoMemory);
             self.make_told(place);
