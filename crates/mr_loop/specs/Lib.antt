@@ -11,4 +11,5 @@ pub mod Ticking
 pub mod Bounds
 pub mod LoopView
 pub mod Runs
+pub mod node
 pub mod steps

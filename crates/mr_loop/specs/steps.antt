@@ -5,3 +5,4 @@ pub mod Clearing
 pub mod Returning
 pub mod Asking
 pub mod Telling
+pub mod Serving

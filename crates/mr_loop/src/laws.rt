@@ -1,6 +1,13 @@
 //! What holds over whole runs of a loop.
 ghost use Rattle.mr_loop.specs.Bounds.{ClientsBeginFew};
+ghost use Rattle.mr_loop.specs.node.NodeRuns.{PiecesComeToOneSession, SessionsAskTheSame};
 ghost use Rattle.mr_loop.specs.Runs.{RepliesAreOfTheirLegs, StepsMakeTheCore, ClientsAreToldInOrder};
+
+use crate::node::Cache;
+use mr_text::laws::{
+    no_request_is_refused, nothing_is_unfinished, requests_are_prefix_free,
+    requests_have_one_refusal,
+};
 
 /// The k-th reply of a link is that of the k-th leg that went over it since it came up.
 pub fn replies_are_of_their_legs()
@@ -22,3 +29,20 @@ pub fn clients_are_told_in_order()
 pub fn clients_begin_few()
     ensures { ClientsBeginFew }
 {}
+
+/// In whatever pieces a client's bytes come to a node's loop whose cache nobody else uses, and however it reads its answers,
+/// all comes to one session over the whole: its requests in order, each one step of the cache at the reading of its call, and
+/// what is told is their output.
+pub fn pieces_come_to_one_session<C: Cache>()
+    ensures { PiecesComeToOneSession C.does }
+{}
+
+/// A session of `serve` over all that a client sent asks the same of its node, in the same order.
+pub fn sessions_ask_the_same<C: Cache>()
+    ensures { SessionsAskTheSame C.does }
+{
+    requests_are_prefix_free();
+    no_request_is_refused();
+    requests_have_one_refusal();
+    nothing_is_unfinished();
+}

@@ -1,5 +1,6 @@
 //! A proxy as a machine that an event loop drives: its core, its clients, and one link to each node, over which the legs of
-//! all clients go. It owns no socket and reads no clock; what it is told of bytes and time decides all that it does.
+//! all clients go. And a node as one: its cache and its clients. Neither owns a socket or reads a clock; what it is told of bytes
+//! and time decides all that it does.
 #![tactic(auto)]
 
 mod asker;
@@ -13,6 +14,7 @@ mod inbox;
 pub mod laws;
 mod link;
 mod link_counts;
+mod node;
 mod numbering;
 mod out_buffer;
 mod out_sink;
@@ -30,6 +32,7 @@ pub use front::Front;
 pub use inbox::{Fetched, Inbox, Input};
 pub use link::{Link, LinkEnd};
 pub use link_counts::{LegTimes, LinkCounts};
+pub use node::{Cache, NodeClient, NodeLoop, NodePause, ServedCounts, answer_on};
 pub use out_buffer::OutBuffer;
 pub use proxy_loop::ProxyLoop;
 pub use sending::Mark;

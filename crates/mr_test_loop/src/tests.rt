@@ -6,6 +6,7 @@ mod breaking;
 mod counting;
 mod leaving;
 mod memory;
+mod node;
 mod playing;
 mod replying;
 mod waiting;

@@ -1,0 +1,5 @@
+//! Worked runs of a node's loop with two places for clients.
+mod memory;
+mod playing;
+mod serving;
+mod texts;
