@@ -22,7 +22,7 @@ pub one_more_given : (names items : List (List ℕ)) (i : ℕ) (name : List ℕ)
 one_more_given names items i name old new address have gives added is same below =
     let here : get_or names i name ≡ name = sym (is ∙ ap (λ l. get_or l i name) same) in
     let longer : take i names ++ name ∷ [] ≡ take (i + 1) names =
-        (λ k. take i names ++ sym here k ∷ []) ∙ sym (take_more names i name (subst (λ l. i < length l) same below)) in
+    (λ k. take i names ++ sym here k ∷ []) ∙ sym (take_more names i name (subst (λ l. i < length l) same below)) in
     let P : List (List ℕ) → Type 0 = λ l. GivesNodeAddresses l new in
     let Q : List (Option SocketAddrV4) → Type 0 = λ l. GivesNodeAddresses (take i names ++ name ∷ []) l in
     subst P longer (subst Q (sym added) (both_given (take i names) (name ∷ []) old (address ∷ []) have (gives, tt)))
@@ -35,8 +35,8 @@ one_more_pool pools i pool old new more have gives added is below =
     let all : List (List (List ℕ)) → List (List ℕ) = flat_map (λ names. names) in
     let last : all (pool ∷ []) ≡ pool = append-nil pool in
     let longer : all (take i pools) ++ pool ≡ all (take (i + 1) pools) =
-        (λ k. all (take i pools) ++ sym last k) ∙ sym (flat_map-append (λ names. names) (take i pools) (pool ∷ []))
-        ∙ (λ k. all (take i pools ++ is k ∷ [])) ∙ ap all (sym (take_more pools i pool below)) in
+    (λ k. all (take i pools) ++ sym last k) ∙ sym (flat_map-append (λ names. names) (take i pools) (pool ∷ []))
+    ∙ (λ k. all (take i pools ++ is k ∷ [])) ∙ ap all (sym (take_more pools i pool below)) in
     let P : List (List ℕ) → Type 0 = λ l. GivesNodeAddresses l new in
     let Q : List (Option SocketAddrV4) → Type 0 = λ l. GivesNodeAddresses (all (take i pools) ++ pool) l in
     subst P longer (subst Q (sym added) (both_given (all (take i pools)) pool old more have gives))

@@ -33,7 +33,10 @@ fn loops_are_counted(rt: HostRuntime) {
         max_clients: 1,
         quiet: false,
     };
-    assert_eq!(rt; (values.count(0), values.count(3), values.count(9)), (1, 3, 4));
+    assert_eq!(rt;
+        (values.count(0), values.count(3), values.count(9)),
+        (1, 3, 4)
+    );
 }
 
 #[test]
