@@ -8,6 +8,8 @@
 //! Once all clients and the input have ended, it prints how many clients did without a fault.
 #![tactic(auto)]
 
+ghost use Rattle.std.specs.Prelude.{◌≡◌, length, IfOk};
+
 mod answers;
 mod asked;
 
@@ -37,7 +39,9 @@ fn pool_of(alloc: Global, word: &str) -> Result<Pool, Misuse> {
 }
 
 /// Where keys lie.
-fn routing_of(alloc: Global, asked: &Asked<'_>) -> Result<Routing, Misuse> {
+fn routing_of(alloc: Global, asked: &Asked<'_>) -> Result<Routing, Misuse>
+    ensures { IfOk result (λ routing. length routing.pools ≡ 2) }
+{
     let old = pool_of(alloc, asked.old)?;
     let new = pool_of(alloc, asked.new)?;
     Ok(Routing::new(old, new, NamedHash::Fnv)?)
