@@ -5,12 +5,10 @@ mod cache;
 mod client;
 mod counts;
 mod node_loop;
-mod outcome;
 mod serving;
 
 pub use cache::Cache;
 pub use client::NodeClient;
 pub use counts::ServedCounts;
 pub use node_loop::NodeLoop;
-pub use outcome::answer_on;
 pub use serving::NodePause;

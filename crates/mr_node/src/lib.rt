@@ -20,5 +20,6 @@ pub use command::NodeCommand;
 pub use ended::Ended;
 pub use error::NodeError;
 pub use expiry::MAX_RELATIVE_EXPTIME;
+pub use outcome::answer_on;
 pub use perform::Perform;
 pub use service::serve;

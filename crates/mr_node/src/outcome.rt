@@ -23,12 +23,14 @@ pub(crate) fn outcome<P: Perform, C: Clock>(
     ensures { Outcome C.reads C.failures P.did P.refused clock.old node.old request result clock.new node.new }
 {
     match clock.now() {
-        Ok(now) => outcome_at(alloc, node, now, request),
+        Ok(now) => answer_on(alloc, node, now, request),
         Err(_) => Reply::ServerError(Cause::ClockFault),
     }
 }
 
-fn outcome_at<P: Perform>(alloc: Global, node: &mut P, now: u64, request: Request) -> Reply
+/// What a request comes to at a reading of the clock, in seconds since the epoch. A get of several keys has all of them at this
+/// reading. Want of memory is what a request comes to as well.
+pub fn answer_on<P: Perform>(alloc: Global, node: &mut P, now: u64, request: Request) -> Reply
     requires { IsServed request }
     ensures { OutcomeAt P.did P.refused node.old now request result node.new }
 {

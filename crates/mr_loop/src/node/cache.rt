@@ -2,8 +2,7 @@
 ghost use Rattle.mr_node.specs.Output.{IsServed};
 ghost use Rattle.mr_loop.specs.node.Cache.{Does};
 
-use crate::node::outcome::answer_on;
-use mr_node::CacheNode;
+use mr_node::{CacheNode, answer_on};
 use mr_text::{Reply, Request};
 use std::alloc::Global;
 
