@@ -1,5 +1,5 @@
 //! Which bytes make a value, and copies of each.
-use super::{Rule, are, bytes_of_rule, count_is, equal_bytes, is, item};
+use super::{Rule, are, bytes_of_rule, count_is, equal_bytes, holds, is, item};
 use crate::tests::must;
 use mr_test_support::{repeated_keys, reply_text, request_text};
 use mr_text::{
@@ -247,7 +247,29 @@ fn item_lists_keep_order(rt: HostRuntime) {
         b"VALUE k 1 1\r\nv\r\nVALUE a 2 0\r\n\r\nEND\r\n",
     );
     count_is(&rt, 1, list.as_slice().len(), 2);
-    count_is(&rt, 2, list.into_vec().len(), 2);
+    holds(&rt, 2, list.into_only().is_none(), true);
+}
+
+/// Asserts that a list has this item alone, as its copy does, and gives it.
+fn is_only(rt: &impl Abort, row: usize, list: ItemList, it: &Item) {
+    let copy = must(rt, list.copy());
+    holds(rt, row, copy.same_as(&list), true);
+    count_is(rt, row, list.as_slice().len(), 1);
+    match list.into_only() {
+        Some(only) => holds(rt, row, only.same_as(it), true),
+        None => holds(rt, row, false, true),
+    }
+}
+
+#[test]
+fn item_lists_of_one_give_it(rt: HostRuntime) {
+    let it = item(&rt, rt.alloc(), b"k", 1, b"v");
+    let mut items = Vec::new(rt.alloc());
+    must(&rt, items.push(must(&rt, it.copy())));
+    is_only(&rt, 0, ItemList::new(items), &it);
+    is_only(&rt, 1, ItemList::one(must(&rt, it.copy())), &it);
+    let none = ItemList::new(Vec::new(rt.alloc()));
+    holds(&rt, 2, none.into_only().is_none(), true);
 }
 
 /// Refusals, and their numbers.
