@@ -39,7 +39,9 @@ fn is_key(rt: &impl Abort, alloc: Global, row: usize, bytes: &[u8], refusal: Opt
 fn keys_have_1_to_250_bytes(rt: HostRuntime) {
     let bad = Some(TextError::BadKey);
     let long = [b'x'; 251];
-    is_key(&rt, rt.alloc(), 250, &long[..250], None);
+    for count in [1, 40, 41, 250] {
+        is_key(&rt, rt.alloc(), count, &long[..count], None);
+    }
     is_key(&rt, rt.alloc(), 251, &long, bad);
     is_key(&rt, rt.alloc(), 0, b"", bad);
     for byte in b"\x00\t\n\r\x1f \x7f" {
