@@ -267,7 +267,11 @@ impl Links {
         let Some(stream) = &link.stream else {
             return;
         };
-        let put = write_once(stream, engine.machine.link_output(number));
+        let output = engine.machine.link_output(number);
+        if output.is_empty() {
+            return;
+        }
+        let put = write_once(stream, output);
         link.flow.note_written(put);
         engine.machine.on_link_written(number, put.count());
         if let Put::Broken = put {

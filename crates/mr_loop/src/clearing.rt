@@ -1,10 +1,10 @@
 //! Which of the links that a request would go over has no place for its leg.
-ghost use Rattle.std.specs.Prelude.{◌≡◌, ◌+◌, ◌<◌, ◌≤◌, ◌≢◌, length, map};
+ghost use Rattle.std.specs.Prelude.{◌≡◌, ◌+◌, ◌<◌, ◌≤◌, ◌≢◌, length, map, Some};
 ghost use Rattle.mr_phases.specs.Pools.{pool_number};
 ghost use Rattle.mr_proxy.specs.Issue.{sheets_of, used_reading};
 ghost use Rattle.mr_proxy.specs.Sheets.{HasHop};
-ghost use Rattle.mr_loop.specs.Links.{first_full, has_place, link_of_key};
-ghost use Rattle.mr_loop.specs.steps.Clearing.{full_of_keys, full_of_sides};
+ghost use Rattle.mr_loop.specs.Links.{first_full, has_place, has_place_in, link_of_key};
+ghost use Rattle.mr_loop.specs.steps.Clearing.{full_of_keys, full_of_sides, have_places};
 
 use crate::link::Link;
 use crate::numbering::link_of_key;
@@ -13,12 +13,29 @@ use mr_pools::Routing;
 use mr_proxy::ProxyCore;
 use mr_text::{Key, Request};
 
+/// As many links are looked at all at once, which costs less than to find out to which of them the keys belong.
+const FEW_LINKS: usize = 16;
+
+/// Whether fewer legs than the bound await a reply over a link.
+fn has_place_in(link: &Link, most: usize) -> bool
+    ensures { result ≡ has_place_in most (Some link.now) }
+{
+    link.legs.len() < most
+}
+
+/// Whether fewer legs than the bound await a reply over each link.
+fn have_places(links: &[Link], most: usize) -> bool
+    ensures { result ≡ have_places most links.now }
+{
+    links.iter().all(|link| has_place_in(link, most))
+}
+
 /// Whether fewer legs than the bound await a reply over the link of a number.
 fn has_place(links: &[Link], most: usize, number: usize) -> bool
     ensures { result ≡ has_place most links.now number }
 {
     if number < links.len() {
-        links[number].legs.len() < most
+        has_place_in(&links[number], most)
     } else {
         true
     }
@@ -76,8 +93,25 @@ fn used_reading(core: &ProxyCore, reading: u64) -> u64
 }
 
 /// The first of the links that a request would go over, were it issued at this reading, that has as many legs as the bound, by
-/// its number. None where each has fewer.
+/// its number. None where each has fewer. The keys are placed only where there are many links or one of them is full.
+#[tactic(auto, using(crate::proofs::ClearLemmas::none_full))]
 pub(crate) fn first_full(
+    links: &[Link],
+    most: usize,
+    core: &ProxyCore,
+    reading: u64,
+    request: &Request,
+) -> Option<usize>
+    ensures { result ≡ first_full most core.now.routing (sheets_of core.now reading request.now) links.now }
+{
+    if links.len() <= FEW_LINKS && have_places(links, most) {
+        return None;
+    }
+    full_of_request(links, most, core, reading, request)
+}
+
+/// The same, where the keys have to be placed.
+fn full_of_request(
     links: &[Link],
     most: usize,
     core: &ProxyCore,

@@ -59,7 +59,7 @@ impl Link {
             is_up: false,
             reader: ReplyReader::new(alloc),
             legs: SentLegs::new(alloc),
-            out: OutBuffer::new(alloc),
+            out: OutBuffer::of_link(alloc),
             counts: LinkCounts::new(),
         }
     }

@@ -11,8 +11,11 @@ use mr_text::{FixedBuffer, Reply, send_reply};
 use std::alloc::{AllocError, Global};
 use std::marker::Model;
 
-/// Memory of so many bytes is kept where nothing waits.
+/// Memory of so many bytes is kept for a client where nothing waits.
 const KEPT: usize = 1024;
+
+/// Memory of so many bytes is kept for a link where nothing waits, of which there are few: what a turn of many clients asks.
+const KEPT_FOR_LINK: usize = 65_536;
 
 /// What was written is dropped from the memory where it is so many bytes, and no fewer than those that wait.
 const DROPPED: usize = 65_536;
@@ -22,6 +25,7 @@ const DROPPED: usize = 65_536;
 pub struct OutBuffer {
     sink: OutSink,
     start: usize,
+    kept: usize,
 }
 
 impl Model for OutBuffer {
@@ -42,6 +46,18 @@ impl OutBuffer {
         OutBuffer {
             sink: OutSink::new(alloc),
             start: 0,
+            kept: KEPT,
+        }
+    }
+
+    /// Nothing waits for a node.
+    pub(crate) fn of_link(alloc: Global) -> OutBuffer
+        ensures { result ≡ [] }
+    {
+        OutBuffer {
+            sink: OutSink::new(alloc),
+            start: 0,
+            kept: KEPT_FOR_LINK,
         }
     }
 
@@ -87,7 +103,7 @@ impl OutBuffer {
     pub(crate) fn clear(&mut self)
         ensures { self.new ≡ [] }
     {
-        if self.sink.bytes.capacity() > KEPT {
+        if self.sink.bytes.capacity() > self.kept {
             let alloc = *self.sink.bytes.allocator();
             self.sink.bytes = Vec::new(alloc);
         } else {

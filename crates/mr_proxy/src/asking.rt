@@ -55,11 +55,11 @@ pub fn leg_reply_of(command: &NodeCommand, reply: Reply) -> Option<LegReply>
 fn reply_to_get(key: &Key, items: ItemList) -> Option<LegReply>
     ensures { MatchOption result ((said : LegReply) → ¬ FindsItemOf key.now items said) (FindsItemOf key.now items) }
 {
-    let mut items = items.into_vec();
-    let Some(item) = items.pop() else {
+    if items.as_slice().is_empty() {
         return Some(LegReply::Miss);
-    };
-    if !items.is_empty() || !item.key.same_as(key) {
+    }
+    let item = items.into_only()?;
+    if !item.key.same_as(key) {
         return None;
     }
     Some(LegReply::Hit {

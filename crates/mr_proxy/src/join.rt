@@ -1,5 +1,6 @@
 //! The one reply to a request, by what its legs came to.
 ghost use Rattle.std.specs.Prelude.{◌≡◌, ◌≤◌, ◌<◌, [], map, length, slice_get, vec_len, vec_capacity};
+ghost use Rattle.mr_text.specs.Limits.{MAX_ITEMS};
 ghost use Rattle.mr_proxy.specs.Slots.{reply_of_slot};
 ghost use Rattle.mr_proxy.specs.steps.Room.{HasRoomFor, most_items};
 ghost use Rattle.mr_join.specs.Join.{joined_reply, hits_of, worst_of, reply_by};
@@ -40,6 +41,24 @@ fn into_hits(keys: Vec<Key>, slots: Vec<Slot>, mut items: Vec<Item>) -> Vec<Item
     items
 }
 
+/// What the legs of these keys found. A single item needs no room.
+fn found(mut keys: Vec<Key>, mut slots: Vec<Slot>, items: Vec<Item>) -> ItemList
+    requires key { 1 ≤ length keys.items }
+    requires few { length keys.items ≤ MAX_ITEMS }
+    requires leg { 1 ≤ length slots.items }
+    requires unused { items.items ≡ [] }
+    requires fits { 1 < length keys.items → length keys.items ≤ vec_capacity items }
+    ensures { result ≡ hits_of keys.items (map reply_of_slot slots.items) }
+{
+    if keys.len() > 1 {
+        return ItemList::new(into_hits(keys, slots, items));
+    }
+    match (keys.pop(), slots.swap_remove(0).into_outcome()) {
+        (Some(key), LegReply::Hit { flags, block }) => ItemList::one(Item { key, flags, block }),
+        _ => ItemList::new(items),
+    }
+}
+
 /// The reply to a set or a delete whose worst leg came to this, or to a get that failed by it.
 fn reply_by(outcome: LegReply) -> Reply
     ensures { result ≡ reply_by outcome }
@@ -63,8 +82,7 @@ pub(crate) fn join_replies(request: Request, mut slots: Vec<Slot>, items: Vec<It
     let worst = place_of_worst(&slots);
     match request {
         Request::Get { keys } if !slots[worst].has_failed() => {
-            let hits = into_hits(keys.into_vec(), slots, items);
-            Reply::Items(ItemList::new(hits))
+            Reply::Items(found(keys.into_vec(), slots, items))
         }
         _ => reply_by(slots.swap_remove(worst).into_outcome()),
     }

@@ -21,6 +21,7 @@ pub mod OneLine
 pub mod OneReading
 pub mod Reached
 pub mod ReplyProgress
+pub mod OnlyItems
 pub mod CanonicalWords
 pub mod CanonicalNumbers
 pub mod CanonicalRequests

@@ -8,6 +8,8 @@ pub mod StreamView
 pub mod Waiting
 pub mod BegunSet
 pub mod Place
+pub mod KeyPlace
+pub mod ItemPlace
 pub mod RequestNext
 pub mod Reading
 pub mod CommandView

@@ -1,27 +1,45 @@
 //! The items of one answer.
-ghost use Rattle.std.specs.Prelude.{◌≡◌, ◌≤◌, length, IfOk, vec_len, ◌↔◌, IsTrue};
+ghost use Rattle.std.specs.Prelude.{◌≡◌, ◌≢◌, ◌≤◌, [], ◌∷◌, length, IfOk, MatchOption, vec_len, ◌↔◌, IsTrue};
 
 use crate::item::Item;
 use crate::limits::MAX_ITEMS;
 use std::alloc::AllocError;
 use std::marker::Model;
+use std::slice;
 
-/// The items of one answer, in order: up to 4,094.
+/// Where the items of an answer stand.
 #[derive(Debug, Drop)]
+pub(crate) enum ItemPlace {
+    /// The only one, in the list itself.
+    One(Item),
+    /// Any number, in memory of their own.
+    Many(Vec<Item>),
+}
+
+/// The items of one answer, in order: up to 4,094. The list of one item takes no memory of its own.
+#[derive(Debug)]
 pub struct ItemList {
-    items: Vec<Item>,
+    place: ItemPlace,
+}
+
+// By hand, so that who drops a list needs to know nothing of its places.
+impl Drop for ItemList {
+    fn drop(self) {
+        let ItemList { place: _ } = self;
+    }
 }
 
 impl Model for ItemList {
     ghost use Rattle.std.specs.Prelude.{List, ◌≤◌, length};
     ghost use Rattle.mr_text.specs.declared.item.Item.{Item};
     ghost use Rattle.mr_text.specs.Limits.{MAX_ITEMS};
+    ghost use Rattle.mr_text.specs.steps.ItemPlace.{items_at};
 
     ghost Value = { List Item };
 
-    ghost view = { λ l. l.items.items };
+    ghost view = { λ l. items_at l.place };
 
-    ghost invariant = { λ l. length l.items.items ≤ MAX_ITEMS };
+    ghost invariant = { λ l. length (items_at l.place) ≤ MAX_ITEMS };
 }
 
 impl ItemList {
@@ -30,7 +48,18 @@ impl ItemList {
         requires { vec_len items ≤ MAX_ITEMS }
         ensures { result ≡ items.items }
     {
-        ItemList { items }
+        ItemList {
+            place: ItemPlace::Many(items),
+        }
+    }
+
+    /// The list of one item. It takes no memory.
+    pub fn one(item: Item) -> ItemList
+        ensures { result ≡ item ∷ [] }
+    {
+        ItemList {
+            place: ItemPlace::One(item),
+        }
     }
 
     /// The items in order.
@@ -38,15 +67,21 @@ impl ItemList {
         ensures items { result.now ≡ self.now }
         ensures within { length result.now ≤ MAX_ITEMS }
     {
-        self.items.as_slice()
+        match &self.place {
+            ItemPlace::One(item) => slice::from_ref(item),
+            ItemPlace::Many(items) => items.as_slice(),
+        }
     }
 
-    /// The items, given back without taking memory.
-    pub fn into_vec(self) -> Vec<Item>
-        ensures items { result.items ≡ self }
-        ensures within { vec_len result ≤ MAX_ITEMS }
+    /// The item of a list of one. None where there are none or more. It takes no memory.
+    pub fn into_only(self) -> Option<Item>
+        ensures { MatchOption result (length self ≢ 1) (λ item. self ≡ item ∷ []) }
     {
-        self.items
+        let ItemList { place } = self;
+        match place {
+            ItemPlace::One(item) => Some(item),
+            ItemPlace::Many(items) => only_of(items),
+        }
     }
 
     /// Whether the other list is equal.
@@ -60,12 +95,30 @@ impl ItemList {
     pub fn copy(&self) -> Result<ItemList, AllocError>
         ensures { IfOk result (λ list. list ≡ self.now) }
     {
-        let mut items = Vec::with_capacity(*self.items.allocator(), self.items.len())?;
-        for item in &self.items {
-            items.push(item.copy()?)?;
-        }
-        Ok(ItemList { items })
+        let place = match &self.place {
+            ItemPlace::One(item) => ItemPlace::One(item.copy()?),
+            ItemPlace::Many(items) => ItemPlace::Many(copied(items)?),
+        };
+        Ok(ItemList { place })
     }
+}
+
+/// The only one of these items.
+fn only_of(mut items: Vec<Item>) -> Option<Item>
+    ensures { MatchOption result (length items.items ≢ 1) (λ item. items.items ≡ item ∷ []) }
+{
+    if items.len() == 1 { items.pop() } else { None }
+}
+
+/// Equal items.
+fn copied(items: &Vec<Item>) -> Result<Vec<Item>, AllocError>
+    ensures { IfOk result (λ copies. copies.items ≡ items.now.items) }
+{
+    let mut copies = Vec::with_capacity(*items.allocator(), items.len())?;
+    for item in items {
+        copies.push(item.copy()?)?;
+    }
+    Ok(copies)
 }
 
 /// Whether both lists are equal.

@@ -3,28 +3,46 @@ ghost use Rattle.std.specs.Prelude.{◌≡◌, ◌≤◌, length, IfOk, ◌↔�
 ghost use Rattle.std.specs.List.{list_all};
 ghost use Rattle.mr_text.specs.Key.{IsKey, key_byte_test, key_test};
 ghost use Rattle.mr_text.specs.declared.error.TextError.TheVariants.{BadKey};
+ghost use Rattle.mr_text.specs.steps.KeyPlace.{key_at, IsFilled};
 
 use crate::error::TextError;
-use crate::limits::MAX_KEY;
+use crate::limits::{MAX_KEY, SHORT_KEY};
 use std::alloc::{AllocError, Global};
 use std::hash::{Hash, Hasher};
 use std::marker::Model;
 
-/// The name of an item: 1 to 250 bytes without a space or a control character.
+/// Where the bytes of a key stand.
 #[derive(Debug, Drop)]
+pub(crate) enum KeyPlace {
+    /// In the key itself, so many of these.
+    Within([u8; SHORT_KEY], usize),
+    /// In memory of their own.
+    Apart(Vec<u8>),
+}
+
+/// The name of an item: 1 to 250 bytes without a space or a control character. A short one takes no memory.
+#[derive(Debug)]
 pub struct Key {
-    bytes: Vec<u8>,
+    place: KeyPlace,
+}
+
+// By hand, so that who drops a key needs to know nothing of its places.
+impl Drop for Key {
+    fn drop(self) {
+        let Key { place: _ } = self;
+    }
 }
 
 impl Model for Key {
     ghost use Rattle.std.specs.Prelude.{ℕ, List};
     ghost use Rattle.mr_text.specs.Key.{IsKey};
+    ghost use Rattle.mr_text.specs.steps.KeyPlace.{key_at, IsFilled};
 
     ghost Value = { List ℕ };
 
-    ghost view = { λ k. k.bytes.items };
+    ghost view = { λ k. key_at k.place };
 
-    ghost invariant = { λ k. IsKey k.bytes.items };
+    ghost invariant = { λ k. IsFilled k.place × IsKey (key_at k.place) };
 }
 
 /// Whether a byte may stand in a key.
@@ -49,6 +67,17 @@ pub(crate) fn is_key(bytes: &[u8]) -> bool
     !bytes.is_empty() && bytes.len() <= MAX_KEY && are_key_bytes(bytes)
 }
 
+/// These bytes, which have room in a key itself.
+fn within(bytes: &[u8]) -> KeyPlace
+    requires { length bytes.now ≤ 40 }
+    ensures filled { IsFilled result }
+    ensures bytes { key_at result ≡ bytes.now }
+{
+    let mut room = [0; SHORT_KEY];
+    room[..bytes.len()].copy_from_slice(bytes);
+    KeyPlace::Within(room, bytes.len())
+}
+
 impl Key {
     ghost use Rattle.mr_text.specs.Making.{MadeWhere};
 
@@ -68,8 +97,12 @@ impl Key {
         requires { IsKey bytes.now }
         ensures { IfOk result (λ key. key ≡ bytes.now) }
     {
-        let bytes = Vec::from_slice(alloc, bytes)?;
-        Ok(Key { bytes })
+        let place = if bytes.len() <= SHORT_KEY {
+            within(bytes)
+        } else {
+            KeyPlace::Apart(Vec::from_slice(alloc, bytes)?)
+        };
+        Ok(Key { place })
     }
 
     /// The bytes of the key.
@@ -77,7 +110,10 @@ impl Key {
         ensures bytes { result.now ≡ self.now }
         ensures key { IsKey result.now }
     {
-        self.bytes.as_slice()
+        match &self.place {
+            KeyPlace::Within(room, count) => &room[..*count],
+            KeyPlace::Apart(bytes) => bytes.as_slice(),
+        }
     }
 
     /// How many bytes the key has.
@@ -86,7 +122,7 @@ impl Key {
         ensures some { 1 ≤ result }
         ensures short { result ≤ MAX_KEY }
     {
-        self.bytes.len()
+        self.as_bytes().len()
     }
 
     /// Whether the other key is equal.
@@ -100,7 +136,13 @@ impl Key {
     pub fn copy(&self) -> Result<Key, AllocError>
         ensures { IfOk result (λ key. key ≡ self.now) }
     {
-        Key::of(*self.bytes.allocator(), self.as_bytes())
+        let place = match &self.place {
+            KeyPlace::Within(room, count) => KeyPlace::Within(*room, *count),
+            KeyPlace::Apart(bytes) => {
+                KeyPlace::Apart(Vec::from_slice(*bytes.allocator(), bytes.as_slice())?)
+            }
+        };
+        Ok(Key { place })
     }
 }
 

@@ -21,3 +21,6 @@ pub const FIXED_BUFFER: usize = 4096;
 
 /// The least length of a large block: one that takes the room along in which it came, and whose copies share its bytes.
 pub(crate) const LARGE_BLOCK: usize = 16_384;
+
+/// The greatest length of a short key: one that stands in its value, so that none takes memory for it.
+pub(crate) const SHORT_KEY: usize = 40;

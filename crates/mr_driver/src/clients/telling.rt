@@ -39,7 +39,11 @@ impl Clients {
         if place >= machine.places() || seat.flow.is_blocked {
             return Some(0);
         }
-        let put = write_once(&seat.stream, machine.client_output(place));
+        let output = machine.client_output(place);
+        if output.is_empty() {
+            return Some(0);
+        }
+        let put = write_once(&seat.stream, output);
         seat.flow.note_written(put);
         machine.on_client_written(place, put.count());
         match put {

@@ -1,10 +1,15 @@
 -- Which link is full, by the keys and the sides of a request.
-use Rattle.std.specs.Prelude.{ℕ, List, [], ◌∷◌, Option, Some, None, if◌then◌else◌}
+use Rattle.std.specs.Prelude.{ℕ, Bool, List, [], ◌∷◌, Option, Some, None, if◌then◌else◌}
+use Rattle.std.specs.List.{list_all}
 use Rattle.mr_phases.specs.Pools.{pool_number}
 use Rattle.mr_phases.specs.declared.side.Side.{Side}
 use Rattle.mr_pools.specs.Routing.{RoutingView}
 use Rattle.mr_loop.specs.declared.link.Link.{Link}
-use Rattle.mr_loop.specs.Links.{has_place, link_of_key}
+use Rattle.mr_loop.specs.Links.{has_place, has_place_in, link_of_key}
+
+-- each link has a place
+abbrev pub have_places : ℕ → List Link → Bool
+have_places most links = list_all (λ link. has_place_in most (Some link)) links
 
 abbrev pub full_of_keys : ℕ → RoutingView → ℕ → List (List ℕ) → List Link → Option ℕ
 full_of_keys most routing pool [] links = None

@@ -1,17 +1,23 @@
 //! What stands in bytes that weren't read yet of a reply: found over the bytes themselves, without taking memory.
-ghost use Rattle.std.specs.Prelude.{◌≡◌, ◌≤◌, ◌<◌, ◌++◌, ◌^◌, ◌+◌, ℕ, List, Some, drop, take, length, IfOk, IfSome};
+ghost use Rattle.std.specs.Prelude.{◌≡◌, ◌≤◌, ◌<◌, ◌++◌, ◌^◌, ◌+◌, ℕ, List, [], ◌∷◌, Some, drop, take, length, IfOk, IfSome};
 ghost use Rattle.mr_lines.specs.Lines.{byte_place};
 ghost use Rattle.mr_text.specs.Replies.{cause_of, IsItemLine};
-ghost use Rattle.mr_text.specs.steps.ReplyReading.{items_reading};
+ghost use Rattle.mr_text.specs.steps.Reading.StretchReading.{Gives};
+ghost use Rattle.mr_text.specs.steps.ReplyReading.{items_reading, reply_reading};
 ghost use Rattle.mr_text.specs.steps.ReplySteps.{IsFirstSaid, IsNextLine, IsStepAhead, IsAhead, lone_reply};
 ghost use Rattle.mr_text.specs.steps.ReplyView.{HasOneLine, IsOneLine};
 ghost use Rattle.mr_text.specs.Limits.{MAX_BLOCK};
 ghost use Rattle.mr_text.specs.declared.reply.Reply.{Reply};
+ghost use Rattle.mr_text.specs.declared.reply.Reply.TheVariants.{Items};
 
+use crate::block::Block;
 use crate::cause::Cause;
 use crate::cause_text::named_cause;
 use crate::error::TextError;
+use crate::item::Item;
 use crate::item_list::ItemList;
+use crate::key::Key;
+use crate::limits::{LARGE_BLOCK, MAX_ITEMS};
 use crate::line::Line;
 use crate::reading::blocks::has_block;
 use crate::reading::lines::line_to;
@@ -200,6 +206,43 @@ fn items_from(room: usize, bytes: &[u8], read: usize) -> Result<bool, TextError>
 {
     let rest = &bytes[read..];
     items_ahead(room, rest, place_of_byte(b'\n', rest))
+}
+
+/// The item that is a reply by itself and whose line of so many bytes comes first, and how many bytes spell the reply. None
+/// where that isn't whole or has another item, where its block is a large one, and for want of memory.
+pub(crate) fn only_item(
+    alloc: Global,
+    bytes: &[u8],
+    key: &[u8],
+    flags: u32,
+    block_length: usize,
+    size: usize,
+) -> Option<(Item, usize)>
+    requires line { IsItemLine (take size bytes.now) key.now flags block_length }
+    requires allowed { block_length ≤ MAX_BLOCK }
+    requires within { size ≤ length bytes.now }
+    ensures reply { IfSome result (λ found. reply_reading bytes.now ≡ Gives (Items (found.0 ∷ [])) found.1) }
+    ensures within { IfSome result (λ found. found.1 ≤ length bytes.now) }
+{
+    if block_length >= LARGE_BLOCK {
+        return None;
+    }
+    let behind = &bytes[size..];
+    let Ok(true) = has_block(block_length, behind) else {
+        return None;
+    };
+    let rest = &behind[block_length + 2..];
+    let Ok(NextLine::End(end)) = next_line(MAX_ITEMS - 1, rest, place_of_byte(b'\n', rest)) else {
+        return None;
+    };
+    let (Ok(key), Ok(block)) = (
+        Key::of(alloc, key),
+        Block::of(alloc, &behind[..block_length]),
+    ) else {
+        return None;
+    };
+    let item = Item { key, flags, block };
+    Some((item, size + block_length + 2 + end))
 }
 
 /// The reply that a line says by itself.

@@ -16,7 +16,7 @@ use crate::limits::MAX_ITEMS;
 use crate::reading::begun_item::BegunItem;
 use crate::reading::blocks::has_block;
 use crate::reading::replies::{
-    NextLine, first_said, items_ahead, items_behind_block, lone_reply, next_line,
+    NextLine, first_said, items_ahead, items_behind_block, lone_reply, next_line, only_item,
 };
 use crate::reading::reply_lines::SaidLine;
 use crate::reading::stream::Stream;
@@ -120,6 +120,19 @@ impl UnfinishedReply {
                     ),
                 ),
             ) => {
+                let alloc = self.stream.allocator();
+                let bytes = self.stream.as_slice();
+                if let Some((item, length)) = only_item(
+                    alloc,
+                    bytes,
+                    key,
+                    flags,
+                    block_length,
+                    size,
+                ) {
+                    self.stream.give(length);
+                    return Ok(FirstLine::Reply(Reply::Items(ItemList::one(item))));
+                }
                 let said = BegunItem::of(key, flags, block_length);
                 self.begin(said, size);
                 Ok(FirstLine::Item)

@@ -1,5 +1,5 @@
 //! Which bytes make a value, and copies of each.
-use super::{Rule, are, bytes_of_rule, count_is, equal_bytes, is, item};
+use super::{Rule, are, bytes_of_rule, count_is, equal_bytes, holds, is, item};
 use crate::tests::must;
 use mr_test_support::{repeated_keys, reply_text, request_text};
 use mr_text::{
@@ -39,7 +39,9 @@ fn is_key(rt: &impl Abort, alloc: Global, row: usize, bytes: &[u8], refusal: Opt
 fn keys_have_1_to_250_bytes(rt: HostRuntime) {
     let bad = Some(TextError::BadKey);
     let long = [b'x'; 251];
-    is_key(&rt, rt.alloc(), 250, &long[..250], None);
+    for count in [1, 40, 41, 250] {
+        is_key(&rt, rt.alloc(), count, &long[..count], None);
+    }
     is_key(&rt, rt.alloc(), 251, &long, bad);
     is_key(&rt, rt.alloc(), 0, b"", bad);
     for byte in b"\x00\t\n\r\x1f \x7f" {
@@ -247,7 +249,29 @@ fn item_lists_keep_order(rt: HostRuntime) {
         b"VALUE k 1 1\r\nv\r\nVALUE a 2 0\r\n\r\nEND\r\n",
     );
     count_is(&rt, 1, list.as_slice().len(), 2);
-    count_is(&rt, 2, list.into_vec().len(), 2);
+    holds(&rt, 2, list.into_only().is_none(), true);
+}
+
+/// Asserts that a list has this item alone, as its copy does, and gives it.
+fn is_only(rt: &impl Abort, row: usize, list: ItemList, it: &Item) {
+    let copy = must(rt, list.copy());
+    holds(rt, row, copy.same_as(&list), true);
+    count_is(rt, row, list.as_slice().len(), 1);
+    match list.into_only() {
+        Some(only) => holds(rt, row, only.same_as(it), true),
+        None => holds(rt, row, false, true),
+    }
+}
+
+#[test]
+fn item_lists_of_one_give_it(rt: HostRuntime) {
+    let it = item(&rt, rt.alloc(), b"k", 1, b"v");
+    let mut items = Vec::new(rt.alloc());
+    must(&rt, items.push(must(&rt, it.copy())));
+    is_only(&rt, 0, ItemList::new(items), &it);
+    is_only(&rt, 1, ItemList::one(must(&rt, it.copy())), &it);
+    let none = ItemList::new(Vec::new(rt.alloc()));
+    holds(&rt, 2, none.into_only().is_none(), true);
 }
 
 /// Refusals, and their numbers.

@@ -9,6 +9,7 @@ use Rattle.mr_text.specs.steps.ReplyProgress.{FirstLineIs, LineTaken}
 use Rattle.mr_text.specs.steps.StreamView.{StreamView, with_given}
 use Rattle.mr_text.specs.declared.error.TextError.TheVariants.{OutOfMemory}
 use Rattle.mr_text.specs.declared.reading.unfinished_reply.FirstLine.TheVariants as first
+use Rattle.mr_text.specs.declared.reply.Reply.TheVariants.{Items}
 use Rattle.mr_text.proofs.UnfinishedReplies.{first_stays, first_takes, first_gives, first_lacks, first_refused, lone_is_read}
 use Rattle.mr_text.proofs.reading.unfinished_reply.UnfinishedReply.read_first_line.Goals as goal
 
@@ -20,8 +21,8 @@ returns-in-Ok-None c =
     subst (λ s. FirstLineIs old (record { stream = s; said = old.said; items = old.items }) (Ok first.Waits)) (sym c.line_end-end.ensures.same)
     (first_stays old c.requires.progress c.requires.going_on c.requires.nothing e)
 
-pub returns-in_default : goal.returns-in_default
-returns-in_default c =
+pub returns-in_default-lone_reply : goal.returns-in_default-lone_reply
+returns-in_default-lone_reply c =
     let old = c.args.self.now in
     let i = c.in-Ok-Some in
     let h = (rw i.field-0-is at i.ensures) in
@@ -30,8 +31,18 @@ returns-in_default c =
     subst (λ s. FirstLineIs old (record { stream = s; said = old.said; items = old.items }) (Err OutOfMemory)) (sym c.line_end-end.ensures.same)
     (first_lacks old c.requires.progress c.requires.going_on c.requires.nothing i.line c.lone_reply.ensures.lone.0 i.size c.lone_reply.ensures.lone.1 e)
 
-pub returns-in-Ok-Some-Item-default : goal.returns-in-Ok-Some-Item-default
-returns-in-Ok-Some-Item-default c =
+pub returns-in-Some : goal.returns-in-Some
+returns-in-Some c =
+    let old = c.args.self.now in
+    let i = c.in-Some in
+    let reply = Items c.one.result in
+    let read = i.ensures.reply ∙ ap (λ l. Gives (Items l) i.length) (sym c.one.ensures) in
+    let e = subst (λ s. reply_reading s ≡ Gives reply i.length) (c.as_slice-bytes.ensures ∙ ap (λ s. s.unread) c.line_end-end.ensures.same) read in
+    first_gives old c.requires.progress c.requires.going_on c.requires.nothing (record { stream = c.give.new.self; said = old.said; items = old.items }) reply i.length e
+    (c.give.ensures ∙ ap (with_given i.length) c.line_end-end.ensures.same) refl refl
+
+pub returns-in_default : goal.returns-in_default
+returns-in_default c =
     let old = c.args.self.now in
     let i = c.in-Ok-Some-Item-default in
     let said : SaidItem = record { key = i.key.now; flags = i.flags; block_length = i.block_length } in
@@ -49,8 +60,8 @@ returns-in-Ok c =
     let h = (rw i.field-0-is at i.ensures) in
     let read = lone_is_read c.as_slice.result.now i.line i.size h.0 c.in-Ok.reply c.in-Ok.ensures.reply in
     let e = subst (λ s. reply_reading s ≡ Gives c.in-Ok.reply i.size) (c.as_slice.ensures ∙ ap (λ s. s.unread) c.line_end-end.ensures.same) read in
-    first_gives old c.requires.progress c.requires.going_on c.requires.nothing (record { stream = c.give.new.self; said = old.said; items = old.items }) c.in-Ok.reply i.size e
-    (c.give.ensures ∙ ap (with_given i.size) c.line_end-end.ensures.same) refl refl
+    first_gives old c.requires.progress c.requires.going_on c.requires.nothing (record { stream = c.give-in-Ok-Some.new.self; said = old.said; items = old.items }) c.in-Ok.reply i.size e
+    (c.give-in-Ok-Some.ensures ∙ ap (with_given i.size) c.line_end-end.ensures.same) refl refl
 
 pub returns-in-Err : goal.returns-in-Err
 returns-in-Err c =

@@ -1,6 +1,6 @@
 use Rattle.std.proofs.Common.{◌≡◌, take}
-use Rattle.mr_text.proofs.item_list.ItemList.copy.Given as goal
+use Rattle.mr_text.proofs.item_list.copied.Given as goal
 
 -- the items so far are copied
 abbrev pub invariant-loop-item : goal.invariant-loop-item
-invariant-loop-item l = l.items.items ≡ take l.item-index l.item-items
+invariant-loop-item l = l.copies.items ≡ take l.item-index l.item-items

@@ -6,7 +6,7 @@ use Rattle.mr_pools.specs.Routing.{RoutingView}
 use Rattle.mr_proxy.specs.Issue.{next_op, used_reading}
 use Rattle.mr_loop.specs.steps.Clearing.{full_of_keys}
 use Rattle.mr_loop.proofs.ClearLemmas.{get_same}
-use Rattle.mr_loop.proofs.clearing.first_full.Goals as goal
+use Rattle.mr_loop.proofs.clearing.full_of_request.Goals as goal
 
 pub returns-in-Get : goal.returns-in-Get
 returns-in-Get c =
