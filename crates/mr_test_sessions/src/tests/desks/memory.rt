@@ -110,12 +110,20 @@ fn refused_memory_issues_later_without_a_book(rt: HostRuntime) {
     is_answered(&rt, rt.alloc(), &desk);
 }
 
-/// The one leg of a get of `k`.
-fn one_leg(rt: &(impl Wait + Abort), alloc: Global) -> Leg {
+/// The one leg of a get of a key.
+fn leg_of(rt: &(impl Wait + Abort), alloc: Global, key: &'static [u8]) -> Leg {
     let desk = desk_of(rt, alloc, 9);
-    let get = get_of(rt, alloc, &[b"k"]);
+    let get = get_of(rt, alloc, &[key]);
     first_leg(rt, must(rt, issue(rt, &desk, &mut desk.share(), &get)).legs)
 }
+
+/// The one leg of a get of `k`.
+fn one_leg(rt: &(impl Wait + Abort), alloc: Global) -> Leg {
+    leg_of(rt, alloc, b"k")
+}
+
+/// A key whose copies take memory.
+static LONG: &[u8] = b"a-key-of-more-than-forty-bytes-takes-memory";
 
 /// A cache that holds `k` with the flags 7 and the data `v`.
 fn holder(rt: &impl Abort, alloc: Global) -> SharedNode {
@@ -176,7 +184,7 @@ fn refused_memory_hands_a_leg_back(rt: HostRuntime) {
 
 #[test]
 fn refused_memory_copies_what_was_carried_later(rt: HostRuntime) {
-    let carried = Carried::of(&mut Broken::new(), one_leg(&rt, rt.alloc()));
+    let carried = Carried::of(&mut Broken::new(), leg_of(&rt, rt.alloc(), LONG));
     let mut copy = must(&rt, at_last!(&rt, carried.copy(), Err(AllocError)));
     let desk = desk_of(&rt, rt.alloc(), 9);
     let taken = must(&rt, desk.take(&rt, &mut copy));
