@@ -1,3 +1,3 @@
--- Lemmas on what loops tell, and on what their threads are handed.
+-- Lemmas on what loops tell, and on machines that cross threads.
 mod ReportLemmas
-mod SendLemmas
+pub mod SendLemmas

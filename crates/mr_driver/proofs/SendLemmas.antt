@@ -1,6 +1,7 @@
--- What a loop's thread is handed may cross threads. Its parts are found one by one, since a search that goes down through all of
--- them takes too long.
-use denote.Param.Send.{IsSend, IsSync, sendable}
+-- Machines may cross threads. Their parts are found one by one, since a search that goes down through all of them takes too long.
+use denote.RattleType.{RattleType}
+use denote.Param.Send.{IsSend, sendable, recorded_send, struct_send, view_send}
+use denote.Struct.Declared.{shape}
 use Rattle.std.proofs.Crossing.{crosses}
 use Rattle.mr_text.specs.contracts.item.Item as item
 use Rattle.mr_text.proofs.item.Item.TheSendSync as of_item
@@ -41,15 +42,16 @@ use Rattle.mr_loop.specs.contracts.inbox.Inbox as inbox
 use Rattle.mr_loop.specs.contracts.link.Link as link
 use Rattle.mr_loop.specs.contracts.front.Front as front
 use Rattle.mr_loop.specs.contracts.proxy_loop.ProxyLoop as proxy_loop
-use Rattle.mr_counting.specs.contracts.watched_clock.ClockWatch as watch
-use Rattle.mr_counting.proofs.watched_clock.ClockWatch.TheSendSync as of_watch
-use Rattle.mr_driver.specs.contracts.engine.Timing as timing
-use Rattle.mr_driver.proofs.engine.Timing.TheSendSync as of_timing
-use Rattle.mr_driver.specs.contracts.doors.Side as side
-use Rattle.mr_driver.proofs.doors.Side.TheSendSync as of_side
-use Rattle.mr_driver.specs.contracts.links.Links as links
-use Rattle.mr_driver.proofs.links.Links.TheSendSync as of_links
-use Rattle.mr_driver.specs.contracts.turns.Planned as planned
+use Rattle.mr_text.specs.contracts.writing.gathering.FixedBuffer as buffer
+use Rattle.mr_text.proofs.writing.gathering.FixedBuffer.TheSendSync as of_buffer
+use Rattle.mr_text.proofs.reply.Reply.TheSendSync as of_reply
+use Rattle.mr_text.specs.contracts.reply.Reply as reply
+use Rattle.mr_loop.proofs.node.counts.ServedCounts.TheSendSync as of_served
+use Rattle.mr_loop.specs.contracts.node.counts.ServedCounts as served
+use Rattle.mr_loop.specs.declared.node.cache.Cache as cache
+use Rattle.mr_loop.specs.contracts.node.client.NodeClient as node_client
+use Rattle.mr_loop.specs.contracts.node.node_loop.NodeLoop as node_loop
+use Rattle.mr_loop.specs.contracts.node.node_loop.NodeLoop.TheInside as inside
 
 -- what the crates below show of their own types, and this one of its
 item_send : IsSend item.the_row
@@ -133,23 +135,38 @@ front_send : IsSend front.the_field.row
 front_send = search (core_send, client_send, loop_counts_send, crosses, sendable) depth 20
 
 -- a machine
-loop_send : IsSend proxy_loop.the_field.row
+pub loop_send : IsSend proxy_loop.the_row
 loop_send = search (front_send, inbox_send, link_send, client_counts_send, limits_send, scratch_send, crosses, sendable) depth 20
 
-side_send : IsSend side.the_field.row
-side_send = of_side.the_field_send
+-- a client of a node
+reply_send : IsSend reply.the_field.row
+reply_send = of_reply.the_field_send
 
-links_send : IsSend links.the_field.row
-links_send = of_links.the_field_send
+buffer_send : IsSend buffer.the_row
+buffer_send = of_buffer.the_send
 
--- a loop that isn't started yet
-pub planned_send : IsSend planned.the_row
-planned_send = search (loop_send, side_send, links_send, crosses, sendable) depth 20
+served_send : IsSend served.the_field.row
+served_send = of_served.the_field_send
 
--- how long is waited
-pub timing_send : IsSend timing.the_row
-timing_send = of_timing.the_send
+own_inbox_send : IsSend inbox.the_field.row
+own_inbox_send = search (request_reader_send, input_send, crosses, sendable) depth 20
 
--- who watches the clock of phases
-pub watch_sync : IsSync watch.the_row
-watch_sync = of_watch.the_sync
+node_client_send : IsSend node_client.the_row
+node_client_send = search (own_inbox_send, out_buffer_send, reply_send, crosses, sendable) depth 20
+
+-- the machine of a node, whose cache may cross threads
+module _ (C : RattleType) (c : cache.Ghosts C.Denot) (may_c : IsSend C) where
+  inside_send : IsSend (inside.the_row C c)
+  inside_send = recorded_send (inside.the_field C c).row _ _ (inside.the_type C c).to_one (struct_send (shape (inside.the_type C c)) (
+    search (crosses, sendable) depth 20,
+    (
+      search (may_c, crosses, sendable) depth 20,
+      (
+        search (node_client_send, crosses, sendable) depth 20,
+        (search (crosses, sendable) depth 20, (search (served_send, crosses, sendable) depth 20, (search (buffer_send, crosses, sendable) depth 20, tt))),
+      ),
+    ),
+  ))
+
+  pub node_send : IsSend (node_loop.the_row C c)
+  node_send = view_send _ _ _ _ _ inside_send

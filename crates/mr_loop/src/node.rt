@@ -3,12 +3,14 @@
 
 mod cache;
 mod client;
+mod counting_cache;
 mod counts;
 mod node_loop;
 mod serving;
 
 pub use cache::Cache;
 pub use client::NodeClient;
+pub use counting_cache::CountingCache;
 pub use counts::ServedCounts;
 pub use node_loop::NodeLoop;
 pub use serving::NodePause;
