@@ -4,9 +4,8 @@ ghost use Rattle.mr_node.specs.Expiry.{expiry_of, is_alive};
 ghost use Rattle.mr_loop.specs.node.Counting.{evicts, is_stored};
 
 use crate::node::cache::Cache;
-use crate::node::outcome::answer_on;
 use mr_counting::one_more;
-use mr_node::{CacheNode, MAX_RELATIVE_EXPTIME};
+use mr_node::{CacheNode, MAX_RELATIVE_EXPTIME, answer_on};
 use mr_text::{Reply, Request};
 use std::alloc::Global;
 use std::marker::Model;
