@@ -1,10 +1,11 @@
--- What a proxy on loops is told to be, and why its loops couldn't be opened.
-use Rattle.std.specs.Prelude.{◌≡◌, ⊤, List, [], ◌∷◌, length, Option, Some, None}
+-- What a proxy on loops is told to be, and what is noted of a service on loops, or why its loops couldn't be opened.
+use Rattle.std.specs.Prelude.{◌≡◌, ⊤, ℕ, List, [], ◌∷◌, ◌++◌, length, Option, Some, None, Result, Ok, Err}
 use Rattle.std.specs.declared.io.ErrorKind.{ErrorKind}
 use Rattle.std.specs.declared.io.ErrorKind.TheVariants as kind
 use Rattle.mr_loop.specs.LoopView.{LoopView}
+use Rattle.mr_servers.specs.Drives.{Drive}
 use Rattle.mr_servers.specs.Reports.{room_of}
-use Rattle.mr_servers.specs.declared.driving.Known.{Known}
+use Rattle.mr_servers.specs.declared.driven_proxy.Known.{Known}
 use Rattle.mr_servers.specs.declared.fault.OpenFault.{OpenFault}
 use Rattle.mr_servers.specs.declared.fault.OpenFault.TheVariants.{Net, OutOfMemory}
 
@@ -26,3 +27,8 @@ IsKnownOf (first ∷ others) (Some known) = IsKnown first (first ∷ others) kno
 abbrev pub fault_of : ErrorKind → OpenFault
 fault_of kind.OutOfMemory = OutOfMemory
 fault_of _ = Net
+
+-- a service on loops that ran is noted behind those before it, and one whose loops couldn't be opened isn't
+abbrev pub drives_noted : Drive → Result ℕ OpenFault → List Drive → List Drive
+drives_noted drive (Ok served) drives = drives ++ drive ∷ []
+drives_noted drive (Err fault) drives = drives
