@@ -1,4 +1,4 @@
-"""Proxies on loops that run for one case, and the nodes before which they run."""
+"""Proxies and nodes on loops that run for one case, and the nodes before which proxies run."""
 import functools
 import os
 import pathlib
@@ -79,11 +79,17 @@ class StoreNode(FakeNode):
 
 
 class Told:
-    """What the loops of a proxy tell of themselves: their counts, and those of the links to each node."""
+    """What the loops of a proxy or a node tell of themselves: their counts; those of a proxy's links to each node; and what a node's
+    loops did for clients, and its cache holds."""
 
     def __init__(self, lines):
-        self.counts = pairs_of(lines[-1].split()[1:])
+        def pairs_in(head):
+            return [pairs_of(line.split()[len(head.split()) :]) for line in lines if line.startswith(head)]
+
+        self.counts = pairs_in("told ")[0]
         self.nodes = [pairs_of(line.split()[2:]) for line in lines if line.startswith("node ")]
+        self.done = next(iter(pairs_in("done ")), None)
+        self.cache = next(iter(pairs_in("cache ")), None)
 
 
 def pairs_of(words):
@@ -91,20 +97,18 @@ def pairs_of(words):
     return dict(zip(words[::2], map(int, words[1::2])))
 
 
-class Proxy:
-    """A proxy on loops that runs. What isn't said has no bound, but for open files, of which it may have 64; and no migration begins.
-    Some words may stand before those of the program."""
+class Service:
+    """A proxy or a node on loops that runs, with so many open files. Some words may stand before those of the program."""
 
-    def __init__(self, old, new=("127.0.0.1:1",), loops=1, clients=0, most_clients=0, room=4096, start=YEAR_2100, interval=60,
-                 leg_millis=0, client_seconds=0, most_legs=4096, most_unread=1 << 20, files=64, asks=False, before=()):
+    def __init__(self, kind, words, files, asks, before):
+        self.kind = kind
         self.place = place_at("127.0.0.1")
         self.address = self.place.address()
-        words = [loops, clients, most_clients, room, start, interval, leg_millis, client_seconds, most_legs, most_unread]
         self.output = pathlib.Path(HOME, f"output-{self.place.port}")
         self.faults = pathlib.Path(HOME, f"faults-{self.place.port}")
         with open(self.output, "wb") as output, open(self.faults, "wb") as faults:
             self.child = CHILDREN.start(
-                [*before, program(), self.address, *map(str, words), ",".join(old), ",".join(new)],
+                [*before, program(), kind, self.address, *map(str, words)],
                 stdin=subprocess.PIPE if asks else subprocess.DEVNULL, stdout=output, stderr=faults,
                 preexec_fn=lambda: resource.setrlimit(resource.RLIMIT_NOFILE, (files, files)),
             )
@@ -117,14 +121,14 @@ class Proxy:
         while not is_listened_at(self.address):
             if self.child.poll() is not None or time.monotonic() > until:
                 self.close()
-                raise Wrong("the start of a proxy", "something that listens", self.faults.read_bytes())
+                raise Wrong(f"the start of a {self.kind}", "something that listens", self.faults.read_bytes())
             time.sleep(0.005)
         return self
 
     def __exit__(self, kind, error, trace):
         faults = self.close()
         if kind is None:
-            check("what a proxy writes on standard error", b"", faults)
+            check(f"what a {self.kind} writes on standard error", b"", faults)
 
     def close(self):
         """Ends it, and gives what it wrote on standard error."""
@@ -163,8 +167,8 @@ class Proxy:
         try:
             status = self.child.wait(PATIENCE)
         except subprocess.TimeoutExpired:
-            raise Wrong("the end of a proxy", "an end by itself", "it runs") from None
-        check("what a proxy says in the end", (0, b"served %d\n" % count), (status, self.output.read_bytes()))
+            raise Wrong(f"the end of a {self.kind}", "an end by itself", "it runs") from None
+        check(f"what a {self.kind} says in the end", (0, b"served %d\n" % count), (status, self.output.read_bytes()))
 
     def answer(self, number):
         """The lines of the answer to the question of this number, from 0. None where it isn't whole yet."""
@@ -215,7 +219,7 @@ class Proxy:
         until = time.monotonic() + PATIENCE
         while not all(state == "T" for state in self.states()):
             if time.monotonic() > until:
-                raise Wrong("the states of a proxy that is stopped", "T", self.states())
+                raise Wrong(f"the states of a {self.kind} that is stopped", "T", self.states())
             time.sleep(0.005)
 
     def go_on(self):
@@ -241,6 +245,24 @@ class Proxy:
         with open(f"/proc/{self.child.pid}/stat", encoding="ascii") as text:
             words = text.read().rsplit(")", 1)[1].split()
         return (int(words[11]) + int(words[12])) / os.sysconf("SC_CLK_TCK")
+
+
+class Proxy(Service):
+    """A proxy on loops. What isn't said has no bound, but for open files; and no migration begins."""
+
+    def __init__(self, old, new=("127.0.0.1:1",), loops=1, clients=0, most_clients=0, room=4096, start=YEAR_2100, interval=60,
+                 leg_millis=0, client_seconds=0, most_legs=4096, most_unread=1 << 20, files=64, asks=False, before=()):
+        words = [loops, clients, most_clients, room, start, interval, leg_millis, client_seconds, most_legs, most_unread]
+        super().__init__("proxy", [*words, ",".join(old), ",".join(new)], files, asks, before)
+
+
+class Node(Service):
+    """A node on loops, which share one cache. What isn't said has no bound, but for open files and unread bytes."""
+
+    def __init__(self, loops=1, clients=0, most_clients=0, capacity=1 << 20, client_seconds=0, most_unread=1 << 20, files=64, asks=False,
+                 before=()):
+        words = [loops, clients, most_clients, capacity, client_seconds, most_unread]
+        super().__init__("node", words, files, asks, before)
 
 
 class Memcached:

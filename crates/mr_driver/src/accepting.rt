@@ -25,9 +25,9 @@ pub fn listen_at<R: Net>(rt: &R, address: SocketAddrV4) -> io::Result<TcpListene
 }
 
 /// Hands a client to the loop that has the fewest. It is closed where that isn't possible, as where memory is refused.
-fn hand_over<R: Wait>(
+fn hand_over<R: Wait, T: Drop>(
     rt: &R,
-    doors: &Doors,
+    doors: &Doors<T>,
     loads: &mut Vec<u64>,
     stream: TcpStream,
 ) -> Result<(), AllocError> {
@@ -43,8 +43,8 @@ fn hand_over<R: Wait>(
 }
 
 /// Whether one more client may be accepted. It is heard where clients begin to wait.
-fn may_come<E: Hears>(
-    doors: &Doors,
+fn may_come<E: Hears, T: Drop>(
+    doors: &Doors<T>,
     loads: &mut Vec<u64>,
     most: u64,
     ears: &E,
@@ -72,10 +72,10 @@ fn pause_after<R: Clock, E: Hears>(rt: &R, error: &io::Error, ears: &E) {
 
 /// Accepts one client, if one more may come; else it is looked again a moment later. Whether one was accepted, who counts also where
 /// memory to hand it over is refused.
-fn accept_one<R: Wait + Clock, E: Hears>(
+fn accept_one<R: Wait + Clock, E: Hears, T: Drop>(
     rt: &R,
     listener: &TcpListener,
-    doors: &Doors,
+    doors: &Doors<T>,
     loads: &mut Vec<u64>,
     most: u64,
     ears: &E,
@@ -99,11 +99,11 @@ fn accept_one<R: Wait + Clock, E: Hears>(
 }
 
 /// Accepts as many clients as the bounds say, and hands each to the loop that has the fewest then.
-pub(crate) fn accept_all<R: Wait + Clock, E: Hears>(
+pub(crate) fn accept_all<R: Wait + Clock, E: Hears, T: Drop>(
     rt: &R,
     alloc: Global,
     listener: &TcpListener,
-    doors: &Doors,
+    doors: &Doors<T>,
     bounds: DriverBounds,
     ears: &E,
 ) {

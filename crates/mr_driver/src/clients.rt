@@ -9,12 +9,12 @@ use crate::engine::Engine;
 use crate::flow::Signs;
 use crate::hearing::{Hears, LoopEvent, want_of};
 use crate::links::number_of;
+use crate::machine::Machine;
 use crate::seat::Seat;
 use crate::tickets::Ticket;
 use crate::tokens::client_token;
 use mio::net::TcpStream;
 use mio::{Interest, Token};
-use mr_loop::ProxyLoop;
 use slab::Slab;
 use std::alloc::{AllocError, Global};
 use std::collections::VecDeque;
@@ -94,7 +94,7 @@ impl Clients {
     }
 
     /// A client is there no more. What it asked is told to nobody.
-    fn drop_client(&mut self, machine: &mut ProxyLoop, place: usize) {
+    fn drop_client<M: Machine>(&mut self, machine: &mut M, place: usize) {
         if self.seats.try_remove(place).is_some() {
             self.tally.remove();
             if place < machine.places() {
@@ -104,7 +104,7 @@ impl Clients {
     }
 
     /// A place and a seat for one more client, and room for it in each list, but for those of links, which take memory as they grow.
-    fn make_seat(&mut self, machine: &mut ProxyLoop) -> Result<usize, AllocError> {
+    fn make_seat<M: Machine>(&mut self, machine: &mut M) -> Result<usize, AllocError> {
         self.sift_all();
         let most = self.seats.len().saturating_add(1);
         self.seats.reserve(1)?;
@@ -120,14 +120,14 @@ impl Clients {
     }
 
     /// One more client, by its seat.
-    fn seat<R: Net + Clock, E: Hears>(
+    fn seat<R: Net + Clock, E: Hears, M: Machine>(
         &mut self,
-        engine: &mut Engine<'_, R, E>,
+        engine: &mut Engine<'_, R, E, M>,
         socket: net::TcpStream,
     ) -> io::Result<()> {
         let place = self.make_seat(&mut engine.machine)?;
         let mut stream = TcpStream::from_std(socket);
-        let token = Token(client_token(engine.machine.links(), place));
+        let token = Token(client_token(self.queued.len(), place));
         let both = Interest::READABLE | Interest::WRITABLE;
         engine.poll.registry().register(&mut stream, token, both)?;
         let _ = self.seats.insert(Seat::new(stream, engine.now));
@@ -138,9 +138,9 @@ impl Clients {
     }
 
     /// One more client, whose socket never waits. It is closed where there is no memory for it.
-    pub(crate) fn admit<R: Net + Clock, E: Hears>(
+    pub(crate) fn admit<R: Net + Clock, E: Hears, M: Machine>(
         &mut self,
-        engine: &mut Engine<'_, R, E>,
+        engine: &mut Engine<'_, R, E, M>,
         socket: net::TcpStream,
     ) {
         if let Err(error) = self.seat(engine, socket) {
@@ -170,7 +170,7 @@ impl Clients {
     }
 
     /// A client who was silent for too long is there no more, unless it is others who keep it waiting.
-    fn sweep<R: Net + Clock, E: Hears>(&mut self, engine: &mut Engine<'_, R, E>, place: usize) {
+    fn sweep<R: Net + Clock, E: Hears, M: Machine>(&mut self, engine: &mut Engine<'_, R, E, M>, place: usize) {
         if place >= engine.machine.places() {
             return;
         }
@@ -183,7 +183,7 @@ impl Clients {
     }
 
     /// Those who were silent for too long are there no more.
-    pub(crate) fn sweep_all<R: Net + Clock, E: Hears>(&mut self, engine: &mut Engine<'_, R, E>) {
+    pub(crate) fn sweep_all<R: Net + Clock, E: Hears, M: Machine>(&mut self, engine: &mut Engine<'_, R, E, M>) {
         if engine.timing.is_idle_bounded() {
             for place in 0..engine.machine.places() {
                 self.sweep(engine, place);

@@ -1,7 +1,6 @@
 //! What loops are told by other threads, and asked.
 
 use crate::loads::load_of;
-use crate::reports::LoopReport;
 use crate::tokens::mail_token;
 use crossbeam_channel::{Receiver, SendError, Sender, unbounded};
 use mio::{Poll, Token, Waker};
@@ -17,11 +16,11 @@ const ANSWER_MILLIS: u64 = 1_000;
 
 /// What a loop is told.
 #[derive(Drop)]
-pub(crate) enum Mail {
+pub(crate) enum Mail<T> {
     /// One more client, whose socket never waits.
     Client(TcpStream),
     /// It is to tell of itself there. A place there is kept for the answer, so that nobody waits for who asked.
-    Tell(Sender<LoopReport>),
+    Tell(Sender<T>),
 }
 
 /// What a loop and its door tell each other by what both see at any time.
@@ -89,22 +88,22 @@ impl Tally {
 
 /// A loop's end.
 #[derive(Drop)]
-pub(crate) struct Side {
+pub(crate) struct Side<T> {
     pub(crate) poll: Poll,
-    pub(crate) mail: Receiver<Mail>,
+    pub(crate) mail: Receiver<Mail<T>>,
     pub(crate) tally: Arc<Tally, Global>,
 }
 
 /// The other end.
 #[derive(Drop)]
-pub(crate) struct Door {
-    mail: Sender<Mail>,
+pub(crate) struct Door<T> {
+    mail: Sender<Mail<T>>,
     waker: Waker,
     tally: Arc<Tally, Global>,
 }
 
 /// The two ends of what a loop is told.
-pub(crate) fn open_door<R: Net>(rt: &R, alloc: Global) -> io::Result<(Side, Door)> {
+pub(crate) fn open_door<R: Net, T: Drop>(rt: &R, alloc: Global) -> io::Result<(Side<T>, Door<T>)> {
     let poll = Poll::new(rt)?;
     let waker = Waker::new(poll.registry(), Token(mail_token()))?;
     let (to, from) = unbounded(alloc)?;
@@ -122,9 +121,9 @@ pub(crate) fn open_door<R: Net>(rt: &R, alloc: Global) -> io::Result<(Side, Door
     Ok((side, door))
 }
 
-impl Door {
+impl<T: Drop> Door<T> {
     /// Puts something into the loop's mail, and wakes it: what is there already is taken with the next wake, if this one fails.
-    fn tell<R: Wait>(&self, rt: &R, mail: Mail) -> Result<(), SendError<Mail>> {
+    fn tell<R: Wait>(&self, rt: &R, mail: Mail<T>) -> Result<(), SendError<Mail<T>>> {
         let sent = self.mail.send(rt, mail);
         let _ = self.waker.wake();
         sent
@@ -148,7 +147,7 @@ impl Door {
     }
 
     /// Asks the loop to tell of itself. The answer comes at what is given back; none comes of one that has ended.
-    fn ask<R: Wait>(&self, rt: &R, alloc: Global) -> Result<Receiver<LoopReport>, AllocError> {
+    fn ask<R: Wait>(&self, rt: &R, alloc: Global) -> Result<Receiver<T>, AllocError> {
         let (to, from) = unbounded(alloc)?;
         let _ = self.tell(rt, Mail::Tell(to));
         Ok(from)
@@ -161,16 +160,16 @@ impl Door {
     }
 }
 
-/// By which loops are told of clients, and asked. Threads may share it.
+/// By which loops are told of clients, and asked what they tell of themselves. Threads may share it.
 #[derive(Drop)]
-pub struct Doors {
-    doors: Vec<Door>,
+pub struct Doors<T> {
+    doors: Vec<Door<T>>,
     full: AtomicBool,
 }
 
-impl Doors {
+impl<T: Drop> Doors<T> {
     /// The doors of these loops.
-    pub(crate) fn new(doors: Vec<Door>) -> Doors {
+    pub(crate) fn new(doors: Vec<Door<T>>) -> Doors<T> {
         Doors {
             doors,
             full: AtomicBool::new(false),
@@ -182,7 +181,7 @@ impl Doors {
         &self,
         rt: &R,
         alloc: Global,
-    ) -> Result<Vec<LoopReport>, AllocError> {
+    ) -> Result<Vec<T>, AllocError> {
         let mut answers = Vec::with_capacity(alloc, self.doors.len())?;
         for door in &self.doors {
             answers.push(door.ask(rt, alloc)?)?;

@@ -3,8 +3,6 @@
 use crate::clocks::Clocks;
 use crate::hearing::{Hears, LoopEvent};
 use mio::Poll;
-use mr_loop::ProxyLoop;
-use mr_proxy::ProxyError;
 use std::net::Net;
 use std::time::Clock;
 
@@ -25,7 +23,7 @@ impl Timing {
 }
 
 /// A loop's machine, and what it is driven with: where sockets are registered, the time, and who hears of what happens.
-pub(crate) struct Engine<'a, R: Net + Clock, E: Hears> {
+pub struct Engine<'a, R: Net + Clock, E: Hears, M: Drop> {
     pub(crate) rt: &'a R,
     pub(crate) ears: &'a E,
     pub(crate) poll: Poll,
@@ -33,10 +31,10 @@ pub(crate) struct Engine<'a, R: Net + Clock, E: Hears> {
     pub(crate) timing: Timing,
     /// The time of this turn, in microseconds.
     pub(crate) now: u64,
-    pub(crate) machine: ProxyLoop,
+    pub(crate) machine: M,
 }
 
-impl<'a, R: Net + Clock, E: Hears> Drop for Engine<'a, R, E> {
+impl<'a, R: Net + Clock, E: Hears, M: Drop> Drop for Engine<'a, R, E, M> {
     fn drop(self) {
         let Self {
             rt: _,
@@ -50,7 +48,7 @@ impl<'a, R: Net + Clock, E: Hears> Drop for Engine<'a, R, E> {
     }
 }
 
-impl<'a, R: Net + Clock, E: Hears> Engine<'a, R, E> {
+impl<'a, R: Net + Clock, E: Hears, M: Drop> Engine<'a, R, E, M> {
     /// This happened just now.
     pub(crate) fn hear(&self, event: LoopEvent) {
         self.ears.hear(event);
@@ -75,13 +73,5 @@ impl<'a, R: Net + Clock, E: Hears> Engine<'a, R, E> {
             self.hear(LoopEvent::ClockWentBack);
         }
         reading
-    }
-
-    /// Whether there is room for one more request.
-    pub(crate) fn has_room(&self) -> bool {
-        match self.machine.core().refusal() {
-            Some(ProxyError::NoRoom) => false,
-            _ => true,
-        }
     }
 }

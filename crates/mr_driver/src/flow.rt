@@ -9,7 +9,7 @@ use mio::event::Event;
 
 /// What an event says of a socket.
 #[derive(Clone, Copy, Debug, PartialEq, Eq)]
-pub(crate) struct Signs {
+pub struct Signs {
     /// It may be read.
     pub(crate) sends: bool,
     /// It takes bytes.

@@ -1,6 +1,6 @@
-//! Proxies over sockets, a loop each: what a `ProxyLoop` decides is read, written, dialled and timed here, and nothing is decided.
-//! Each loop has a thread, a poll, its clients and one link to each node of its own; one thread more accepts, and hands each socket
-//! to the loop with the fewest clients. Any thread may ask the loops what they did.
+//! Machines over sockets, a loop each: what a `ProxyLoop` or a `NodeLoop` decides is read, written, dialled and timed here, and nothing
+//! is decided. Each loop has a thread, a poll and its clients, and that of a proxy one link to each node of its own; one thread more
+//! accepts, and hands each socket to the loop with the fewest clients. Any thread may ask the loops what they did.
 #![tactic(auto)]
 
 mod accepting;
@@ -11,12 +11,15 @@ mod engine;
 mod flow;
 mod hearing;
 mod link;
+mod link_side;
 mod links;
 mod loads;
+mod machine;
 mod reading;
 mod reports;
 mod seat;
 mod serving;
+mod shared_cache;
 mod stages;
 mod tickets;
 mod times;
@@ -29,6 +32,8 @@ pub use accepting::listen_at;
 pub use doors::Doors;
 pub use hearing::{Deaf, Hears, LinkTrouble, LoopEvent};
 pub use loads::least_loaded;
+pub use machine::Machine;
 pub use reports::{LinkReport, LoopReport};
-pub use serving::{DriverBounds, Loops, open_loops, serve};
+pub use serving::{DriverBounds, Loops, open_loops, open_node_loops, serve};
+pub use shared_cache::{CacheDesk, CacheLook, SharedCache};
 pub use times::{bound_of, next_pause, tick_of};

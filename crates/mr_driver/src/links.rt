@@ -1,10 +1,11 @@
-//! The links of a loop.
+//! The links of a proxy's loop.
 ghost use Rattle.std.specs.Prelude.{◌≡◌, ◌+◌, ◌<◌, ◌≤◌, length};
 
 use crate::engine::Engine;
 use crate::flow::Signs;
 use crate::hearing::{Hears, LinkTrouble, LoopEvent, trouble_of, want_of};
 use crate::link::Link;
+use crate::link_side::LinkSide;
 use crate::reading::{Got, read_once};
 use crate::tokens::link_token;
 use crate::writing::{Put, write_once};
@@ -16,9 +17,9 @@ use std::io;
 use std::net::Net;
 use std::time::Clock;
 
-/// The links of a loop, by the numbers of their nodes in its machine.
+/// The links of a proxy's loop, by the numbers of their nodes in its machine.
 #[derive(Drop)]
-pub(crate) struct Links {
+pub struct Links {
     links: Vec<Link>,
     /// Which are to be read.
     ready: VecDeque<usize>,
@@ -47,16 +48,6 @@ impl Links {
             freed,
             is_timed: true,
         })
-    }
-
-    /// Whether one of them is to be read.
-    pub(crate) fn are_busy(&self) -> bool {
-        !self.ready.is_empty()
-    }
-
-    /// Whether time does something to one of them.
-    pub(crate) fn are_timed(&self) -> bool {
-        self.is_timed
     }
 
     /// Dials the node of a link.
@@ -99,19 +90,10 @@ impl Links {
         }
     }
 
-    /// A link that may have places for legs again, each once. None where there is none.
-    pub(crate) fn next_freed(&mut self) -> Option<usize> {
-        let number = self.freed.pop_front()?;
-        if let Some(link) = self.links.get_mut(number) {
-            link.is_freed = false;
-        }
-        Some(number)
-    }
-
     /// There is no connection to a node, for this reason. It is heard once, until there is one.
     fn tell_down<R: Net + Clock, E: Hears>(
         &mut self,
-        engine: &Engine<'_, R, E>,
+        engine: &Engine<'_, R, E, ProxyLoop>,
         number: usize,
         trouble: LinkTrouble,
     ) {
@@ -126,7 +108,7 @@ impl Links {
     /// The link to a node has ended, which the machine knows.
     fn end<R: Net + Clock, E: Hears>(
         &mut self,
-        engine: &Engine<'_, R, E>,
+        engine: &Engine<'_, R, E, ProxyLoop>,
         number: usize,
         trouble: LinkTrouble,
     ) {
@@ -140,7 +122,7 @@ impl Links {
     /// The link to a node has broken.
     fn break_off<R: Net + Clock, E: Hears>(
         &mut self,
-        engine: &mut Engine<'_, R, E>,
+        engine: &mut Engine<'_, R, E, ProxyLoop>,
         number: usize,
         trouble: LinkTrouble,
     ) {
@@ -153,7 +135,7 @@ impl Links {
     /// What became of a node that was dialled.
     fn answer_dial<R: Net + Clock, E: Hears>(
         &mut self,
-        engine: &mut Engine<'_, R, E>,
+        engine: &mut Engine<'_, R, E, ProxyLoop>,
         number: usize,
     ) {
         let Some(link) = self.links.get_mut(number) else {
@@ -182,27 +164,10 @@ impl Links {
         }
     }
 
-    /// Something happened to the socket of a link.
-    pub(crate) fn note<R: Net + Clock, E: Hears>(
-        &mut self,
-        engine: &mut Engine<'_, R, E>,
-        number: usize,
-        signs: Signs,
-    ) {
-        let Some(link) = self.links.get_mut(number) else {
-            return;
-        };
-        link.flow.note(signs);
-        if link.progress.is_dialed() {
-            self.answer_dial(engine, number);
-        }
-        self.make_ready(number);
-    }
-
     /// Reads a share of what a node sent.
     fn read<R: Net + Clock, E: Hears>(
         &mut self,
-        engine: &mut Engine<'_, R, E>,
+        engine: &mut Engine<'_, R, E, ProxyLoop>,
         number: usize,
         input: &mut [u8],
     ) {
@@ -229,7 +194,7 @@ impl Links {
     /// Bytes of a node came. Where there may be more, it is read again.
     fn take<R: Net + Clock, E: Hears>(
         &mut self,
-        engine: &mut Engine<'_, R, E>,
+        engine: &mut Engine<'_, R, E, ProxyLoop>,
         number: usize,
         bytes: &[u8],
     ) {
@@ -243,21 +208,8 @@ impl Links {
         self.make_ready(number);
     }
 
-    /// Reads a share of each link to which something came.
-    pub(crate) fn read_all<R: Net + Clock, E: Hears>(
-        &mut self,
-        engine: &mut Engine<'_, R, E>,
-        input: &mut [u8],
-    ) {
-        for _ in 0..self.ready.len() {
-            if let Some(number) = self.ready.pop_front() {
-                self.read(engine, number, input);
-            }
-        }
-    }
-
     /// Writes to a node what is there for it.
-    fn write<R: Net + Clock, E: Hears>(&mut self, engine: &mut Engine<'_, R, E>, number: usize) {
+    fn write<R: Net + Clock, E: Hears>(&mut self, engine: &mut Engine<'_, R, E, ProxyLoop>, number: usize) {
         let Some(link) = self.links.get_mut(number) else {
             return;
         };
@@ -275,15 +227,8 @@ impl Links {
         }
     }
 
-    /// Writes to each node what is there for it.
-    pub(crate) fn write_all<R: Net + Clock, E: Hears>(&mut self, engine: &mut Engine<'_, R, E>) {
-        for number in 0..self.links.len() {
-            self.write(engine, number);
-        }
-    }
-
     /// Dials a node, where its pause is over.
-    fn redial<R: Net + Clock, E: Hears>(&mut self, engine: &mut Engine<'_, R, E>, number: usize) {
+    fn redial<R: Net + Clock, E: Hears>(&mut self, engine: &mut Engine<'_, R, E, ProxyLoop>, number: usize) {
         let is_due = match self.links.get(number) {
             Some(link) => link.is_due(engine.now),
             None => false,
@@ -307,7 +252,7 @@ impl Links {
     }
 
     /// What the time does to a link. Whoever waits for it is looked at as well.
-    fn tick<R: Net + Clock, E: Hears>(&mut self, engine: &mut Engine<'_, R, E>, number: usize) {
+    fn tick<R: Net + Clock, E: Hears>(&mut self, engine: &mut Engine<'_, R, E, ProxyLoop>, number: usize) {
         let Some(link) = self.links.get(number) else {
             return;
         };
@@ -326,12 +271,69 @@ impl Links {
             self.is_timed = true;
         }
     }
+}
 
-    /// What the time does to the links.
-    pub(crate) fn tick_all<R: Net + Clock, E: Hears>(&mut self, engine: &mut Engine<'_, R, E>) {
+impl LinkSide<ProxyLoop> for Links {
+    fn count(&self) -> usize {
+        self.links.len()
+    }
+
+    fn are_busy(&self) -> bool {
+        !self.ready.is_empty()
+    }
+
+    fn are_timed(&self, machine: &ProxyLoop) -> bool {
+        self.is_timed || machine.core().outstanding() > 0
+    }
+
+    fn next_freed(&mut self) -> Option<usize> {
+        let number = self.freed.pop_front()?;
+        if let Some(link) = self.links.get_mut(number) {
+            link.is_freed = false;
+        }
+        Some(number)
+    }
+
+    fn note<R: Net + Clock, E: Hears>(
+        &mut self,
+        engine: &mut Engine<'_, R, E, ProxyLoop>,
+        number: usize,
+        signs: Signs,
+    ) {
+        let Some(link) = self.links.get_mut(number) else {
+            return;
+        };
+        link.flow.note(signs);
+        if link.progress.is_dialed() {
+            self.answer_dial(engine, number);
+        }
+        self.make_ready(number);
+    }
+
+    fn read_all<R: Net + Clock, E: Hears>(
+        &mut self,
+        engine: &mut Engine<'_, R, E, ProxyLoop>,
+        input: &mut [u8],
+    ) {
+        for _ in 0..self.ready.len() {
+            if let Some(number) = self.ready.pop_front() {
+                self.read(engine, number, input);
+            }
+        }
+    }
+
+    fn tick_all<R: Net + Clock, E: Hears>(&mut self, engine: &mut Engine<'_, R, E, ProxyLoop>) {
+        let now = engine.now;
+        engine.machine.on_tick(now);
         self.is_timed = false;
         for number in 0..self.links.len() {
             self.tick(engine, number);
+        }
+    }
+
+    fn write_all<R: Net + Clock, E: Hears>(&mut self, engine: &mut Engine<'_, R, E, ProxyLoop>) {
+        for number in 0..self.links.len() {
+            self.write(engine, number);
         }
     }
 }

@@ -7,11 +7,14 @@ use crate::doors::{Door, Doors, open_door};
 use crate::engine::Timing;
 use crate::hearing::{Hears, LoopEvent};
 use crate::link::Link;
+use crate::link_side::NoLinks;
 use crate::links::Links;
+use crate::machine::Machine;
+use crate::reports::LoopReport;
 use crate::times::bound_of;
 use crate::turns::{Planned, run_loop};
 use mr_counting::ClockWatch;
-use mr_loop::ProxyLoop;
+use mr_loop::{Cache, NodeLoop, ProxyLoop, ServedCounts};
 use std::alloc::{AllocError, Global};
 use std::net::{Net, SocketAddrV4, TcpListener, TcpStream};
 use std::sync::Wait;
@@ -43,10 +46,10 @@ fn timing_of(bounds: DriverBounds) -> Timing
     }
 }
 
-/// Loops that aren't started yet, whose nodes are dialled.
+/// Loops of such machines that aren't started yet.
 #[derive(Drop)]
-pub struct Loops {
-    planned: Vec<Planned>,
+pub struct Loops<M: Machine> {
+    planned: Vec<Planned<M>>,
 }
 
 /// A link to each of these nodes, which is down, in the order of the machine's own.
@@ -58,13 +61,13 @@ fn links_of(alloc: Global, nodes: &[Option<SocketAddrV4>]) -> Result<Links, Allo
     Links::new(alloc, links)
 }
 
-/// Dials the nodes of a machine.
+/// The loop of a proxy's machine, whose nodes are dialled.
 fn plan<R: Net>(
     rt: &R,
     alloc: Global,
     mut machine: ProxyLoop,
     nodes: &[Option<SocketAddrV4>],
-) -> io::Result<(Planned, Door)> {
+) -> io::Result<(Planned<ProxyLoop>, Door<LoopReport>)> {
     let (side, door) = open_door(rt, alloc)?;
     let mut links = links_of(alloc, nodes)?;
     links.dial_all(rt, side.poll.registry(), &mut machine);
@@ -76,7 +79,7 @@ fn plan<R: Net>(
     Ok((planned, door))
 }
 
-/// A loop for each machine, whose nodes are dialled: so there are descriptors for its links before clients have them. The nodes are
+/// A loop for each machine of a proxy, whose nodes are dialled: so there are descriptors for its links before clients have them. The nodes are
 /// those of each machine's links, in their order, by their addresses; one without an address is never dialled. The error is of the
 /// kind `OutOfMemory` where memory was refused.
 pub fn open_loops<R: Net>(
@@ -84,12 +87,32 @@ pub fn open_loops<R: Net>(
     alloc: Global,
     machines: Vec<ProxyLoop>,
     nodes: &[Option<SocketAddrV4>],
-) -> io::Result<(Loops, Doors)> {
+) -> io::Result<(Loops<ProxyLoop>, Doors<LoopReport>)> {
     let mut planned = Vec::with_capacity(alloc, machines.len())?;
     let mut doors = Vec::with_capacity(alloc, machines.len())?;
     for machine in machines {
         let (side, door) = plan(rt, alloc, machine, nodes)?;
         planned.push(side)?;
+        doors.push(door)?;
+    }
+    Ok((Loops { planned }, Doors::new(doors)))
+}
+
+/// A loop for each machine of a node. The error is of the kind `OutOfMemory` where memory was refused.
+pub fn open_node_loops<R: Net, C: Cache + Drop>(
+    rt: &R,
+    alloc: Global,
+    machines: Vec<NodeLoop<C>>,
+) -> io::Result<(Loops<NodeLoop<C>>, Doors<ServedCounts>)> {
+    let mut planned = Vec::with_capacity(alloc, machines.len())?;
+    let mut doors = Vec::with_capacity(alloc, machines.len())?;
+    for machine in machines {
+        let (side, door) = open_door(rt, alloc)?;
+        planned.push(Planned {
+            side,
+            links: NoLinks,
+            machine,
+        })?;
         doors.push(door)?;
     }
     Ok((Loops { planned }, Doors::new(doors)))
@@ -101,11 +124,12 @@ fn start_loops<
     'e,
     R: Net<Listener = TcpListener, Stream = TcpStream> + Threads + Wait + Clock + Sync,
     E: Hears + Sync,
+    M: Machine + Send + 's,
 >(
     rt: &'s R,
     scope: &'s Scope<'s, &'e ()>,
     alloc: Global,
-    loops: Loops,
+    loops: Loops<M>,
     timing: Timing,
     watch: &'s ClockWatch,
     ears: &'s E,
@@ -132,12 +156,13 @@ fn start_loops<
 pub fn serve<
     R: Net<Listener = TcpListener, Stream = TcpStream> + Threads + Wait + Clock + Sync,
     E: Hears + Sync,
+    M: Machine + Send,
 >(
     rt: &R,
     alloc: Global,
     listener: &TcpListener,
-    loops: Loops,
-    doors: &Doors,
+    loops: Loops<M>,
+    doors: &Doors<M::Report>,
     bounds: DriverBounds,
     watch: &ClockWatch,
     ears: &E,

@@ -7,8 +7,8 @@ use crate::doors::{Mail, Side};
 use crate::engine::{Engine, Timing};
 use crate::flow::signs_of;
 use crate::hearing::{Hears, LoopEvent};
-use crate::links::Links;
-use crate::reports::{LoopReport, report_of};
+use crate::link_side::LinkSide;
+use crate::machine::Machine;
 use crate::times::{next_at, tick_of};
 use crate::tokens::{Origin, origin_of};
 use crate::waits::{Waits, late_turns_after};
@@ -16,7 +16,6 @@ use crossbeam_channel::{Receiver, Sender};
 use mio::Events;
 use mio::event::Event;
 use mr_counting::ClockWatch;
-use mr_loop::ProxyLoop;
 use std::alloc::{AllocError, Global};
 use std::io;
 use std::net::Net;
@@ -32,28 +31,28 @@ const SHARE: usize = 65_536;
 /// How often it is looked whether a client was silent for too long, in microseconds.
 const SWEEP: u64 = 1_000_000;
 
-/// A loop that isn't started yet, whose nodes are dialled.
+/// A loop that isn't started yet.
 #[derive(Drop)]
-pub(crate) struct Planned {
-    pub(crate) side: Side,
-    pub(crate) links: Links,
-    pub(crate) machine: ProxyLoop,
+pub(crate) struct Planned<M: Machine> {
+    pub(crate) side: Side<M::Report>,
+    pub(crate) links: M::Links,
+    pub(crate) machine: M,
 }
 
 /// A loop that runs.
-struct EventLoop<'a, R: Net + Clock, E: Hears> {
+struct EventLoop<'a, R: Net + Clock, E: Hears, M: Machine> {
     alloc: Global,
-    engine: Engine<'a, R, E>,
-    links: Links,
+    engine: Engine<'a, R, E, M>,
+    links: M::Links,
     clients: Clients,
-    mail: Receiver<Mail>,
+    mail: Receiver<Mail<M::Report>>,
     next_tick: u64,
     next_sweep: u64,
     /// For how many turns the loop has been late, so that the time doesn't count; 0 where it isn't.
     late_turns: u64,
 }
 
-impl<'a, R: Net + Clock, E: Hears> Drop for EventLoop<'a, R, E> {
+impl<'a, R: Net + Clock, E: Hears, M: Machine> Drop for EventLoop<'a, R, E, M> {
     fn drop(self) {
         let Self {
             alloc: _,
@@ -68,14 +67,12 @@ impl<'a, R: Net + Clock, E: Hears> Drop for EventLoop<'a, R, E> {
     }
 }
 
-impl<'a, R: Net + Clock, E: Hears> EventLoop<'a, R, E> {
+impl<'a, R: Net + Clock, E: Hears, M: Machine> EventLoop<'a, R, E, M> {
     /// What the loop waits for, beside events.
     fn waits(&self) -> Waits {
         Waits {
             is_busy: self.clients.are_busy() || self.links.are_busy(),
-            is_timed: self.links.are_timed()
-                || self.clients.are_timed()
-                || self.engine.machine.core().outstanding() > 0,
+            is_timed: self.links.are_timed(&self.engine.machine) || self.clients.are_timed(),
             is_bounded: self.engine.timing.is_idle_bounded() && !self.clients.is_empty(),
             begin: self.engine.now,
             next_tick: self.next_tick,
@@ -90,7 +87,6 @@ impl<'a, R: Net + Clock, E: Hears> EventLoop<'a, R, E> {
             return;
         }
         self.next_tick = next_at(now, tick_of(self.engine.timing.leg_bound));
-        self.engine.machine.on_tick(now);
         self.links.tick_all(&mut self.engine);
         self.clients.call_starved();
     }
@@ -105,11 +101,11 @@ impl<'a, R: Net + Clock, E: Hears> EventLoop<'a, R, E> {
     }
 
     /// Tells of itself. Who asked may be gone.
-    fn answer(&self, asker: Sender<LoopReport>)
+    fn answer(&self, asker: Sender<M::Report>)
     where
         R: Wait,
     {
-        match report_of(self.alloc, &self.engine.machine) {
+        match self.engine.machine.report(self.alloc) {
             Ok(report) => {
                 let _ = asker.send(self.engine.rt, report);
             }
@@ -136,7 +132,7 @@ impl<'a, R: Net + Clock, E: Hears> EventLoop<'a, R, E> {
     where
         R: Wait,
     {
-        match origin_of(self.engine.machine.links(), event.token().0) {
+        match origin_of(self.links.count(), event.token().0) {
             Origin::Mail => self.take_mail(),
             Origin::Link(number) => self.links.note(&mut self.engine, number, signs_of(event)),
             Origin::Client(place) => self.clients.note(place, signs_of(event)),
@@ -196,10 +192,10 @@ impl<'a, R: Net + Clock, E: Hears> EventLoop<'a, R, E> {
 }
 
 /// Serves the clients that a loop is told of, until all have ended and no more come. One for which there is no memory serves nobody.
-pub(crate) fn run_loop<R: Net + Wait + Clock, E: Hears>(
+pub(crate) fn run_loop<R: Net + Wait + Clock, E: Hears, M: Machine>(
     rt: &R,
     alloc: Global,
-    planned: Planned,
+    planned: Planned<M>,
     timing: Timing,
     watch: &ClockWatch,
     ears: &E,
@@ -210,7 +206,7 @@ pub(crate) fn run_loop<R: Net + Wait + Clock, E: Hears>(
         machine,
     } = planned;
     let Side { poll, mail, tally } = side;
-    let clients = Clients::new(alloc, machine.links(), tally)?;
+    let clients = Clients::new(alloc, links.count(), tally)?;
     let mut events = Events::with_capacity(alloc, EVENTS)?;
     let mut input = vec![in alloc; 0u8; SHARE]?;
     let mut running = EventLoop {

@@ -3,6 +3,7 @@
 
 mod cache;
 mod client;
+mod counting_cache;
 mod counts;
 mod node_loop;
 mod outcome;
@@ -10,6 +11,7 @@ mod serving;
 
 pub use cache::Cache;
 pub use client::NodeClient;
+pub use counting_cache::CountingCache;
 pub use counts::ServedCounts;
 pub use node_loop::NodeLoop;
 pub use outcome::answer_on;

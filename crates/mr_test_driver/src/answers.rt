@@ -1,36 +1,12 @@
-//! What the program says of its loops to who asks by a line.
+//! What the program says of the loops of a proxy to who asks by a line.
 
-use crossbeam_channel::{Receiver, Sender};
-use mr_driver::{Doors, Hears, LinkReport, LoopEvent, LoopReport};
+use crate::notes::say_heard;
+use crossbeam_channel::Receiver;
+use mr_driver::{Doors, LinkReport, LoopEvent, LoopReport};
 use std::alloc::Global;
 use std::io;
 use std::sync::Wait;
 use std::time::Clock;
-
-/// Keeps what is heard until somebody asks.
-pub(crate) struct Notes<R: Wait + Drop> {
-    rt: R,
-    to: Sender<LoopEvent>,
-}
-
-impl<R: Wait + Drop> Drop for Notes<R> {
-    fn drop(self) {
-        let Self { rt: _, to: _ } = self;
-    }
-}
-
-impl<R: Wait + Drop> Notes<R> {
-    /// What is heard goes there.
-    pub(crate) fn new(rt: R, to: Sender<LoopEvent>) -> Notes<R> {
-        Notes { rt, to }
-    }
-}
-
-impl<R: Wait + Drop> Hears for Notes<R> {
-    fn hear(&self, event: LoopEvent) {
-        let _ = self.to.send(&self.rt, event);
-    }
-}
 
 /// What all loops tell of the link to one node.
 #[derive(Clone, Copy)]
@@ -87,22 +63,11 @@ fn say_node<R: Print>(rt: &R, reports: &[LoopReport], node: usize) -> io::Result
     Ok(is_there)
 }
 
-/// Says what was heard since the last question.
-fn say_heard<R: Wait + Print>(rt: &R, heard: &Receiver<LoopEvent>) -> io::Result<()> {
-    for _ in 0..u64::MAX {
-        match heard.try_recv(rt) {
-            Ok(event) => println!(rt; "heard {event:?}")?,
-            Err(_) => break,
-        }
-    }
-    Ok(())
-}
-
 /// Says what was heard since the last question, and what the loops tell of themselves, which ends with a line of its own.
 fn answer<R: Wait + Clock + Print>(
     rt: &R,
     alloc: Global,
-    doors: &Doors,
+    doors: &Doors<LoopReport>,
     heard: &Receiver<LoopEvent>,
 ) -> io::Result<()> {
     say_heard(rt, heard)?;
@@ -133,7 +98,7 @@ fn answer<R: Wait + Clock + Print>(
 pub(crate) fn answer_all<R: Wait + Clock + Input + Print>(
     rt: &R,
     alloc: Global,
-    doors: &Doors,
+    doors: &Doors<LoopReport>,
     heard: &Receiver<LoopEvent>,
 ) {
     for line in rt.lines(alloc) {

@@ -1,5 +1,7 @@
 //! What the program was asked to do.
 
+use mr_driver::DriverBounds;
+use mr_node::NodeError;
 use mr_phases::ScheduleError;
 use mr_pools::PoolError;
 use std::alloc::{AllocError, AllocFailed};
@@ -51,6 +53,15 @@ impl From<ScheduleError> for Misuse {
     }
 }
 
+impl From<NodeError> for Misuse {
+    fn from(error: NodeError) -> Misuse {
+        match error {
+            NodeError::OutOfMemory => Misuse::OutOfMemory,
+            _ => Misuse::Words,
+        }
+    }
+}
+
 impl From<io::Error> for Misuse {
     fn from(error: io::Error) -> Misuse {
         drop(error);
@@ -58,9 +69,58 @@ impl From<io::Error> for Misuse {
     }
 }
 
-/// What the program was asked to do, in the order of its words.
+/// The number that a word is.
+fn number_of(word: &String) -> Result<u64, Misuse> {
+    match word.as_str().parse::<u64>() {
+        Ok(number) => Ok(number),
+        Err(_) => Err(Misuse::Words),
+    }
+}
+
+/// The number of loops that a word is, of which there are 64 at most.
+fn loops_of(word: &String) -> Result<u32, Misuse> {
+    Ok(number_of(word)?.min(64) as u32)
+}
+
+/// A number of clients, of which 0 is any.
+fn unbounded_at_0(clients: u64) -> u64 {
+    if clients == 0 { u64::MAX } else { clients }
+}
+
+/// What the program was asked to serve.
 #[derive(Clone, Copy, Debug)]
-pub(crate) struct Asked<'a> {
+pub(crate) enum Asked<'a> {
+    /// A proxy.
+    Proxy(AskedProxy<'a>),
+    /// A node.
+    Node(AskedNode<'a>),
+}
+
+impl<'a> Asked<'a> {
+    /// What these words ask, of which the first is the program's name, and the second is what it serves.
+    pub(crate) fn of(words: &'a [String]) -> Result<Asked<'a>, Misuse> {
+        let [_, kind, words @ ..] = words else {
+            return Err(Misuse::Words);
+        };
+        match kind.as_str() {
+            "proxy" => Ok(Asked::Proxy(AskedProxy::of(words)?)),
+            "node" => Ok(Asked::Node(AskedNode::of(words)?)),
+            _ => Err(Misuse::Words),
+        }
+    }
+
+    /// The address where clients come.
+    pub(crate) fn listen(&self) -> &'a str {
+        match self {
+            Asked::Proxy(asked) => asked.listen,
+            Asked::Node(asked) => asked.listen,
+        }
+    }
+}
+
+/// What is asked of a proxy, in the order of the words.
+#[derive(Clone, Copy, Debug)]
+pub(crate) struct AskedProxy<'a> {
     pub(crate) listen: &'a str,
     pub(crate) loops: u32,
     pub(crate) clients: u64,
@@ -76,24 +136,10 @@ pub(crate) struct Asked<'a> {
     pub(crate) new: &'a str,
 }
 
-/// The number that a word is.
-fn number_of(word: &String) -> Result<u64, Misuse> {
-    match word.as_str().parse::<u64>() {
-        Ok(number) => Ok(number),
-        Err(_) => Err(Misuse::Words),
-    }
-}
-
-/// A number of clients, of which 0 is any.
-fn unbounded_at_0(clients: u64) -> u64 {
-    if clients == 0 { u64::MAX } else { clients }
-}
-
-impl<'a> Asked<'a> {
-    /// What these words ask, of which the first is the program's name.
-    pub(crate) fn of(words: &'a [String]) -> Result<Asked<'a>, Misuse> {
+impl<'a> AskedProxy<'a> {
+    /// What these words ask.
+    fn of(words: &'a [String]) -> Result<AskedProxy<'a>, Misuse> {
         let [
-            _,
             listen,
             loops,
             clients,
@@ -111,9 +157,9 @@ impl<'a> Asked<'a> {
         else {
             return Err(Misuse::Words);
         };
-        Ok(Asked {
+        Ok(AskedProxy {
             listen: listen.as_str(),
-            loops: number_of(loops)?.min(64) as u32,
+            loops: loops_of(loops)?,
             clients: unbounded_at_0(number_of(clients)?),
             most_clients: unbounded_at_0(number_of(most_clients)?),
             room: number_of(room)?,
@@ -126,5 +172,64 @@ impl<'a> Asked<'a> {
             old: old.as_str(),
             new: new.as_str(),
         })
+    }
+
+    /// How many clients are served, and how long is waited.
+    pub(crate) fn bounds(&self) -> DriverBounds {
+        DriverBounds {
+            clients: self.clients,
+            most_clients: self.most_clients,
+            client_seconds: self.client_seconds,
+            leg_millis: self.leg_millis,
+        }
+    }
+}
+
+/// What is asked of a node, in the order of the words.
+#[derive(Clone, Copy, Debug)]
+pub(crate) struct AskedNode<'a> {
+    pub(crate) listen: &'a str,
+    pub(crate) loops: u32,
+    pub(crate) clients: u64,
+    pub(crate) most_clients: u64,
+    pub(crate) capacity: u64,
+    pub(crate) client_seconds: u64,
+    pub(crate) most_unread: u64,
+}
+
+impl<'a> AskedNode<'a> {
+    /// What these words ask.
+    fn of(words: &'a [String]) -> Result<AskedNode<'a>, Misuse> {
+        let [
+            listen,
+            loops,
+            clients,
+            most_clients,
+            capacity,
+            client_seconds,
+            most_unread,
+        ] = words
+        else {
+            return Err(Misuse::Words);
+        };
+        Ok(AskedNode {
+            listen: listen.as_str(),
+            loops: loops_of(loops)?,
+            clients: unbounded_at_0(number_of(clients)?),
+            most_clients: unbounded_at_0(number_of(most_clients)?),
+            capacity: number_of(capacity)?,
+            client_seconds: number_of(client_seconds)?,
+            most_unread: number_of(most_unread)?,
+        })
+    }
+
+    /// How many clients are served, and how long is waited.
+    pub(crate) fn bounds(&self) -> DriverBounds {
+        DriverBounds {
+            clients: self.clients,
+            most_clients: self.most_clients,
+            client_seconds: self.client_seconds,
+            leg_millis: 0,
+        }
     }
 }

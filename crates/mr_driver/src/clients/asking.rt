@@ -4,6 +4,7 @@ ghost use Rattle.std.specs.Prelude.{◌≡◌, ◌+◌, ◌<◌, ◌≤◌, leng
 use super::Clients;
 use crate::engine::Engine;
 use crate::hearing::{Hears, LoopEvent};
+use crate::machine::Machine;
 use crate::reading::{Got, read_once};
 use crate::seat::{Standing, standing_after};
 use mr_loop::Pause;
@@ -31,9 +32,9 @@ impl Clients {
 
     /// How a client stands that asked. `held_before` requests had been held back until then: so it is known whether the one that is
     /// held back now was tried in vain.
-    fn stand<R: Net + Clock, E: Hears>(
+    fn stand<R: Net + Clock, E: Hears, M: Machine>(
         &mut self,
-        engine: &mut Engine<'_, R, E>,
+        engine: &mut Engine<'_, R, E, M>,
         place: usize,
         pause: Pause,
         held_before: u64,
@@ -47,7 +48,7 @@ impl Clients {
         if let Pause::NeedsMemory = pause {
             engine.hear(LoopEvent::NoMemory);
         }
-        let is_same = engine.machine.client_counts().held_back == held_before;
+        let is_same = engine.machine.held_back() == held_before;
         if standing.is_held() && !standing.keeps_place(was, is_same) {
             self.hold(engine, place, standing);
         }
@@ -56,13 +57,13 @@ impl Clients {
 
     /// Bytes of a client, or none where it goes on with what it sent before. One for whom there is no reading of the clock or no
     /// memory is there no more.
-    pub(super) fn ask<R: Net + Clock, E: Hears>(
+    pub(super) fn ask<R: Net + Clock, E: Hears, M: Machine>(
         &mut self,
-        engine: &mut Engine<'_, R, E>,
+        engine: &mut Engine<'_, R, E, M>,
         place: usize,
         bytes: &[u8],
     ) {
-        let held_before = engine.machine.client_counts().held_back;
+        let held_before = engine.machine.held_back();
         let reading = engine.reading();
         match reading {
             Some(reading) if place < engine.machine.places() => {
@@ -82,8 +83,8 @@ impl Clients {
     }
 
     /// A client sends no more.
-    fn end_input<R: Net + Clock, E: Hears>(&mut self, engine: &mut Engine<'_, R, E>, place: usize) {
-        let held_before = engine.machine.client_counts().held_back;
+    fn end_input<R: Net + Clock, E: Hears, M: Machine>(&mut self, engine: &mut Engine<'_, R, E, M>, place: usize) {
+        let held_before = engine.machine.held_back();
         let reading = engine.reading();
         match reading {
             Some(reading) if place < engine.machine.places() => {
@@ -95,9 +96,9 @@ impl Clients {
     }
 
     /// Reads a share of what a client sent.
-    fn read<R: Net + Clock, E: Hears>(
+    fn read<R: Net + Clock, E: Hears, M: Machine>(
         &mut self,
-        engine: &mut Engine<'_, R, E>,
+        engine: &mut Engine<'_, R, E, M>,
         place: usize,
         input: &mut [u8],
     ) {
@@ -118,9 +119,9 @@ impl Clients {
     }
 
     /// Bytes of a client came. Where there may be more, it has another turn.
-    fn take<R: Net + Clock, E: Hears>(
+    fn take<R: Net + Clock, E: Hears, M: Machine>(
         &mut self,
-        engine: &mut Engine<'_, R, E>,
+        engine: &mut Engine<'_, R, E, M>,
         place: usize,
         bytes: &[u8],
     ) {
@@ -134,9 +135,9 @@ impl Clients {
     }
 
     /// A client's turn: it goes on with what it sent before, and then it is read.
-    fn serve<R: Net + Clock, E: Hears>(
+    fn serve<R: Net + Clock, E: Hears, M: Machine>(
         &mut self,
-        engine: &mut Engine<'_, R, E>,
+        engine: &mut Engine<'_, R, E, M>,
         place: usize,
         input: &mut [u8],
     ) {
@@ -152,9 +153,9 @@ impl Clients {
     }
 
     /// Each client whose turn it is has it.
-    pub(crate) fn serve_all<R: Net + Clock, E: Hears>(
+    pub(crate) fn serve_all<R: Net + Clock, E: Hears, M: Machine>(
         &mut self,
-        engine: &mut Engine<'_, R, E>,
+        engine: &mut Engine<'_, R, E, M>,
         input: &mut [u8],
     ) {
         for _ in 0..self.ready.len() {

@@ -3,7 +3,8 @@
 use super::Clients;
 use crate::engine::Engine;
 use crate::hearing::{Hears, LoopEvent};
-use crate::links::Links;
+use crate::link_side::LinkSide;
+use crate::machine::Machine;
 use crate::seat::{Seat, Standing};
 use crate::tickets::{Ticket, is_cluttered};
 use slab::Slab;
@@ -75,9 +76,9 @@ impl Clients {
     }
 
     /// A client is held back, behind those who are. One for whom there is no place among them is there no more.
-    pub(super) fn hold<R: Net + Clock, E: Hears>(
+    pub(super) fn hold<R: Net + Clock, E: Hears, M: Machine>(
         &mut self,
-        engine: &mut Engine<'_, R, E>,
+        engine: &mut Engine<'_, R, E, M>,
         place: usize,
         standing: Standing,
     ) {
@@ -153,9 +154,9 @@ impl Clients {
     }
 
     /// A client who was held back goes on, and so may the next one who waits for the same link, unless that has no place.
-    fn try_held<R: Net + Clock, E: Hears>(
+    fn try_held<R: Net + Clock, E: Hears, M: Machine>(
         &mut self,
-        engine: &mut Engine<'_, R, E>,
+        engine: &mut Engine<'_, R, E, M>,
         place: usize,
         was: Standing,
     ) {
@@ -172,9 +173,9 @@ impl Clients {
     }
 
     /// Those who are held back go on, the first one first, as long as there is room.
-    fn try_all_held<R: Net + Clock, E: Hears>(&mut self, engine: &mut Engine<'_, R, E>) {
+    fn try_all_held<R: Net + Clock, E: Hears, M: Machine>(&mut self, engine: &mut Engine<'_, R, E, M>) {
         for _ in 0..MOST_TRIED {
-            if !engine.has_room() {
+            if !engine.machine.has_room() {
                 return;
             }
             let Some(ticket) = self.held.pop_front() else {
@@ -195,10 +196,10 @@ impl Clients {
 
     /// Those who are held back go on as far as they can: who waits for room, and the first ones who wait for links that may have places
     /// again.
-    pub(crate) fn go_on<R: Net + Clock, E: Hears>(
+    pub(crate) fn go_on<R: Net + Clock, E: Hears, M: Machine>(
         &mut self,
-        engine: &mut Engine<'_, R, E>,
-        links: &mut Links,
+        engine: &mut Engine<'_, R, E, M>,
+        links: &mut M::Links,
     ) {
         if !self.are_held {
             return;

@@ -4,9 +4,9 @@ ghost use Rattle.std.specs.Prelude.{◌≡◌, ◌+◌, ◌<◌, ◌≤◌, leng
 use super::Clients;
 use crate::engine::Engine;
 use crate::hearing::{Hears, LoopEvent};
+use crate::machine::Machine;
 use crate::seat::Standing;
 use crate::writing::{Put, write_once};
-use mr_loop::ProxyLoop;
 use std::net::Net;
 use std::time::Clock;
 
@@ -21,7 +21,7 @@ impl Clients {
     }
 
     /// Finds out for whom there are answers.
-    fn find_told(&mut self, machine: &mut ProxyLoop) {
+    fn find_told<M: Machine>(&mut self, machine: &mut M) {
         for _ in 0..u64::MAX {
             let Some(place) = machine.next_touched() else {
                 return;
@@ -34,7 +34,7 @@ impl Clients {
     }
 
     /// Writes to a client what is there for it. Gives how many bytes it took, or None where it is broken.
-    fn write(&mut self, machine: &mut ProxyLoop, place: usize) -> Option<usize> {
+    fn write<M: Machine>(&mut self, machine: &mut M, place: usize) -> Option<usize> {
         let seat = self.seats.get_mut(place)?;
         if place >= machine.places() || seat.flow.is_blocked {
             return Some(0);
@@ -49,7 +49,7 @@ impl Clients {
     }
 
     /// A client that isn't read any more leaves in order, once all is written to it.
-    fn leave(&mut self, machine: &mut ProxyLoop, place: usize) {
+    fn leave<M: Machine>(&mut self, machine: &mut M, place: usize) {
         if place < machine.places() && machine.is_finished(place) {
             self.tally.add_served();
             self.drop_client(machine, place);
@@ -57,9 +57,9 @@ impl Clients {
     }
 
     /// A client took so many bytes.
-    fn go_after<R: Net + Clock, E: Hears>(
+    fn go_after<R: Net + Clock, E: Hears, M: Machine>(
         &mut self,
-        engine: &mut Engine<'_, R, E>,
+        engine: &mut Engine<'_, R, E, M>,
         place: usize,
         count: usize,
     ) {
@@ -78,7 +78,7 @@ impl Clients {
     }
 
     /// A client that is owed answers was kept waiting by others until now: its own silence begins anew.
-    fn excuse(&mut self, machine: &ProxyLoop, place: usize, now: u64) {
+    fn excuse<M: Machine>(&mut self, machine: &M, place: usize, now: u64) {
         if place < machine.places()
             && machine.is_waiting(place)
             && let Some(seat) = self.seats.get_mut(place)
@@ -88,7 +88,7 @@ impl Clients {
     }
 
     /// Tells a client what is there for it.
-    fn tell<R: Net + Clock, E: Hears>(&mut self, engine: &mut Engine<'_, R, E>, place: usize) {
+    fn tell<R: Net + Clock, E: Hears, M: Machine>(&mut self, engine: &mut Engine<'_, R, E, M>, place: usize) {
         let Some(seat) = self.seats.get_mut(place) else {
             return;
         };
@@ -105,7 +105,7 @@ impl Clients {
     }
 
     /// Tells the clients what is there for them.
-    pub(crate) fn tell_all<R: Net + Clock, E: Hears>(&mut self, engine: &mut Engine<'_, R, E>) {
+    pub(crate) fn tell_all<R: Net + Clock, E: Hears, M: Machine>(&mut self, engine: &mut Engine<'_, R, E, M>) {
         self.find_told(&mut engine.machine);
         for _ in 0..self.told.len() {
             if let Some(place) = self.told.pop_front() {

@@ -1,5 +1,5 @@
 -- A node's loop as contracts see it, and what each thing that happens does to it.
-use Rattle.std.specs.Prelude.{◌≡◌, ℕ, Bool, true, ◌&&◌, List, [], ◌∷◌, ◌++◌, drop, Option, Some, None, is_none, slice_get, slice_set}
+use Rattle.std.specs.Prelude.{◌≡◌, ℕ, Bool, true, false, ◌&&◌, List, [], ◌∷◌, ◌++◌, drop, Option, Some, None, is_none, is_some, slice_get, slice_set}
 use Rattle.mr_counting.specs.Counting.{one_more}
 use Rattle.mr_loop.specs.declared.inbox.Inbox.{Inbox}
 use Rattle.mr_loop.specs.declared.node.client.NodeClient.{NodeClient}
@@ -89,3 +89,12 @@ is_finished client = client.inbox.is_done && (is_nothing client.out && is_none c
 abbrev pub is_finished_in : Option NodeClient → Bool
 is_finished_in None = true
 is_finished_in (Some client) = is_finished client
+
+-- the client took all that it was told, and waits for what there was no memory to tell it
+abbrev pub is_waiting : NodeClient → Bool
+is_waiting client = is_nothing client.out && is_some client.due
+
+-- so it is with the client of a place
+abbrev pub is_waiting_in : Option NodeClient → Bool
+is_waiting_in None = false
+is_waiting_in (Some client) = is_waiting client

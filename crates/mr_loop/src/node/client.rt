@@ -2,7 +2,7 @@
 ghost use Rattle.std.specs.Prelude.{◌≡◌, ◌++◌, None, IsSome, OnOk, OnErr};
 ghost use Rattle.mr_text.specs.Canonical.{canonical_reply};
 ghost use Rattle.mr_loop.specs.node.Serving.{to_tell};
-ghost use Rattle.mr_loop.specs.node.NodeView.{fresh_node_client, is_finished};
+ghost use Rattle.mr_loop.specs.node.NodeView.{fresh_node_client, is_finished, is_waiting};
 
 use crate::inbox::Inbox;
 use crate::out_buffer::OutBuffer;
@@ -37,6 +37,13 @@ impl NodeClient {
         ensures { result ≡ is_finished self.now }
     {
         self.inbox.is_done && self.out.len() == 0 && self.due.is_none()
+    }
+
+    /// Whether it took all that it was told, and waits for what there was no memory to tell it.
+    pub(crate) fn is_waiting(&self) -> bool
+        ensures { result ≡ is_waiting self.now }
+    {
+        self.out.len() == 0 && self.due.is_some()
     }
 
     /// Tells it this behind the rest. Where there is no memory for its text, it is due.

@@ -23,6 +23,8 @@ pub(super) enum Step {
     Told(usize, &'static [u8]),
     /// Whether a client may be closed.
     IsFinished(usize, bool),
+    /// Whether a client took all that it was told, and is owed more.
+    IsWaiting(usize, bool),
 }
 
 /// A cache with the readings at which it was asked, one for each call.
@@ -124,6 +126,13 @@ fn is_finished<C: Cache>(rt: &impl Abort, node: &NodeLoop<C>, client: usize) -> 
     node.is_finished(client)
 }
 
+fn is_waiting<C: Cache>(rt: &impl Abort, node: &NodeLoop<C>, client: usize) -> bool {
+    if client >= node.places() {
+        rt.panic("no such place");
+    }
+    node.is_waiting(client)
+}
+
 /// Lets one thing happen, or looks at it. The reading from then on.
 fn take<C: Cache>(
     rt: &impl Abort,
@@ -142,6 +151,7 @@ fn take<C: Cache>(
         Step::Ends(client, pause) => is(rt, row, ends(rt, node, client, reading), pause),
         Step::Told(client, text) => is_told(rt, row, node, client, text),
         Step::IsFinished(client, is_so) => holds(rt, row, is_finished(rt, node, client), is_so),
+        Step::IsWaiting(client, is_so) => holds(rt, row, is_waiting(rt, node, client), is_so),
     }
     reading
 }

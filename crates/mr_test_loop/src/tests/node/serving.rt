@@ -122,7 +122,7 @@ fn clients_share_the_cache_and_nothing_else(rt: HostRuntime) {
 }
 
 /// While more than the bound of its answers is unread, no further request of a client is served; the others are.
-static UNREAD: [Step; 11] = [
+static UNREAD: [Step; 13] = [
     Sends(
         0,
         b"get a\r\nget a\r\nget a\r\ndelete a\r\n",
@@ -131,7 +131,9 @@ static UNREAD: [Step; 11] = [
     Sends(1, b"set a 0 0 1\r\nx\r\n", NodePause::NeedsReader),
     Reads(101),
     Sends(0, b"", NodePause::NeedsReader),
+    IsWaiting(0, false),
     Told(0, b"END\r\nEND\r\n"),
+    IsWaiting(0, false),
     Sends(0, b"", NodePause::NeedsReader),
     Told(0, b"VALUE a 0 1\r\nx\r\nEND\r\n"),
     Sends(0, b"qu", NodePause::NeedsReader),
