@@ -80,9 +80,7 @@ fn open_all<'a, R: Net + Wait>(
 }
 
 /// Serves so many clients by so many loops over a cache, as `drive_node` does.
-fn serve_cache<
-    R: Net<Listener = TcpListener, Stream = TcpStream> + Threads + Wait + Clock + Sync,
->(
+fn serve_cache<R: Net<Listener = TcpListener, Stream = TcpStream> + Threads + Wait + Clock + Sync>(
     rt: &R,
     alloc: Global,
     site: Site<'_>,

@@ -96,9 +96,7 @@ fn identity_of<'a>(
 }
 
 /// Serves clients by these loops of a proxy of which this is known.
-fn serve_known<
-    R: Net<Listener = TcpListener, Stream = TcpStream> + Threads + Wait + Clock + Sync,
->(
+fn serve_known<R: Net<Listener = TcpListener, Stream = TcpStream> + Threads + Wait + Clock + Sync>(
     rt: &R,
     alloc: Global,
     site: Site<'_>,

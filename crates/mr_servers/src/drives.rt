@@ -17,12 +17,7 @@ pub(crate) enum Drives {
     /// One more, of a proxy: its loops as they were at first, and its bounds.
     Proxy(Snapshot<Drives>, Snapshot<Vec<ProxyLoop>>, Snapshot<DriverBounds>),
     /// One more, of a node: the node as it was at first, its loops, and its bounds.
-    Node(
-        Snapshot<Drives>,
-        Snapshot<SeededNode>,
-        Snapshot<NodeLoops>,
-        Snapshot<DriverBounds>,
-    ),
+    Node(Snapshot<Drives>, Snapshot<SeededNode>, Snapshot<NodeLoops>, Snapshot<DriverBounds>),
 }
 
 /// The services on loops that ran, which contracts see as a list and the program doesn't keep.

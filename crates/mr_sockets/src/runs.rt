@@ -62,7 +62,12 @@ impl GhostRuns {
     }
 
     /// One more, of a node.
-    pub(crate) fn add_node(&mut self, began: &Option<Snapshot<SeededNode>>, turns: u64, clients: u64)
+    pub(crate) fn add_node(
+        &mut self,
+        began: &Option<Snapshot<SeededNode>>,
+        turns: u64,
+        clients: u64,
+    )
         ensures { self.new ≡ self.old ++ run (NodeServing (option_map (λ s. s.value) began.now) turns) clients ∷ [] }
     {
         let before = Snapshot::of(&self.runs);
