@@ -51,7 +51,7 @@ fn push_link(text: &mut Vec<u8>, pools: &[Pool], number: usize) -> Result<(), Al
 
 /// Adds the configuration of a service that has one.
 fn push_config(text: &mut Vec<u8>, config: Option<&str>) -> Result<(), AllocError>
-    ensures { OnOk result (text.new.items ≡ text.old.items ++ config_text config) }
+    ensures { OnOk result (text.new.items ≡ text.old.items ++ config_text config.entry) }
 {
     let Some(config) = config else {
         return Ok(());

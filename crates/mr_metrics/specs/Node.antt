@@ -41,6 +41,14 @@ evictions_family evicted =
 abbrev pub node_loops_family : ℕ → List ℕ
 node_loops_family loops = one_number (codes "migctl_node_loops") (codes "Loops that serve clients.") Gauge loops
 
+-- what it performed
+abbrev pub performed_text : NodeSnapshot → List ℕ
+performed_text snapshot =
+    gets_family snapshot.hits snapshot.misses
+    ++ (sets_family snapshot.stored
+    ++ (deletes_family snapshot.deleted snapshot.not_found
+    ++ evictions_family snapshot.evicted))
+
 -- a node
 abbrev pub node_text : NodeSnapshot → List ℕ
 node_text snapshot =
@@ -48,8 +56,5 @@ node_text snapshot =
     ++ (address_family snapshot.address.now
     ++ (items_family snapshot.items
     ++ (capacity_family snapshot.capacity
-    ++ (gets_family snapshot.hits snapshot.misses
-    ++ (sets_family snapshot.stored
-    ++ (deletes_family snapshot.deleted snapshot.not_found
-    ++ (evictions_family snapshot.evicted
-    ++ node_loops_family snapshot.loops)))))))
+    ++ (performed_text snapshot
+    ++ node_loops_family snapshot.loops))))

@@ -1,6 +1,6 @@
 //! What a node tells of itself.
 ghost use Rattle.std.specs.Prelude.{◌≡◌, ◌++◌, IfOk, OnOk};
-ghost use Rattle.mr_metrics.specs.Node.{address_family, items_family, capacity_family, gets_family, sets_family, deletes_family, evictions_family, node_loops_family, node_text};
+ghost use Rattle.mr_metrics.specs.Node.{address_family, items_family, capacity_family, gets_family, sets_family, deletes_family, evictions_family, node_loops_family, performed_text, node_text};
 
 use crate::exposition::Kind;
 use crate::families::{Count, push_info, push_one, push_two};
@@ -158,6 +158,17 @@ fn push_node_loops(text: &mut Vec<u8>, loops: u64) -> Result<(), AllocError>
     )
 }
 
+/// Adds what it performed.
+fn push_performed(text: &mut Vec<u8>, snapshot: &NodeSnapshot<'_>) -> Result<(), AllocError>
+    ensures { OnOk result (text.new.items ≡ text.old.items ++ performed_text snapshot.now) }
+{
+    push_gets(text, snapshot.hits, snapshot.misses)?;
+    push_stored(text, snapshot.stored)?;
+    push_deletes(text, snapshot.deleted, snapshot.not_found)?;
+    push_evicted(text, snapshot.evicted)?;
+    Ok(())
+}
+
 /// What a node tells of itself, in the text exposition format of version 0.0.4.
 pub fn node_metrics(alloc: Global, snapshot: &NodeSnapshot<'_>) -> Result<Vec<u8>, AllocError>
     ensures { IfOk result (λ text. text.items ≡ node_text snapshot.now) }
@@ -167,10 +178,7 @@ pub fn node_metrics(alloc: Global, snapshot: &NodeSnapshot<'_>) -> Result<Vec<u8
     push_address(&mut text, snapshot.address)?;
     push_items(&mut text, snapshot.items)?;
     push_capacity(&mut text, snapshot.capacity)?;
-    push_gets(&mut text, snapshot.hits, snapshot.misses)?;
-    push_stored(&mut text, snapshot.stored)?;
-    push_deletes(&mut text, snapshot.deleted, snapshot.not_found)?;
-    push_evicted(&mut text, snapshot.evicted)?;
+    push_performed(&mut text, snapshot)?;
     push_node_loops(&mut text, snapshot.loops)?;
     Ok(text)
 }
