@@ -189,6 +189,9 @@ fn serve_noted<
 ) -> u64
     ensures { result ≤ bounds.clients }
 {
+    log.lock(rt).note(Happening::Listens {
+        loops: nature.loops,
+    });
     let ears = Ears::new(rt, log, bounds.most_clients);
     let speaker = Speaker {
         rt,
@@ -230,9 +233,6 @@ pub(crate) fn serve_loops<
     ensures { result ≤ bounds.clients }
 {
     let log = Mutex::new(Log::new());
-    log.lock(rt).note(Happening::Listens {
-        loops: nature.loops,
-    });
     serve_noted(
         rt, alloc, site, nature, scrapers, teller, loops, doors, bounds, time, &log,
     )
