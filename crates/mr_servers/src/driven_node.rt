@@ -1,8 +1,7 @@
 //! The service of a node on loops: one cache, which all of them share.
-ghost use Rattle.std.specs.Prelude.{◌≡◌, ◌≢◌, ◌≤◌, IfOk, IfErr, [], map, replicate};
-ghost use Rattle.mr_loop.specs.node.Counts.{nothing_served};
+ghost use Rattle.std.specs.Prelude.{◌≡◌, ◌≢◌, ◌≤◌, IfOk, IfErr, map, replicate};
 ghost use Rattle.mr_servers.specs.Drives.{NodeDrive};
-ghost use Rattle.mr_servers.specs.Driving.{drives_noted};
+ghost use Rattle.mr_servers.specs.Driving.{drives_noted, fresh_parts, parts_of};
 ghost use Rattle.mr_servers.specs.declared.fault.OpenFault.{OpenFault};
 
 use crate::drives::GhostDrives;
@@ -12,12 +11,13 @@ use crate::node_teller::NodeTeller;
 use mr_clock::SystemClock;
 use mr_counting::ServiceTime;
 use mr_driver::{CacheDesk, Doors, DriverBounds, Loops, SharedCache, open_node_loops};
+use mr_log::Log;
 use mr_loop::{NodeLoop, ServedCounts};
 use mr_sockets::SeededNode;
 use std::alloc::{AllocError, Global};
 use std::net::{Net, TcpListener, TcpStream};
 use std::snapshot::Snapshot;
-use std::sync::Wait;
+use std::sync::{Mutex, Wait};
 use std::thread::Threads;
 use std::time::Clock;
 
@@ -46,12 +46,11 @@ fn machines_of<'a, R: Wait>(
     cache: &'a SharedCache,
     loops: NodeLoops,
 ) -> Result<Vec<NodeLoop<CacheDesk<'a, R>>>, AllocError>
-    ensures { IfOk result (λ machines. map (λ m. (m.clients, m.most_unread, m.counts)) machines.items
-        ≡ replicate loops.count ([], loops.most_unread, nothing_served)) }
+    ensures { IfOk result (λ machines. map parts_of machines.items ≡ replicate loops.count (fresh_parts loops.most_unread)) }
 {
     let count = loops.count as usize;
     let mut machines = Vec::with_capacity(alloc, count)?;
-    while machines.len() < count {
+    'machine: while machines.len() < count {
         match NodeLoop::new(alloc, cache.desk(rt), loops.most_unread) {
             Ok(machine) => machines.push(machine)?,
             Err(_) => return Err(AllocError),
@@ -113,8 +112,9 @@ fn serve_cache<R: Net<Listener = TcpListener, Stream = TcpStream> + Threads + Wa
         schedule: None,
         loops: u64::from(loops.count),
     };
+    let log = Mutex::new(Log::new());
     Ok(serve_loops(
-        rt, alloc, site, nature, scrapers, &teller, opened, &doors, bounds, &time,
+        rt, alloc, site, nature, scrapers, &teller, opened, &doors, bounds, &time, &log,
     ))
 }
 

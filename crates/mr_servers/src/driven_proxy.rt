@@ -12,6 +12,7 @@ use crate::reports::room_of;
 use mr_clock::SystemClock;
 use mr_counting::{ProxyIdentity, ServiceTime};
 use mr_driver::{Doors, DriverBounds, LoopReport, Loops, open_loops};
+use mr_log::Log;
 use mr_loop::ProxyLoop;
 use mr_phases::Schedule;
 use mr_pools::Routing;
@@ -19,7 +20,7 @@ use mr_sockets::node_addresses;
 use std::alloc::{AllocError, Global};
 use std::net::{Net, TcpListener, TcpStream};
 use std::snapshot::Snapshot;
-use std::sync::Wait;
+use std::sync::{Mutex, Wait};
 use std::thread::Threads;
 use std::time::Clock;
 
@@ -124,8 +125,9 @@ fn serve_known<R: Net<Listener = TcpListener, Stream = TcpStream> + Threads + Wa
         schedule: Some(known.schedule),
         loops: known.loops,
     };
+    let log = Mutex::new(Log::new());
     serve_loops(
-        rt, alloc, site, nature, scrapers, &teller, loops, doors, bounds, &time,
+        rt, alloc, site, nature, scrapers, &teller, loops, doors, bounds, &time, &log,
     )
 }
 

@@ -168,8 +168,9 @@ fn serve_all<
     served.min(bounds.clients)
 }
 
-/// Serves clients as `serve_all` does, and notes in this log what happens.
-fn serve_noted<
+/// Serves so many clients that come to a socket by these loops, and gives how many of them ended without a fault, once all have. What
+/// the teller tells is told at the other socket, if there is one, and what happens is noted in this log and said, if there is a voice.
+pub(crate) fn serve_loops<
     'a,
     R: Net<Listener = TcpListener, Stream = TcpStream> + Threads + Wait + Clock + Sync,
     M: Machine + Send,
@@ -209,31 +210,5 @@ fn serve_noted<
     };
     serve_all(
         rt, alloc, site, scrapers, teller, &speaker, loops, doors, bounds, time, &ears,
-    )
-}
-
-/// Serves so many clients that come to a socket by these loops, and gives how many of them ended without a fault, once all have. What
-/// the teller tells is told at the other socket, if there is one, and what happens is said, if there is a voice.
-pub(crate) fn serve_loops<
-    R: Net<Listener = TcpListener, Stream = TcpStream> + Threads + Wait + Clock + Sync,
-    M: Machine + Send,
-    T: Tells + Sync,
->(
-    rt: &R,
-    alloc: Global,
-    site: Site<'_>,
-    nature: Nature<'_>,
-    scrapers: Option<TcpListener>,
-    teller: &T,
-    loops: Loops<M>,
-    doors: &Doors<M::Report>,
-    bounds: DriverBounds,
-    time: &ServiceTime,
-) -> u64
-    ensures { result ≤ bounds.clients }
-{
-    let log = Mutex::new(Log::new());
-    serve_noted(
-        rt, alloc, site, nature, scrapers, teller, loops, doors, bounds, time, &log,
     )
 }

@@ -81,7 +81,7 @@ fn told_of<K: Clock + Clone>(
     reports: &[ServedCounts],
     look: &CacheLook,
 ) -> Result<Vec<u8>, AllocError>
-    ensures { IfOk result (λ text. TellsServed (node_is version address) reports.now look.now text.items) }
+    ensures { IfOk result (λ text. TellsServed (node_is version.entry address.entry) reports.now look.now text.items) }
 {
     let served = served_by(reports);
     let service = time.snapshot(clock, version, served.came, served.left);
