@@ -1,3 +1,2 @@
--- Lemmas on what loops tell, and on what their threads are handed.
+-- Lemmas on what loops tell.
 mod ReportLemmas
-mod SendLemmas

@@ -14,6 +14,7 @@ has_room_unless None = true
 has_room_unless (Some ProxyError.NoRoom) = false
 has_room_unless (Some ProxyError.OutOfMemory) = true
 has_room_unless (Some ProxyError.NumbersSpent) = true
+has_room_unless (Some ProxyError.NoSuchOp) = true
 
 -- a proxy has room for one more request
 abbrev pub has_room_in : LoopView → Bool

@@ -26,10 +26,10 @@ look_keeps old now key None new looked = step_keeps old now _ _ new looked
 look_keeps old now key (Some item) new looked = step_keeps old now _ _ new looked.0
 
 -- lookups, one after another
-gets_keep : {old new : CacheView} {keys : List (List ℕ)} {items : List Item} (now : ℕ)
+gets_keep : (now : ℕ) {old new : CacheView} {keys : List (List ℕ)} {items : List Item}
     → Gets RecencyStep now old keys items new → new.capacity ≡ old.capacity
 gets_keep now Gets.begins = refl
-gets_keep {new = new} now (Gets.looks {between = between} key found gets looked) =
+gets_keep now {new = new} (Gets.looks {between = between} key found gets looked) =
     look_keeps between now key found new looked ∙ gets_keep now gets
 
 -- a lookup that lacked memory, before it was performed or in it

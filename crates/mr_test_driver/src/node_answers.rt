@@ -10,6 +10,7 @@ use std::sync::Wait;
 use std::time::Clock;
 
 /// What all loops of a node tell together.
+#[derive(Clone, Copy)]
 struct Sum {
     came: u64,
     left: u64,

@@ -77,10 +77,12 @@ def a_pipeline_leaves_turns_to_others_at_a_node():
         waits = []
 
         def send():
-            pipelining.send(*[get_of("k")] * 10000)
+            for _ in range(20):
+                pipelining.send(*[get_of("k")] * 10000)
 
         def take():
-            pipelining.expect(hits(("k", VALUE)) * 10000)
+            for _ in range(20):
+                pipelining.expect(hits(("k", VALUE)) * 10000)
             ended.set()
 
         def ask():
@@ -90,7 +92,7 @@ def a_pipeline_leaves_turns_to_others_at_a_node():
                 waits.append(time.monotonic() - begun)
 
         in_threads(send, take, ask)
-        check_true(f"many answers come beside a pipeline: {len(waits)}", len(waits) >= 4)
+        check_true(f"many answers come beside a pipeline: {len(waits)}", len(waits) >= 6)
         check_true(f"an answer beside a pipeline comes soon: {max(waits):.3f} s", max(waits) < 2)
 
 
@@ -245,7 +247,7 @@ def many_clients_of_a_node():
             for it in clients:
                 it.expect(hits(("k", VALUE)))
         check("threads", 3, node.status("Threads"))
-        check("files", 2 * 3 + 400 + 4, node.open_files())
+        check("files", 2 * 2 + 400 + 4, node.open_files())
 
 
 @case(quick=False)
