@@ -1,0 +1,2 @@
+-- Lemmas on what threads are handed.
+mod SendLemmas

@@ -5,7 +5,7 @@ ghost use Rattle.mr_servers.specs.Driving.{drives_noted, fresh_parts, parts_of};
 ghost use Rattle.mr_servers.specs.declared.fault.OpenFault.{OpenFault};
 
 use crate::drives::GhostDrives;
-use crate::driving::{Nature, Site, fault_of, serve_loops};
+use crate::driving::{Nature, Running, Site, fault_of, serve_loops};
 use crate::fault::OpenFault;
 use crate::node_teller::NodeTeller;
 use mr_clock::SystemClock;
@@ -113,8 +113,18 @@ fn serve_cache<R: Net<Listener = TcpListener, Stream = TcpStream> + Threads + Wa
         loops: u64::from(loops.count),
     };
     let log = Mutex::new(Log::new());
+    let running = Running::Node(opened, &doors);
     Ok(serve_loops(
-        rt, alloc, site, nature, scrapers, &teller, opened, &doors, bounds, &time, &log,
+        rt,
+        alloc,
+        site,
+        nature,
+        scrapers,
+        &teller,
+        running,
+        bounds,
+        &time.watch,
+        &log,
     ))
 }
 

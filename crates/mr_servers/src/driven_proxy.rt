@@ -5,7 +5,7 @@ ghost use Rattle.mr_servers.specs.Driving.{IsKnownOf, drives_noted};
 ghost use Rattle.mr_servers.specs.declared.fault.OpenFault.{OpenFault};
 
 use crate::drives::GhostDrives;
-use crate::driving::{Nature, Site, fault_of, serve_loops};
+use crate::driving::{Nature, Running, Site, fault_of, serve_loops};
 use crate::fault::OpenFault;
 use crate::proxy_teller::ProxyTeller;
 use crate::reports::room_of;
@@ -126,8 +126,18 @@ fn serve_known<R: Net<Listener = TcpListener, Stream = TcpStream> + Threads + Wa
         loops: known.loops,
     };
     let log = Mutex::new(Log::new());
+    let running = Running::Proxy(loops, doors);
     serve_loops(
-        rt, alloc, site, nature, scrapers, &teller, loops, doors, bounds, &time, &log,
+        rt,
+        alloc,
+        site,
+        nature,
+        scrapers,
+        &teller,
+        running,
+        bounds,
+        &time.watch,
+        &log,
     )
 }
 

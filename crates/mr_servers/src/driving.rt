@@ -7,10 +7,11 @@ use crate::hearing::Ears;
 use crate::host_servers::moment_now;
 use crate::saying::Speaker;
 use crate::scrapes::{ScrapeState, serve_scrapers};
-use mr_counting::ServiceTime;
-use mr_driver::{Doors, DriverBounds, Hears, Loops, Machine, serve};
+use mr_counting::ClockWatch;
+use mr_driver::{CacheDesk, Doors, DriverBounds, Hears, LoopReport, Loops, serve};
 use mr_http::Tells;
 use mr_log::{Happening, Log, Service};
+use mr_loop::{NodeLoop, ProxyLoop, ServedCounts};
 use mr_phases::Schedule;
 use mr_pools::Pool;
 use std::alloc::Global;
@@ -45,6 +46,23 @@ pub(crate) struct Nature<'a> {
     pub(crate) schedule: Option<Schedule>,
     /// How many loops it has.
     pub(crate) loops: u64,
+}
+
+/// Loops that are to serve clients, with the doors by which they are asked.
+pub(crate) enum Running<'a, R: Wait> {
+    /// Those of a proxy.
+    Proxy(Loops<ProxyLoop>, &'a Doors<LoopReport>),
+    /// Those of a node.
+    Node(Loops<NodeLoop<CacheDesk<'a, R>>>, &'a Doors<ServedCounts>),
+}
+
+impl<'a, R: Wait> Drop for Running<'a, R> {
+    fn drop(self) {
+        match self {
+            Running::Proxy(_, _) => {}
+            Running::Node(_, _) => {}
+        }
+    }
 }
 
 /// Why loops couldn't be opened, by the kind of the machine's error.
@@ -92,13 +110,39 @@ fn begin_speaker<
     }
 }
 
+impl<
+    'a,
+    R: Net<Listener = TcpListener, Stream = TcpStream> + Threads + Wait + Clock + Sync,
+> Running<'a, R> {
+    /// Serves clients by these loops as `serve` does.
+    fn serve<E: Hears + Sync>(
+        self,
+        rt: &R,
+        alloc: Global,
+        listener: &TcpListener,
+        bounds: DriverBounds,
+        watch: &ClockWatch,
+        ears: &E,
+    ) -> u64
+        ensures { result ≤ bounds.clients }
+    {
+        match self {
+            Running::Proxy(loops, doors) => {
+                serve(rt, alloc, listener, loops, doors, bounds, watch, ears)
+            }
+            Running::Node(loops, doors) => {
+                serve(rt, alloc, listener, loops, doors, bounds, watch, ears)
+            }
+        }
+    }
+}
+
 /// Serves clients by loops as `serve` does, beside threads of this scope for scrapers, if there is a socket for them, and for what is
 /// said, if there is a voice. Then these are told that it has ended.
 fn serve_in<
     's,
     'e,
     R: Net<Listener = TcpListener, Stream = TcpStream> + Threads + Wait + Clock + Sync,
-    M: Machine + Send,
     T: Tells + Sync,
     E: Hears + Sync,
 >(
@@ -109,10 +153,9 @@ fn serve_in<
     scrapers: Option<TcpListener>,
     teller: &'s T,
     speaker: &'s Speaker<'s, R>,
-    loops: Loops<M>,
-    doors: &Doors<M::Report>,
+    running: Running<'_, R>,
     bounds: DriverBounds,
-    time: &ServiceTime,
+    watch: &ClockWatch,
     ears: &E,
     state: &'s ScrapeState,
 ) -> u64
@@ -120,16 +163,7 @@ fn serve_in<
 {
     begin_scrapers(rt, scope, alloc, scrapers, teller, state);
     begin_speaker(scope, site.voice, speaker, state);
-    let served = serve(
-        rt,
-        alloc,
-        site.listener,
-        loops,
-        doors,
-        bounds,
-        &time.watch,
-        ears,
-    );
+    let served = running.serve(rt, alloc, site.listener, bounds, watch, ears);
     state.end();
     served
 }
@@ -138,7 +172,6 @@ fn serve_in<
 /// listens to the voice, if there is one.
 fn serve_all<
     R: Net<Listener = TcpListener, Stream = TcpStream> + Threads + Wait + Clock + Sync,
-    M: Machine + Send,
     T: Tells + Sync,
     E: Hears + Sync,
 >(
@@ -148,10 +181,9 @@ fn serve_all<
     scrapers: Option<TcpListener>,
     teller: &T,
     speaker: &Speaker<'_, R>,
-    loops: Loops<M>,
-    doors: &Doors<M::Report>,
+    running: Running<'_, R>,
     bounds: DriverBounds,
-    time: &ServiceTime,
+    watch: &ClockWatch,
     ears: &E,
 ) -> u64
     ensures { result ≤ bounds.clients }
@@ -160,8 +192,7 @@ fn serve_all<
     let lent = &state;
     let served = thread::scope(thread::scope_env(), rt, move |scope| {
         serve_in(
-            rt, scope, alloc, site, scrapers, teller, speaker, loops, doors, bounds, time, ears,
-            lent,
+            rt, scope, alloc, site, scrapers, teller, speaker, running, bounds, watch, ears, lent,
         )
     });
     // it is no more already, which isn't known of what a scope gives
@@ -173,7 +204,6 @@ fn serve_all<
 pub(crate) fn serve_loops<
     'a,
     R: Net<Listener = TcpListener, Stream = TcpStream> + Threads + Wait + Clock + Sync,
-    M: Machine + Send,
     T: Tells + Sync,
 >(
     rt: &'a R,
@@ -182,10 +212,9 @@ pub(crate) fn serve_loops<
     nature: Nature<'a>,
     scrapers: Option<TcpListener>,
     teller: &T,
-    loops: Loops<M>,
-    doors: &Doors<M::Report>,
+    running: Running<'_, R>,
     bounds: DriverBounds,
-    time: &'a ServiceTime,
+    watch: &'a ClockWatch,
     log: &'a Mutex<Log>,
 ) -> u64
     ensures { result ≤ bounds.clients }
@@ -205,10 +234,10 @@ pub(crate) fn serve_loops<
         },
         schedule: nature.schedule,
         log,
-        watch: &time.watch,
+        watch,
         begun: moment_now(rt),
     };
     serve_all(
-        rt, alloc, site, scrapers, teller, &speaker, loops, doors, bounds, time, &ears,
+        rt, alloc, site, scrapers, teller, &speaker, running, bounds, watch, &ears,
     )
 }

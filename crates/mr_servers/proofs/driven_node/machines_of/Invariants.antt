@@ -4,10 +4,10 @@ use Rattle.mr_servers.proofs.driven_node.machines_of.Given as goal
 
 -- the loops so far have no clients
 abbrev pub invariant-machine : goal.invariant-machine
-invariant-machine l = record {
+invariant-machine g l = record {
   fresh : map parts_of l.machines.items ≡ replicate (vec_len l.machines) (fresh_parts l.loops.most_unread);
   within : vec_len l.machines ≤ l.count;
 }
 
 abbrev pub decreases-machine : goal.decreases-machine
-decreases-machine l = l.count - vec_len l.machines
+decreases-machine g l = l.count - vec_len l.machines
