@@ -1,7 +1,10 @@
 -- The machines of loops may cross threads. Their parts are found one by one, since a search that goes down through all of them takes
 -- too long.
-use denote.Param.Send.{IsSend, IsSync, sendable}
-use Rattle.std.proofs.Crossing.{crosses}
+use denote.Param.Send.{IsSend, IsSync, recorded_send, shr_send, struct_send, view_send, sendable}
+use denote.Struct.Declared.{shape}
+use denote.RattleType.{RattleType}
+use denote.Ref.{NamedLft}
+use Rattle.std.proofs.Crossing.{Box-send, Vec-send, crosses}
 use Rattle.mr_text.specs.contracts.item.Item as item
 use Rattle.mr_text.proofs.item.Item.TheSendSync as of_item
 use Rattle.mr_text.specs.contracts.request.Request as request
@@ -48,7 +51,11 @@ use Rattle.mr_loop.specs.contracts.proxy_loop.ProxyLoop as proxy_loop
 use Rattle.mr_loop.specs.contracts.node.counts.ServedCounts as served
 use Rattle.mr_loop.proofs.node.counts.ServedCounts.TheSendSync as of_served
 use Rattle.mr_loop.specs.contracts.node.client.NodeClient as node_client
+use Rattle.mr_loop.specs.contracts.node.node_loop.NodeLoop as node_loop
+use Rattle.mr_loop.specs.contracts.node.node_loop.NodeLoop.TheInside as inside
+use Rattle.mr_loop.specs.declared.node.cache.Cache.{Ghosts}
 use Rattle.mr_driver.specs.contracts.shared_cache.SharedCache as shared
+use Rattle.mr_driver.specs.contracts.shared_cache.CacheDesk as desk
 use Rattle.mr_driver.proofs.shared_cache.SharedCache.TheSendSync as of_shared
 
 -- what the crates below show of their own types
@@ -143,15 +150,34 @@ own_inbox_send = search (request_reader_send, input_send, crosses, sendable) dep
 reply_send : IsSend reply.the_field.row
 reply_send = of_reply.the_field_send
 
-pub node_client_send : IsSend node_client.the_row
+node_client_send : IsSend node_client.the_row
 node_client_send = search (own_inbox_send, out_buffer_send, reply_send, crosses, sendable) depth 20
 
--- the rest of a node's loop
-pub served_send : IsSend served.the_field.row
+-- what else a node's loop has
+served_send : IsSend served.the_field.row
 served_send = of_served.the_field_send
 
-pub buffer_send : IsSend buffer.the_field.row
-buffer_send = of_buffer.the_send
+own_buffer_send : IsSend buffer.the_field.row
+own_buffer_send = of_buffer.the_send
 
-pub shared_sync : IsSync shared.the_row
+buffer_send : IsSend buffer.the_row
+buffer_send = search (own_buffer_send, crosses, sendable) depth 20
+
+shared_sync : IsSync shared.the_row
 shared_sync = of_shared.the_sync
+
+-- by which a loop asks the cache that it shares
+pub desk_send : (lent : NamedLft) (R : RattleType) → IsSync R → IsSend (desk.the_row lent R)
+desk_send lent R sync =
+    recorded_send _ _ _ (desk.the_type lent R).to_one
+    (struct_send (shape (desk.the_type lent R)) (shr_send lent.mir lent.lft R sync, (shr_send lent.mir lent.lft shared.the_row shared_sync, tt)))
+
+-- the machine of a node, over a cache that may cross threads
+pub node_loop_send : (C : RattleType) (ghosts : Ghosts C.Denot) → IsSend C → IsSend (node_loop.the_field C ghosts).row
+node_loop_send C ghosts send =
+    view_send _ _ _ _ _
+    (recorded_send _ _ _ (inside.the_type C ghosts).to_one
+    (struct_send (shape (inside.the_type C ghosts)) (
+      search (crosses, sendable),
+      (send, (Vec-send node_client.the_row node_client_send, (search (crosses, sendable), (served_send, (Box-send buffer.the_row buffer_send, tt))))),
+    )))

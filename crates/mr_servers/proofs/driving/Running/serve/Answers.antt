@@ -1,10 +1,10 @@
 use denote.Param.Send.{sendable}
 use Rattle.std.proofs.Crossing.{crosses}
-use Rattle.mr_servers.proofs.SendLemmas.{buffer_send, loop_send, node_client_send, served_send, shared_sync}
+use Rattle.mr_servers.proofs.SendLemmas.{desk_send, loop_send, node_loop_send}
 use Rattle.mr_servers.proofs.driving.Running.serve.Goals as goal
 
 pub serve-requires-send-M : goal.serve-requires-send-M
 serve-requires-send-M g c κs within = search (loop_send, crosses, sendable) depth 20
 
 pub serve-requires-in-Node-send-M : goal.serve-requires-in-Node-send-M
-serve-requires-in-Node-send-M g c κs within = search (node_client_send, served_send, buffer_send, shared_sync, crosses, sendable) depth 20
+serve-requires-in-Node-send-M g c κs within = search (c.type_bounds.sync-R, desk_send, node_loop_send, crosses, sendable) depth 20
