@@ -157,9 +157,16 @@ node_client_send = search (own_inbox_send, out_buffer_send, reply_send, crosses,
 -- the machine of a node, whose cache may cross threads
 module _ (C : RattleType) (c : cache.Ghosts C.Denot) (may_c : IsSend C) where
   inside_send : IsSend (inside.the_row C c)
-  inside_send = recorded_send (inside.the_field C c).row _ _ (inside.the_type C c).to_one (struct_send (shape (inside.the_type C c))
-      (search (crosses, sendable) depth 20, (search (may_c, crosses, sendable) depth 20, (search (node_client_send, crosses, sendable) depth 20,
-      (search (crosses, sendable) depth 20, (search (served_send, crosses, sendable) depth 20, (search (buffer_send, crosses, sendable) depth 20, tt)))))))
+  inside_send = recorded_send (inside.the_field C c).row _ _ (inside.the_type C c).to_one (struct_send (shape (inside.the_type C c)) (
+    search (crosses, sendable) depth 20,
+    (
+      search (may_c, crosses, sendable) depth 20,
+      (
+        search (node_client_send, crosses, sendable) depth 20,
+        (search (crosses, sendable) depth 20, (search (served_send, crosses, sendable) depth 20, (search (buffer_send, crosses, sendable) depth 20, tt))),
+      ),
+    ),
+  ))
 
   pub node_send : IsSend (node_loop.the_row C c)
   node_send = view_send _ _ _ _ _ inside_send
