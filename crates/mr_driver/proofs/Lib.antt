@@ -1,2 +1,3 @@
--- Lemmas on what loops tell.
+-- Lemmas on what loops tell, and on machines that cross threads.
 mod ReportLemmas
+pub mod SendLemmas

@@ -170,7 +170,11 @@ impl Clients {
     }
 
     /// A client who was silent for too long is there no more, unless it is others who keep it waiting.
-    fn sweep<R: Net + Clock, E: Hears, M: Machine>(&mut self, engine: &mut Engine<'_, R, E, M>, place: usize) {
+    fn sweep<R: Net + Clock, E: Hears, M: Machine>(
+        &mut self,
+        engine: &mut Engine<'_, R, E, M>,
+        place: usize,
+    ) {
         if place >= engine.machine.places() {
             return;
         }
@@ -183,7 +187,10 @@ impl Clients {
     }
 
     /// Those who were silent for too long are there no more.
-    pub(crate) fn sweep_all<R: Net + Clock, E: Hears, M: Machine>(&mut self, engine: &mut Engine<'_, R, E, M>) {
+    pub(crate) fn sweep_all<R: Net + Clock, E: Hears, M: Machine>(
+        &mut self,
+        engine: &mut Engine<'_, R, E, M>,
+    ) {
         if engine.timing.is_idle_bounded() {
             for place in 0..engine.machine.places() {
                 self.sweep(engine, place);

@@ -177,11 +177,7 @@ impl<T: Drop> Doors<T> {
     }
 
     /// What each loop tells of itself, in order. One that has ended or doesn't answer within a second is left out.
-    pub fn ask<R: Wait + Clock>(
-        &self,
-        rt: &R,
-        alloc: Global,
-    ) -> Result<Vec<T>, AllocError> {
+    pub fn ask<R: Wait + Clock>(&self, rt: &R, alloc: Global) -> Result<Vec<T>, AllocError> {
         let mut answers = Vec::with_capacity(alloc, self.doors.len())?;
         for door in &self.doors {
             answers.push(door.ask(rt, alloc)?)?;

@@ -68,15 +68,13 @@ impl<M: Drop> LinkSide<M> for NoLinks {
         _engine: &mut Engine<'_, R, E, M>,
         _number: usize,
         _signs: Signs,
-    ) {
-    }
+    ) {}
 
     fn read_all<R: Net + Clock, E: Hears>(
         &mut self,
         _engine: &mut Engine<'_, R, E, M>,
         _input: &mut [u8],
-    ) {
-    }
+    ) {}
 
     fn tick_all<R: Net + Clock, E: Hears>(&mut self, _engine: &mut Engine<'_, R, E, M>) {}
 

@@ -209,7 +209,11 @@ impl Links {
     }
 
     /// Writes to a node what is there for it.
-    fn write<R: Net + Clock, E: Hears>(&mut self, engine: &mut Engine<'_, R, E, ProxyLoop>, number: usize) {
+    fn write<R: Net + Clock, E: Hears>(
+        &mut self,
+        engine: &mut Engine<'_, R, E, ProxyLoop>,
+        number: usize,
+    ) {
         let Some(link) = self.links.get_mut(number) else {
             return;
         };
@@ -228,7 +232,11 @@ impl Links {
     }
 
     /// Dials a node, where its pause is over.
-    fn redial<R: Net + Clock, E: Hears>(&mut self, engine: &mut Engine<'_, R, E, ProxyLoop>, number: usize) {
+    fn redial<R: Net + Clock, E: Hears>(
+        &mut self,
+        engine: &mut Engine<'_, R, E, ProxyLoop>,
+        number: usize,
+    ) {
         let is_due = match self.links.get(number) {
             Some(link) => link.is_due(engine.now),
             None => false,
@@ -252,7 +260,11 @@ impl Links {
     }
 
     /// What the time does to a link. Whoever waits for it is looked at as well.
-    fn tick<R: Net + Clock, E: Hears>(&mut self, engine: &mut Engine<'_, R, E, ProxyLoop>, number: usize) {
+    fn tick<R: Net + Clock, E: Hears>(
+        &mut self,
+        engine: &mut Engine<'_, R, E, ProxyLoop>,
+        number: usize,
+    ) {
         let Some(link) = self.links.get(number) else {
             return;
         };

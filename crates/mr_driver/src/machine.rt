@@ -9,7 +9,7 @@ use mr_loop::Pause;
 use std::alloc::{AllocError, Global};
 
 /// A machine that a loop drives: it is told what happened, and decides all that is done. Its clients go by their places.
-pub trait Machine: Drop {
+pub trait Machine: Drop + Send {
     /// What it tells of itself when it is asked.
     type Report: Drop + Send;
 

@@ -99,7 +99,7 @@ pub fn open_loops<R: Net>(
 }
 
 /// A loop for each machine of a node. The error is of the kind `OutOfMemory` where memory was refused.
-pub fn open_node_loops<R: Net, C: Cache + Drop>(
+pub fn open_node_loops<R: Net, C: Cache + Drop + Send>(
     rt: &R,
     alloc: Global,
     machines: Vec<NodeLoop<C>>,
@@ -124,7 +124,7 @@ fn start_loops<
     'e,
     R: Net<Listener = TcpListener, Stream = TcpStream> + Threads + Wait + Clock + Sync,
     E: Hears + Sync,
-    M: Machine + Send + 's,
+    M: Machine + 's,
 >(
     rt: &'s R,
     scope: &'s Scope<'s, &'e ()>,
@@ -156,7 +156,7 @@ fn start_loops<
 pub fn serve<
     R: Net<Listener = TcpListener, Stream = TcpStream> + Threads + Wait + Clock + Sync,
     E: Hears + Sync,
-    M: Machine + Send,
+    M: Machine,
 >(
     rt: &R,
     alloc: Global,

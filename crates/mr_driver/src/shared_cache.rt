@@ -56,7 +56,7 @@ impl SharedCache {
     }
 
     /// By which one loop asks the cache.
-    pub fn desk<'a, R: Wait>(&'a self, rt: &'a R) -> CacheDesk<'a, R> {
+    pub fn desk<'a, 'r, R: Wait>(&'a self, rt: &'r R) -> CacheDesk<'a, 'r, R> {
         CacheDesk { rt, shared: self }
     }
 
@@ -68,18 +68,18 @@ impl SharedCache {
 }
 
 /// By which one loop asks a cache that others ask too.
-pub struct CacheDesk<'a, R: Wait> {
-    rt: &'a R,
+pub struct CacheDesk<'a, 'r, R: Wait> {
+    rt: &'r R,
     shared: &'a SharedCache,
 }
 
-impl<'a, R: Wait> Drop for CacheDesk<'a, R> {
+impl<'a, 'r, R: Wait> Drop for CacheDesk<'a, 'r, R> {
     fn drop(self) {
         let Self { rt: _, shared: _ } = self;
     }
 }
 
-impl<'a, R: Wait> Cache for CacheDesk<'a, R> {
+impl<'a, 'r, R: Wait> Cache for CacheDesk<'a, 'r, R> {
     ghost use Rattle.mr_driver.specs.SharedCache.{IsOneStep};
 
     ghost does = { λ _ now request outcome _. IsOneStep now request outcome };

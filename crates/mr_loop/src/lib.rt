@@ -32,9 +32,7 @@ pub use front::Front;
 pub use inbox::{Fetched, Inbox, Input};
 pub use link::{Link, LinkEnd};
 pub use link_counts::{LegTimes, LinkCounts};
-pub use node::{
-    Cache, CountingCache, NodeClient, NodeLoop, NodePause, ServedCounts, answer_on,
-};
+pub use node::{Cache, CountingCache, NodeClient, NodeLoop, NodePause, ServedCounts, answer_on};
 pub use out_buffer::OutBuffer;
 pub use proxy_loop::ProxyLoop;
 pub use sending::Mark;

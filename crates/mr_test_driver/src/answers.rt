@@ -95,7 +95,7 @@ fn answer<R: Wait + Clock + Print>(
 }
 
 /// Answers each line of the input.
-pub(crate) fn answer_all<R: Wait + Clock + Input + Print>(
+pub(crate) fn answer_of_proxy<R: Wait + Clock + Input + Print>(
     rt: &R,
     alloc: Global,
     doors: &Doors<LoopReport>,

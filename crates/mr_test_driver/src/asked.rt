@@ -116,6 +116,14 @@ impl<'a> Asked<'a> {
             Asked::Node(asked) => asked.listen,
         }
     }
+
+    /// How many clients are served, and how long is waited.
+    pub(crate) fn bounds(&self) -> DriverBounds {
+        match self {
+            Asked::Proxy(asked) => asked.bounds(),
+            Asked::Node(asked) => asked.bounds(),
+        }
+    }
 }
 
 /// What is asked of a proxy, in the order of the words.
@@ -175,7 +183,7 @@ impl<'a> AskedProxy<'a> {
     }
 
     /// How many clients are served, and how long is waited.
-    pub(crate) fn bounds(&self) -> DriverBounds {
+    fn bounds(&self) -> DriverBounds {
         DriverBounds {
             clients: self.clients,
             most_clients: self.most_clients,
@@ -224,7 +232,7 @@ impl<'a> AskedNode<'a> {
     }
 
     /// How many clients are served, and how long is waited.
-    pub(crate) fn bounds(&self) -> DriverBounds {
+    fn bounds(&self) -> DriverBounds {
         DriverBounds {
             clients: self.clients,
             most_clients: self.most_clients,

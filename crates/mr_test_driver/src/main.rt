@@ -17,14 +17,17 @@ mod nodes;
 mod notes;
 mod proxies;
 
+use answers::answer_of_proxy;
 use asked::{Asked, Misuse};
 use crossbeam_channel::unbounded;
-use mr_driver::listen_at;
+use mr_counting::ClockWatch;
+use mr_driver::{listen_at, serve};
 use mr_sockets::address_of;
-use nodes::serve_node;
+use node_answers::answer_of_node;
+use nodes::{cache_of, open_node};
 use notes::Notes;
-use proxies::serve_proxy;
-use std::env;
+use proxies::open_proxy;
+use std::{env, thread};
 
 fn main(rt: HostRuntime) -> Result<(), Misuse> {
     let alloc = rt.alloc();
@@ -39,9 +42,32 @@ fn main(rt: HostRuntime) -> Result<(), Misuse> {
     let listener = listen_at(&rt, address)?;
     let (to, heard) = unbounded(alloc)?;
     let ears = Notes::new(rt.clone()?, to);
-    let served = match &asked {
-        Asked::Proxy(asked) => serve_proxy(&rt, alloc, &listener, asked, &heard, &ears)?,
-        Asked::Node(asked) => serve_node(&rt, alloc, &listener, asked, &heard, &ears)?,
+    let watch = ClockWatch::new();
+    let host = &rt;
+    let listener = &listener;
+    let heard = &heard;
+    let ears = &ears;
+    let watch = &watch;
+    let bounds = asked.bounds();
+    let served = match asked {
+        Asked::Proxy(asked) => {
+            let (loops, doors) = open_proxy(host, alloc, &asked)?;
+            let doors = &doors;
+            thread::scope(thread::scope_env(), host, move |scope| {
+                let _ = scope.spawn(move || answer_of_proxy(host, alloc, doors, heard));
+                serve(host, alloc, listener, loops, doors, bounds, watch, ears)
+            })
+        }
+        Asked::Node(asked) => {
+            let cache = cache_of(alloc, &asked)?;
+            let cache = &cache;
+            let (loops, doors) = open_node(host, alloc, cache, &asked)?;
+            let doors = &doors;
+            thread::scope(thread::scope_env(), host, move |scope| {
+                let _ = scope.spawn(move || answer_of_node(host, alloc, doors, cache, heard));
+                serve(host, alloc, listener, loops, doors, bounds, watch, ears)
+            })
+        }
     };
     println!(rt; "served {served}")?;
     Ok(())

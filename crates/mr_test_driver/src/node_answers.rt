@@ -102,7 +102,7 @@ fn answer<R: Wait + Clock + Print>(
 }
 
 /// Answers each line of the input.
-pub(crate) fn answer_all<R: Wait + Clock + Input + Print>(
+pub(crate) fn answer_of_node<R: Wait + Clock + Input + Print>(
     rt: &R,
     alloc: Global,
     doors: &Doors<ServedCounts>,

@@ -1,22 +1,15 @@
 //! A proxy that is served on loops.
 ghost use Rattle.std.specs.Prelude.{◌≡◌, length, IfOk};
 
-use crate::answers::answer_all;
 use crate::asked::{AskedProxy, Misuse};
-use crossbeam_channel::Receiver;
-use mr_counting::ClockWatch;
-use mr_driver::{Hears, LoopEvent, bound_of, open_loops, serve};
+use mr_driver::{Doors, LoopReport, Loops, bound_of, open_loops};
 use mr_loop::{Limits, ProxyLoop};
 use mr_phases::Schedule;
 use mr_pools::{NamedHash, NodeName, Pool, Routing};
 use mr_proxy::ProxyCore;
 use mr_sockets::node_addresses;
 use std::alloc::Global;
-use std::net::{Net, TcpListener, TcpStream};
-use std::sync::Wait;
-use std::thread;
-use std::thread::Threads;
-use std::time::Clock;
+use std::net::Net;
 
 /// How many requests of a client may be begun that it wasn't told of.
 const MOST_BEGUN: usize = 64;
@@ -62,28 +55,13 @@ fn machines_of(alloc: Global, asked: &AskedProxy<'_>) -> Result<Vec<ProxyLoop>, 
     Ok(machines)
 }
 
-/// Serves the clients of a proxy, and answers the input beside. Gives how many of them ended without a fault, once all have and the
-/// input has ended.
-pub(crate) fn serve_proxy<
-    R: Net<Listener = TcpListener, Stream = TcpStream> + Threads + Wait + Clock + Input + Print + Sync,
-    E: Hears + Sync,
->(
+/// The loops of a proxy, whose nodes are dialled, and their doors.
+pub(crate) fn open_proxy<R: Net>(
     rt: &R,
     alloc: Global,
-    listener: &TcpListener,
     asked: &AskedProxy<'_>,
-    heard: &Receiver<LoopEvent>,
-    ears: &E,
-) -> Result<u64, Misuse> {
+) -> Result<(Loops<ProxyLoop>, Doors<LoopReport>), Misuse> {
     let nodes = node_addresses(alloc, &routing_of(alloc, asked)?)?;
     let machines = machines_of(alloc, asked)?;
-    let (loops, doors) = open_loops(rt, alloc, machines, nodes.as_slice())?;
-    let watch = ClockWatch::new();
-    let bounds = asked.bounds();
-    let doors = &doors;
-    let watch = &watch;
-    Ok(thread::scope(thread::scope_env(), rt, move |scope| {
-        let _ = scope.spawn(move || answer_all(rt, alloc, doors, heard));
-        serve(rt, alloc, listener, loops, doors, bounds, watch, ears)
-    }))
+    Ok(open_loops(rt, alloc, machines, nodes.as_slice())?)
 }

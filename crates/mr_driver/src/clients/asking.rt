@@ -83,7 +83,11 @@ impl Clients {
     }
 
     /// A client sends no more.
-    fn end_input<R: Net + Clock, E: Hears, M: Machine>(&mut self, engine: &mut Engine<'_, R, E, M>, place: usize) {
+    fn end_input<R: Net + Clock, E: Hears, M: Machine>(
+        &mut self,
+        engine: &mut Engine<'_, R, E, M>,
+        place: usize,
+    ) {
         let held_before = engine.machine.held_back();
         let reading = engine.reading();
         match reading {

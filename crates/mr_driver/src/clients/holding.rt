@@ -173,7 +173,10 @@ impl Clients {
     }
 
     /// Those who are held back go on, the first one first, as long as there is room.
-    fn try_all_held<R: Net + Clock, E: Hears, M: Machine>(&mut self, engine: &mut Engine<'_, R, E, M>) {
+    fn try_all_held<R: Net + Clock, E: Hears, M: Machine>(
+        &mut self,
+        engine: &mut Engine<'_, R, E, M>,
+    ) {
         for _ in 0..MOST_TRIED {
             if !engine.machine.has_room() {
                 return;

@@ -88,7 +88,11 @@ impl Clients {
     }
 
     /// Tells a client what is there for it.
-    fn tell<R: Net + Clock, E: Hears, M: Machine>(&mut self, engine: &mut Engine<'_, R, E, M>, place: usize) {
+    fn tell<R: Net + Clock, E: Hears, M: Machine>(
+        &mut self,
+        engine: &mut Engine<'_, R, E, M>,
+        place: usize,
+    ) {
         let Some(seat) = self.seats.get_mut(place) else {
             return;
         };
@@ -105,7 +109,10 @@ impl Clients {
     }
 
     /// Tells the clients what is there for them.
-    pub(crate) fn tell_all<R: Net + Clock, E: Hears, M: Machine>(&mut self, engine: &mut Engine<'_, R, E, M>) {
+    pub(crate) fn tell_all<R: Net + Clock, E: Hears, M: Machine>(
+        &mut self,
+        engine: &mut Engine<'_, R, E, M>,
+    ) {
         self.find_told(&mut engine.machine);
         for _ in 0..self.told.len() {
             if let Some(place) = self.told.pop_front() {

@@ -21,7 +21,7 @@ fn pause_of(pause: NodePause) -> Pause
     }
 }
 
-impl<C: Cache + Drop> Machine for NodeLoop<C> {
+impl<C: Cache + Drop + Send> Machine for NodeLoop<C> {
     type Report = ServedCounts;
 
     type Links = NoLinks;

@@ -14,7 +14,12 @@ static PIECES: [(u64, &[u8], usize, u64); 7] = [
     (100, b"set c 0 0 1\r\nx\r\nget b a c\r\n", 2, 1),
     (100, b"set d 0 2592001 1\r\nx\r\n", 2, 2),
     (2_592_001, b"set e 0 2592001 1\r\nx\r\n", 2, 2),
-    (100, b"delete c\r\nset e 0 0 1\r\nx\r\nset f 0 0 1\r\nx\r\n", 2, 3),
+    (
+        100,
+        b"delete c\r\nset e 0 0 1\r\nx\r\nset f 0 0 1\r\nx\r\n",
+        2,
+        3,
+    ),
 ];
 
 /// A cache of two items.
