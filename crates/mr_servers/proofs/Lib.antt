@@ -1,2 +1,0 @@
--- Lemmas on what threads are handed.
-mod SendLemmas

@@ -45,7 +45,7 @@ fn machines_of<'a, R: Wait>(
     alloc: Global,
     cache: &'a SharedCache,
     loops: NodeLoops,
-) -> Result<Vec<NodeLoop<CacheDesk<'a, R>>>, AllocError>
+) -> Result<Vec<NodeLoop<CacheDesk<'a, 'a, R>>>, AllocError>
     ensures { IfOk result (λ machines. map parts_of machines.items ≡ replicate loops.count (fresh_parts loops.most_unread)) }
 {
     let count = loops.count as usize;
@@ -66,7 +66,7 @@ fn open_all<'a, R: Net + Wait>(
     alloc: Global,
     cache: &'a SharedCache,
     loops: NodeLoops,
-) -> Result<(Loops<NodeLoop<CacheDesk<'a, R>>>, Doors<ServedCounts>), OpenFault>
+) -> Result<(Loops<NodeLoop<CacheDesk<'a, 'a, R>>>, Doors<ServedCounts>), OpenFault>
     ensures { IfErr result (λ fault. fault ≢ OpenFault.Metrics) }
 {
     let Ok(machines) = machines_of(rt, alloc, cache, loops) else {

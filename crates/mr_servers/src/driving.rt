@@ -53,7 +53,7 @@ pub(crate) enum Running<'a, R: Wait> {
     /// Those of a proxy.
     Proxy(Loops<ProxyLoop>, &'a Doors<LoopReport>),
     /// Those of a node.
-    Node(Loops<NodeLoop<CacheDesk<'a, R>>>, &'a Doors<ServedCounts>),
+    Node(Loops<NodeLoop<CacheDesk<'a, 'a, R>>>, &'a Doors<ServedCounts>),
 }
 
 impl<'a, R: Wait> Drop for Running<'a, R> {
