@@ -61,7 +61,7 @@ fn machines_of<'a, R: Wait>(
 
 /// A loop for each machine. OutOfMemory where memory is refused, Net where they can't be opened for anything else, as for want of
 /// descriptors.
-fn open_all<'a, R: Net + Wait>(
+fn open_all<'a, R: Net + Wait + Sync>(
     rt: &'a R,
     alloc: Global,
     cache: &'a SharedCache,

@@ -49,14 +49,14 @@ pub(crate) struct Nature<'a> {
 }
 
 /// Loops that are to serve clients, with the doors by which they are asked.
-pub(crate) enum Running<'a, R: Wait> {
+pub(crate) enum Running<'a, R: Wait + Sync> {
     /// Those of a proxy.
     Proxy(Loops<ProxyLoop>, &'a Doors<LoopReport>),
     /// Those of a node.
     Node(Loops<NodeLoop<CacheDesk<'a, 'a, R>>>, &'a Doors<ServedCounts>),
 }
 
-impl<'a, R: Wait> Drop for Running<'a, R> {
+impl<'a, R: Wait + Sync> Drop for Running<'a, R> {
     fn drop(self) {
         match self {
             Running::Proxy(_, _) => {}
