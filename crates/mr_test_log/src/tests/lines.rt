@@ -192,9 +192,31 @@ fn service(pools: &[Pool]) -> Service<'_> {
     Service {
         version: "0.10.0",
         address: "127.0.0.1:9000",
-        config: "5f70bf18a08660",
+        config: Some("5f70bf18a08660"),
         pools,
     }
+}
+
+#[test]
+fn a_node_has_no_configuration(rt: HostRuntime) {
+    let node = Service {
+        version: "0.12.0",
+        address: "127.0.0.1:11211",
+        config: None,
+        pools: &[],
+    };
+    let said = Said {
+        happening: Happening::Listens { loops: 2 },
+        more: 0,
+    };
+    let wanted = Row {
+        happening: said.happening,
+        more: 0,
+        at: None,
+        text: "- listens at 127.0.0.1:11211, loops 2, version 0.12.0",
+    };
+    let line = must(&rt, line_of(rt.alloc(), &said, None, &node));
+    reads(&rt, 0, &line, &wanted);
 }
 
 #[test]
