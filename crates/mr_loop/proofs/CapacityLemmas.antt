@@ -7,7 +7,7 @@ use Rattle.mr_text.specs.declared.request.Request.{Request}
 use Rattle.mr_text.specs.declared.request.Request.TheVariants.{Get, Set, Delete, Quit}
 use Rattle.mr_join.specs.declared.leg_reply.LegReply.{LegReply}
 use Rattle.mr_node.specs.declared.command.NodeCommand.{NodeCommand}
-use Rattle.mr_node.specs.Outcome.{Gets, LooksUp, FailsToLookUp, StopsAtKey, GetOutcome, CommandOutcome, OutcomeAt}
+use Rattle.mr_node.specs.Outcome.{Gets, LooksUp, FailsToLookUp, GetOutcome, CommandOutcome, OutcomeAt}
 use Rattle.mr_node.specs.Recency.{CacheView, RecencyStep}
 
 -- a command for which memory was refused changes nothing
