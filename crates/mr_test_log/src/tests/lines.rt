@@ -172,6 +172,14 @@ static ROWS: [Row; 21] = [
     },
 ];
 
+/// A line of a node, which has no configuration.
+static OF_A_NODE: Row = Row {
+    happening: Happening::Listens { loops: 2 },
+    more: 0,
+    at: None,
+    text: "- listens at 127.0.0.1:11211, loops 2, version 0.12.0",
+};
+
 /// The pools of 7001 and 7002, and of 7101 to 7103.
 fn pools(rt: &impl Abort, alloc: Global) -> [Pool; 2] {
     let old = pool(alloc, &[b"127.0.0.1:7001", b"127.0.0.1:7002"]);
@@ -206,17 +214,11 @@ fn a_node_has_no_configuration(rt: HostRuntime) {
         pools: &[],
     };
     let said = Said {
-        happening: Happening::Listens { loops: 2 },
-        more: 0,
+        happening: OF_A_NODE.happening,
+        more: OF_A_NODE.more,
     };
-    let wanted = Row {
-        happening: said.happening,
-        more: 0,
-        at: None,
-        text: "- listens at 127.0.0.1:11211, loops 2, version 0.12.0",
-    };
-    let line = must(&rt, line_of(rt.alloc(), &said, None, &node));
-    reads(&rt, 0, &line, &wanted);
+    let line = must(&rt, line_of(rt.alloc(), &said, OF_A_NODE.at, &node));
+    reads(&rt, 0, &line, &OF_A_NODE);
 }
 
 #[test]
