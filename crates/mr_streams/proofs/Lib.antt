@@ -1,0 +1,7 @@
+mod Lists
+mod Spellings
+mod Runs
+mod Returning
+mod Taking
+mod Caches
+mod Performing

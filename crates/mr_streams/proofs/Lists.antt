@@ -1,0 +1,73 @@
+-- Elements of lists that grow or change at one place, and two cuts of the same bytes.
+use Rattle.std.proofs.Common.{◌≡◌, ◌≢◌, ℕ, zero, suc, ◌+◌, ◌⊎◌, inl, inr, List, [], ◌∷◌, ◌++◌, length, map, slice_get, slice_set, Some, refl, sym, ap, ◌∙◌, arith}
+use Rattle.mr_history.specs.Places.{At}
+
+got_left : {X : Type 0} (xs ys : List X) (i : ℕ) (x : X) → slice_get xs i ≡ Some x → slice_get (xs ++ ys) i ≡ Some x
+got_left [] ys i x e = cc
+got_left (z ∷ xs) ys zero x e = e
+got_left (z ∷ xs) ys (suc i) x e = got_left xs ys i x e
+
+-- a list that grew has what it had
+pub at_left : {X : Type 0} {xs : List X} (ys : List X) {i : ℕ} {x : X} → At xs i x → At (xs ++ ys) i x
+at_left {xs = xs} ys {i = i} {x = x} h = record { gets = got_left xs ys i x h.gets }
+
+got_new : {X : Type 0} (xs : List X) (y : X) → slice_get (xs ++ y ∷ []) (length xs) ≡ Some y
+got_new [] y = refl
+got_new (z ∷ xs) y = got_new xs y
+
+-- the new element stands behind the others
+pub at_new : {X : Type 0} (xs : List X) (y : X) → At (xs ++ y ∷ []) (length xs) y
+at_new xs y = record { gets = got_new xs y }
+
+got_written : {X : Type 0} (xs : List X) (k : ℕ) (v w : X) → slice_get xs k ≡ Some w → slice_get (slice_set xs k v) k ≡ Some v
+got_written [] k v w g = cc
+got_written (z ∷ xs) zero v w g = refl
+got_written (z ∷ xs) (suc k) v w g = got_written xs k v w g
+
+-- what was written stands there
+pub at_written : {X : Type 0} {xs : List X} {k : ℕ} {w : X} (v : X) → At xs k w → At (slice_set xs k v) k v
+at_written {xs = xs} {k = k} {w = w} v h = record { gets = got_written xs k v w h.gets }
+
+set_back : {X : Type 0} (xs : List X) (k : ℕ) (v : X) → slice_get xs k ≡ Some v → slice_set xs k v ≡ xs
+set_back [] k v e = refl
+set_back (z ∷ xs) zero v e = let same : z ≡ v = cc in ap (λ y. y ∷ xs) (sym same)
+set_back (z ∷ xs) (suc k) v e = ap (λ ys. z ∷ ys) (set_back xs k v e)
+
+-- what stands there already is written without a change
+pub written_back : {X : Type 0} {xs : List X} {k : ℕ} {v : X} → At xs k v → slice_set xs k v ≡ xs
+written_back {xs = xs} {k = k} {v = v} h = set_back xs k v h.gets
+
+got_set : {X : Type 0} (xs : List X) (k : ℕ) (v : X) (i : ℕ) (x : X) → slice_get (slice_set xs k v) i ≡ Some x
+    → ((i ≡ k) × (x ≡ v)) ⊎ ((i ≢ k) × (slice_get xs i ≡ Some x))
+got_set [] k v i x e = cc
+got_set (z ∷ xs) zero v zero x e = inl (refl, cc)
+got_set (z ∷ xs) zero v (suc i) x e = inr (λ (h : suc i ≡ 0). absurd (omega arith), e)
+got_set (z ∷ xs) (suc k) v zero x e = inr (λ (h : 0 ≡ suc k). absurd (omega arith), e)
+got_set (z ∷ xs) (suc k) v (suc i) x e =
+    elim (got_set xs k v i x e) [
+      | inl h ↦ inl (ap suc h.0, h.1)
+      | inr h ↦ inr (λ (same : suc i ≡ suc k). h.0 (omega arith), h.1)
+    ]
+
+-- after a write the list has the new element at its place, and the old ones elsewhere
+pub at_set : {X : Type 0} (xs : List X) (k : ℕ) (v : X) {i : ℕ} {x : X} → At (slice_set xs k v) i x → ((i ≡ k) × (x ≡ v)) ⊎ ((i ≢ k) × At xs i x)
+at_set xs k v {i = i} {x = x} h = elim (got_set xs k v i x h.gets) [ inl e ↦ inl e | inr e ↦ inr (e.0, record { gets = e.1 }) ]
+
+-- the first of two cuts is no later than the other
+abbrev pub IsEarlierCut : List ℕ → List ℕ → List ℕ → List ℕ → Type 0
+IsEarlierCut xs ys zs ws = (t : List ℕ) × (zs ≡ xs ++ t) × (ys ≡ t ++ ws)
+
+cut_behind : (x z : ℕ) (xs ys zs ws : List ℕ) → x ≡ z → IsEarlierCut xs ys zs ws → IsEarlierCut (x ∷ xs) ys (z ∷ zs) ws
+cut_behind x z xs ys zs ws same (t, is, left) = (t, ap (λ n. n ∷ zs) (sym same) ∙ ap (λ (l : List ℕ). x ∷ l) is, left)
+
+-- of two cuts of the same bytes one is the earlier
+pub two_cuts : (xs ys zs ws : List ℕ) → xs ++ ys ≡ zs ++ ws → IsEarlierCut xs ys zs ws ⊎ IsEarlierCut zs ws xs ys
+two_cuts [] ys zs ws same = inl (zs, refl, same)
+two_cuts (x ∷ xs) ys [] ws same = inr (x ∷ xs, refl, sym same)
+two_cuts (x ∷ xs) ys (z ∷ zs) ws same =
+    let first : x ≡ z = cc in
+    let later : xs ++ ys ≡ zs ++ ws = cc in
+    elim (two_cuts xs ys zs ws later) [
+      | inl one ↦ inl (cut_behind x z xs ys zs ws first one)
+      | inr one ↦ inr (cut_behind z x zs ws xs ys (sym first) one)
+    ]

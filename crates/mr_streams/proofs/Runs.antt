@@ -1,0 +1,140 @@
+-- Runs of a fleet in which one proxy takes replies and gives requests up: nothing changes but that proxy and the answers.
+use Rattle.std.proofs.Common.{◌≡◌, ℕ, Bool, true, false, List, [], ◌∷◌, ◌++◌, slice_set, Option, Some, None, if◌then◌else◌, refl, sym, ap, ◌∙◌, subst, append_assoc, inl, inr}
+use Rattle.std.proofs.lemmas.List.{append-nil, set-set}
+use Rattle.mr_clock.specs.Readings.{Tick}
+use Rattle.mr_text.specs.declared.reply.Reply.{Reply}
+use Rattle.mr_history.specs.Places.{At}
+use Rattle.mr_history.specs.declared.entry.Entry.{Entry}
+use Rattle.mr_history.specs.declared.entry.Entry.TheVariants as entry
+use Rattle.mr_history.specs.declared.op_id.OpId.{OpId}
+use Rattle.mr_node.specs.Output.{is_silent}
+use Rattle.mr_proxy.specs.Answer.{AnswerView, answer_of, reply_of}
+use Rattle.mr_proxy.specs.Pending.{PendingView}
+use Rattle.mr_proxy.specs.ProxyView.{ProxyView}
+use Rattle.mr_proxy.specs.Transitions.{place_of_op, pending_with, left_by, after_give_up, given_up_in, given_up_of}
+use Rattle.mr_proxy.specs.declared.taken.Taken.{Taken}
+use Rattle.mr_proxy.specs.declared.taken.Taken.TheVariants as taken
+use Rattle.mr_world.specs.Steps.{answered, answered_by}
+use Rattle.mr_world.specs.WorldView.{WorldView}
+use Rattle.mr_world.specs.declared.event.Event.TheVariants.{GiveUp}
+use Rattle.mr_world.specs.declared.note.Note.TheVariants as note
+use Rattle.mr_streams.specs.Fleet.{FleetEvent, FleetStep, FleetRun, ticks_in, ticks_of}
+use Rattle.mr_streams.specs.OneProxy.{GainsAnswers, RunsSo}
+use Rattle.mr_streams.specs.Refines.{Tells}
+use Rattle.mr_streams.proofs.Lists.{at_written, written_back}
+
+-- it tells all that the old one told
+pub still_tells : (old new heard : List Entry) → GainsAnswers old new → Tells old heard → Tells new heard
+still_tells old new heard GainsAnswers.same tells = tells
+still_tells old new heard (GainsAnswers.more {new = between} op reply gains) tells = Tells.knows op reply (still_tells old between heard gains tells)
+
+pub gains_both : (a b c : List Entry) → GainsAnswers a b → GainsAnswers b c → GainsAnswers a c
+gains_both a b c one GainsAnswers.same = one
+gains_both a b c one (GainsAnswers.more {new = between} op reply other) = GainsAnswers.more op reply (gains_both a b between one other)
+
+gains_nothing : (old : List Entry) → GainsAnswers old (old ++ [])
+gains_nothing old = subst (λ h. GainsAnswers old h) (sym (append-nil old)) GainsAnswers.same
+
+gains_unless : (old : List Entry) (answer : AnswerView) (silent : Bool) → GainsAnswers old (old ++ (if silent then [] else entry.Answered answer.op (reply_of answer) ∷ []))
+gains_unless old answer true = gains_nothing old
+gains_unless old answer false = GainsAnswers.more answer.op (reply_of answer) GainsAnswers.same
+
+pub gains_answer : (old : List Entry) (answer : AnswerView) → GainsAnswers old (old ++ answered answer)
+gains_answer old answer = gains_unless old answer (is_silent answer.request)
+
+pub gains_taken : (old : List Entry) (t : Taken) → GainsAnswers old (old ++ answered_by t)
+gains_taken old taken.Waiting = gains_nothing old
+gains_taken old (taken.Answered answer) = gains_answer old answer
+gains_taken old (taken.Stranger reply) = gains_nothing old
+
+-- nothing happens
+pub stays : (w : WorldView) (number : ℕ) (core : ProxyView) → At w.proxies number core → RunsSo w number core
+stays w number core there = record {
+  world = w;
+  events = [];
+  run = refl;
+  proxies = sym (written_back there);
+  sent = refl;
+  replies = refl;
+  nodes = refl;
+  readings = refl;
+  gains = GainsAnswers.same;
+  ticks = refl;
+}
+
+pub run_append : (es fs : List FleetEvent) (a b c : WorldView) → FleetRun a es b → FleetRun b fs c → FleetRun a (es ++ fs) c
+run_append [] fs a b c h k = subst (λ x. FleetRun x fs c) h k
+run_append (e ∷ es) fs a b c h k = (h.0, h.1, run_append es fs h.0 b c h.2 k)
+
+pub ticks_append : (es fs : List FleetEvent) → ticks_of (es ++ fs) ≡ ticks_of es ++ ticks_of fs
+ticks_append [] fs = refl
+ticks_append (e ∷ es) fs = ap (λ t. ticks_in e ++ t) (ticks_append es fs) ∙ sym (append_assoc (ticks_in e) (ticks_of es) (ticks_of fs))
+
+-- where the proxy stands in the end
+pub stands : (w : WorldView) (number : ℕ) (old core : ProxyView) (h : RunsSo w number core) → At w.proxies number old → At h.world.proxies number core
+stands w number old core h there = subst (λ p. At p number core) (sym h.proxies) (at_written core there)
+
+-- one run behind the other
+pub runs_on : (w : WorldView) (number : ℕ) (core last : ProxyView) (h : RunsSo w number core) → RunsSo h.world number last → RunsSo w number last
+runs_on w number core last h k = record {
+  world = k.world;
+  events = h.events ++ k.events;
+  run = run_append h.events k.events w h.world k.world h.run k.run;
+  proxies = k.proxies ∙ ap (λ p. slice_set p number last) h.proxies ∙ set-set w.proxies number core last;
+  sent = k.sent ∙ h.sent;
+  replies = k.replies ∙ h.replies;
+  nodes = k.nodes ∙ h.nodes;
+  readings = k.readings ∙ h.readings;
+  gains = gains_both w.history h.world.history k.world.history h.gains k.gains;
+  ticks = ticks_append h.events k.events ∙ ap (λ t. t ++ ticks_of k.events) h.ticks ∙ k.ticks;
+}
+
+-- the core is so by another word
+pub runs_to : (w : WorldView) (number : ℕ) (core other : ProxyView) → core ≡ other → RunsSo w number core → RunsSo w number other
+runs_to w number core other e h = subst (λ c. RunsSo w number c) e h
+
+-- the fleet after an event that changes one proxy and brings these entries
+abbrev pub with_proxy : WorldView → ℕ → ProxyView → List Entry → WorldView
+with_proxy w number core gains = record w { proxies = slice_set w.proxies number core; history = w.history ++ gains }
+
+-- one event
+pub one_event : (w : WorldView) (number : ℕ) (core : ProxyView) (gains : List Entry) (event : FleetEvent)
+    → FleetStep w event (with_proxy w number core gains) → ticks_in event ≡ [] → GainsAnswers w.history (w.history ++ gains) → RunsSo w number core
+one_event w number core gains event step quiet only = record {
+  world = with_proxy w number core gains;
+  events = event ∷ [];
+  run = (with_proxy w number core gains, step, refl);
+  proxies = refl;
+  sent = refl;
+  replies = refl;
+  nodes = refl;
+  readings = refl;
+  gains = only;
+  ticks = append-nil (ticks_in event) ∙ quiet;
+}
+
+give_up_by : (w : WorldView) (number : ℕ) (core : ProxyView) (op : OpId) (o : Option PendingView)
+    → At w.proxies number core → op.proxy ≡ number → pending_with core.outstanding op ≡ o → RunsSo w number (after_give_up core op)
+give_up_by w number core op None there own e =
+    runs_to w number core (after_give_up core op) (sym (ap (λ o. left_by core (place_of_op core.outstanding op) o) e)) (stays w number core there)
+give_up_by w number core op (Some pending) there own e =
+    let answer : AnswerView = answer_of pending true in
+    let home = subst (λ n. At w.proxies n core) (sym own) there in
+    let gives : given_up_of core op ≡ Some answer = ap given_up_in e in
+    let same : slice_set w.proxies number (after_give_up core op) ≡ slice_set w.proxies op.proxy (after_give_up core op) =
+    ap (λ n. slice_set w.proxies n (after_give_up core op)) (sym own) in
+    one_event w number (after_give_up core op) (answered answer) (FleetEvent.Happens (GiveUp op))
+    (note.Answered op, record {
+      proxy = core;
+      answer = answer;
+      home = home;
+      gives = gives;
+      tells = refl;
+      becomes = ap (λ p. record w { proxies = p; history = w.history ++ answered answer }) same;
+    })
+    refl (gains_answer w.history answer)
+
+-- a request is given up, or wasn't under way
+pub gives_up : (w : WorldView) (number : ℕ) (core : ProxyView) (op : OpId) → At w.proxies number core → op.proxy ≡ number
+    → RunsSo w number (after_give_up core op)
+gives_up w number core op there own = give_up_by w number core op (pending_with core.outstanding op) there own refl
