@@ -145,7 +145,7 @@ stopped old new now key cause s =
     let first = append_first s.done s.later key s.key s.splits in
     let none = gets_none now old s.between s.done s.found s.gets first in
     elim s.fails [
-      | inl failed ↦ absurd (never_fails now s.key s.between.items (live_item now s.key s.between.items) cause failed.answers)
+      | inl fault ↦ absurd (never_fails now s.key s.between.items (live_item now s.key s.between.items) cause fault.answers)
       | inr lost ↦ (elim lost.1 [ inl same ↦ same ∙ none.0 | inr same ↦ same ∙ none.0 ], lost.0)
     ]
 

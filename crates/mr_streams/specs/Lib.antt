@@ -9,3 +9,4 @@ pub mod Flows
 pub mod Kept
 pub mod OneProxy
 pub mod OneLink
+pub mod OneNode

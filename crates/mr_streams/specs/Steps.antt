@@ -1,5 +1,6 @@
 -- What each thing that happens does to streams: the machines' own steps, and where the bytes go.
 use Rattle.std.specs.Prelude.{◌≡◌, ◌≢◌, ◌==◌, ◌&&◌, not, ◌⊎◌, ℕ, ◌^◌, ◌-◌, ◌<◌, Bool, true, false, List, [], ◌∷◌, ◌++◌, length, map, slice_get, slice_set, Option, Some, None, is_some, IsTrue, if◌then◌else◌}
+use mathlib.Core.Logic.{inl, inr}
 use Rattle.std.specs.List.{flat_map, AllByRecursion}
 use Rattle.mr_clock.specs.Readings.{readings_after}
 use Rattle.mr_history.specs.declared.entry.Entry.{Entry}
@@ -140,7 +141,8 @@ pub record ReachesProxy (old : StreamsView) (number now : ℕ) (new : StreamsVie
 
 -- what a node stored while it served a client
 abbrev pub Stores : List Entry → {old new : Seat CacheView} → {reading most : ℕ} → ServesSome node_does reading most old new ⊎ IsOver old new → List Entry → Type 0
-Stores history serves gains = elim serves [ inl some ↦ StoresAll history some.exchanges gains | inr over ↦ gains ≡ [] ]
+Stores history (inl some) gains = StoresAll history some.exchanges gains
+Stores history (inr over) gains = gains ≡ []
 
 -- the first bytes on their way to a node reach it: it serves what is whole, whether or not the proxy has left
 pub record ReachesNode (old : StreamsView) (number now : ℕ) (new : StreamsView) : Type 0 where
