@@ -5,3 +5,5 @@ mod Returning
 mod Taking
 mod Caches
 mod Performing
+mod Exchanges
+mod Delivering
