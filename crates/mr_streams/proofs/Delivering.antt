@@ -72,7 +72,7 @@ replies_both messages deliveries (sent ∷ legs) others bytes later h k =
     replies_both messages deliveries legs others h.1 later h.5 k)
 
 -- nothing happens
-pub serves_nothing : (w : WorldView) (number : ℕ) (name : List ℕ) (cache : CacheView) (heard heard' : List Entry) → At w.nodes number (holding name cache) → heard' ≡ heard
+abbrev pub serves_nothing : (w : WorldView) (number : ℕ) (name : List ℕ) (cache : CacheView) (heard heard' : List Entry) → At w.nodes number (holding name cache) → heard' ≡ heard
     → ServesSo w number name cache heard heard'
 serves_nothing w number name cache heard heard' there same = record {
   world = w;

@@ -7,3 +7,4 @@ mod Caches
 mod Performing
 mod Exchanges
 mod Delivering
+mod Serving

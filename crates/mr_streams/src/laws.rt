@@ -1,7 +1,12 @@
 //! What holds of a fleet as streams of bytes.
 ghost use Rattle.mr_streams.specs.OneLink.{RepliesComeBack, LinksGiveUp};
+ghost use Rattle.mr_streams.specs.OneNode.{RequestsAreDelivered};
 
-use mr_text::laws::{canonical_reply_is_read, replies_are_prefix_free};
+use mr_text::laws::{
+    canonical_reply_is_read, canonical_request_is_read, no_request_is_refused,
+    nothing_is_unfinished, replies_are_prefix_free, requests_are_prefix_free,
+    skipped_lines_are_refused,
+};
 
 /// Whatever bytes come over a link, in whatever pieces: each reply is that of its leg, and what the core makes of them is some
 /// events of the world, in which a leg may fail.
@@ -16,3 +21,15 @@ pub fn replies_come_back()
 pub fn links_give_up()
     ensures { LinksGiveUp }
 {}
+
+/// Whatever bytes reach a node over a connection, in whatever pieces: each request that is whole is the message of its leg,
+/// delivered, and its reply is on its way back behind the others.
+pub fn requests_are_delivered()
+    ensures { RequestsAreDelivered }
+{
+    requests_are_prefix_free();
+    canonical_request_is_read();
+    no_request_is_refused();
+    skipped_lines_are_refused();
+    nothing_is_unfinished();
+}
