@@ -8,3 +8,4 @@ mod Performing
 mod Exchanges
 mod Delivering
 mod Serving
+mod Mirrors

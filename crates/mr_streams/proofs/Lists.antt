@@ -71,3 +71,52 @@ two_cuts (x ∷ xs) ys (z ∷ zs) ws same =
       | inl one ↦ inl (cut_behind x z xs ys zs ws first one)
       | inr one ↦ inr (cut_behind z x zs ws xs ys (sym first) one)
     ]
+
+got_map : {X Y : Type 0} (f : X → Y) (xs : List X) (i : ℕ) (y : Y) → slice_get (map f xs) i ≡ Some y → (x : X) × (slice_get xs i ≡ Some x) × (y ≡ f x)
+got_map f [] i y e = cc
+got_map f (z ∷ xs) zero y e = (z, refl, cc)
+got_map f (z ∷ xs) (suc i) y e = got_map f xs i y e
+
+-- what a changed list has is a changed element
+pub at_map : {X Y : Type 0} (f : X → Y) (xs : List X) {i : ℕ} {y : Y} → At (map f xs) i y → (x : X) × At xs i x × (y ≡ f x)
+at_map f xs {i = i} {y = y} h = let g = got_map f xs i y h.gets in (g.0, record { gets = g.1 }, g.2)
+
+mapped : {X Y : Type 0} (f : X → Y) (xs : List X) (i : ℕ) (x : X) → slice_get xs i ≡ Some x → slice_get (map f xs) i ≡ Some (f x)
+mapped f [] i x e = cc
+mapped f (z ∷ xs) zero x e = let same : z ≡ x = cc in ap (λ y. Some (f y)) same
+mapped f (z ∷ xs) (suc i) x e = mapped f xs i x e
+
+-- and each changed element stands there
+pub at_mapped : {X Y : Type 0} (f : X → Y) {xs : List X} {i : ℕ} {x : X} → At xs i x → At (map f xs) i (f x)
+at_mapped f {xs = xs} {i = i} {x = x} h = record { gets = mapped f xs i x h.gets }
+
+got_elsewhere : {X : Type 0} (xs : List X) (k : ℕ) (v : X) (i : ℕ) (x : X) → i ≢ k → slice_get xs i ≡ Some x → slice_get (slice_set xs k v) i ≡ Some x
+got_elsewhere [] k v i x ne e = e
+got_elsewhere (z ∷ xs) zero v zero x ne e = absurd (ne refl)
+got_elsewhere (z ∷ xs) zero v (suc i) x ne e = e
+got_elsewhere (z ∷ xs) (suc k) v zero x ne e = e
+got_elsewhere (z ∷ xs) (suc k) v (suc i) x ne e = got_elsewhere xs k v i x (λ s. ne (ap suc s)) e
+
+-- what stands elsewhere stays
+pub at_elsewhere : {X : Type 0} {xs : List X} {k i : ℕ} {x : X} (v : X) → i ≢ k → At xs i x → At (slice_set xs k v) i x
+at_elsewhere {xs = xs} {k = k} {i = i} {x = x} v ne h = record { gets = got_elsewhere xs k v i x ne h.gets }
+
+-- a list has one element at a place
+pub at_one : {X : Type 0} {xs : List X} {i : ℕ} {x y : X} → At xs i x → At xs i y → x ≡ y
+at_one h k = let e = h.gets in let f = k.gets in cc
+
+pub same_or_not : (n i : ℕ) → (n ≡ i) ⊎ (n ≢ i)
+same_or_not zero zero = inl refl
+same_or_not zero (suc i) = inr (λ e. omega arith)
+same_or_not (suc n) zero = inr (λ e. omega arith)
+same_or_not (suc n) (suc i) = elim (same_or_not n i) [ inl e ↦ inl (ap suc e) | inr ne ↦ inr (λ e. ne (omega arith)) ]
+
+got_last : {X : Type 0} (xs : List X) (y : X) (i : ℕ) (x : X) → slice_get (xs ++ y ∷ []) i ≡ Some x → (slice_get xs i ≡ Some x) ⊎ ((i ≡ length xs) × (x ≡ y))
+got_last [] y zero x e = inr (refl, cc)
+got_last [] y (suc i) x e = cc
+got_last (z ∷ xs) y zero x e = inl e
+got_last (z ∷ xs) y (suc i) x e = elim (got_last xs y i x e) [ inl h ↦ inl h | inr h ↦ inr (ap suc h.0, h.1) ]
+
+-- what a list with one more has
+pub at_last : {X : Type 0} (xs : List X) (y : X) {i : ℕ} {x : X} → At (xs ++ y ∷ []) i x → (At xs i x) ⊎ ((i ≡ length xs) × (x ≡ y))
+at_last xs y {i = i} {x = x} h = elim (got_last xs y i x h.gets) [ inl e ↦ inl (record { gets = e }) | inr e ↦ inr e ]

@@ -27,7 +27,7 @@ use Rattle.mr_world.specs.declared.message.Delivery.{Delivery}
 use Rattle.mr_streams.specs.Fleet.{FleetEvent}
 use Rattle.mr_streams.specs.Flows.{AreReplies, WasAnswered, WasDelivered, IsError, AreOf}
 use Rattle.mr_streams.specs.OneProxy.{RunsSo}
-use Rattle.mr_streams.proofs.Runs.{stays, stands, runs_on, runs_to, one_event, with_proxy, gains_taken}
+use Rattle.mr_streams.proofs.Runs.{stays, stands, runs_on, runs_to, one_event, with_proxy, gains_taken, kin_there, kin_taken}
 use Rattle.mr_streams.proofs.Spellings.{ReplyLaws, first_reply, reply_has_bytes}
 
 found_once : (key : List ℕ) (items : List Item) (a b : LegReply) → FindsItemOf key items a → FindsItemOf key items b → a ≡ b
@@ -89,7 +89,7 @@ fails_one w number core id cause said there own e =
       home = subst (λ n. At w.proxies n core) (sym own) there;
       becomes = ap (λ p. record w { proxies = p; history = w.history ++ gains }) same;
     })
-    refl (gains_taken w.history (taken_of core id (Failed cause))))
+    refl (gains_taken w.history (taken_of core id (Failed cause))) (kin_there w number core (after_take core id (Failed cause)) there (kin_taken core id (Failed cause))))
 
 returns_one : (w : WorldView) (number : ℕ) (core : ProxyView) (sent : SentLeg) (reply : Reply)
     → At w.proxies number core → sent.leg.id.op.proxy ≡ number → (d : WasDelivered w.sent w.replies sent reply)
@@ -113,7 +113,7 @@ returns_one w number core sent reply there own d =
       tells = refl;
       becomes = refl;
     })
-    refl (gains_taken w.history (taken_of core id d.said)))
+    refl (gains_taken w.history (taken_of core id d.said)) (kin_there w number core (after_take core id d.said) there (kin_taken core id d.said)))
 
 pub takes_one : (messages : List Message) (deliveries : List Delivery) (w : WorldView) (number : ℕ) (core : ProxyView) (sent : SentLeg) (reply : Reply) (said : LegReply)
     → w.sent ≡ messages → w.replies ≡ deliveries → At w.proxies number core → sent.leg.id.op.proxy ≡ number

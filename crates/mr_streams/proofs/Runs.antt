@@ -1,5 +1,5 @@
 -- Runs of a fleet in which one proxy takes replies and gives requests up: nothing changes but that proxy and the answers.
-use Rattle.std.proofs.Common.{◌≡◌, ℕ, Bool, true, false, List, [], ◌∷◌, ◌++◌, slice_set, Option, Some, None, if◌then◌else◌, refl, sym, ap, ◌∙◌, subst, append_assoc, inl, inr}
+use Rattle.std.proofs.Common.{◌≡◌, ℕ, Bool, true, false, List, [], ◌∷◌, ◌++◌, slice_set, remove, Option, Some, None, if◌then◌else◌, refl, sym, ap, ◌∙◌, subst, append_assoc, inl, inr}
 use Rattle.std.proofs.lemmas.List.{append-nil, set-set}
 use Rattle.mr_clock.specs.Readings.{Tick}
 use Rattle.mr_text.specs.declared.reply.Reply.{Reply}
@@ -9,9 +9,11 @@ use Rattle.mr_history.specs.declared.entry.Entry.TheVariants as entry
 use Rattle.mr_history.specs.declared.op_id.OpId.{OpId}
 use Rattle.mr_node.specs.Output.{is_silent}
 use Rattle.mr_proxy.specs.Answer.{AnswerView, answer_of, reply_of}
-use Rattle.mr_proxy.specs.Pending.{PendingView}
+use Rattle.mr_join.specs.declared.leg_reply.LegReply.{LegReply}
+use Rattle.mr_proxy.specs.Pending.{PendingView, is_complete}
+use Rattle.mr_proxy.specs.declared.sheet.LegId.{LegId}
 use Rattle.mr_proxy.specs.ProxyView.{ProxyView}
-use Rattle.mr_proxy.specs.Transitions.{place_of_op, pending_with, left_by, after_give_up, given_up_in, given_up_of}
+use Rattle.mr_proxy.specs.Transitions.{place_of_op, pending_with, noted_by, settled, left_by, after_give_up, after_take, given_up_in, given_up_of}
 use Rattle.mr_proxy.specs.declared.taken.Taken.{Taken}
 use Rattle.mr_proxy.specs.declared.taken.Taken.TheVariants as taken
 use Rattle.mr_world.specs.Steps.{answered, answered_by}
@@ -19,9 +21,9 @@ use Rattle.mr_world.specs.WorldView.{WorldView}
 use Rattle.mr_world.specs.declared.event.Event.TheVariants.{GiveUp}
 use Rattle.mr_world.specs.declared.note.Note.TheVariants as note
 use Rattle.mr_streams.specs.Fleet.{FleetEvent, FleetStep, FleetRun, ticks_in, ticks_of}
-use Rattle.mr_streams.specs.OneProxy.{GainsAnswers, RunsSo}
+use Rattle.mr_streams.specs.OneProxy.{GainsAnswers, IsKin, RunsSo}
 use Rattle.mr_streams.specs.Refines.{Tells}
-use Rattle.mr_streams.proofs.Lists.{at_written, written_back}
+use Rattle.mr_streams.proofs.Lists.{at_one, at_written, written_back}
 
 -- it tells all that the old one told
 pub still_tells : (old new heard : List Entry) → GainsAnswers old new → Tells old heard → Tells new heard
@@ -47,6 +49,35 @@ gains_taken old taken.Waiting = gains_nothing old
 gains_taken old (taken.Answered answer) = gains_answer old answer
 gains_taken old (taken.Stranger reply) = gains_nothing old
 
+pub kin_same : (old : ProxyView) → IsKin old old
+kin_same old = record { number = refl; routing = refl; schedule = refl }
+
+pub kin_on : (a b c : ProxyView) → IsKin a b → IsKin b c → IsKin a c
+kin_on a b c h k = record { number = k.number ∙ h.number; routing = k.routing ∙ h.routing; schedule = k.schedule ∙ h.schedule }
+
+-- what keeps one proxy of a number keeps each that stands there
+pub kin_there : (w : WorldView) (number : ℕ) (there core : ProxyView) → At w.proxies number there → IsKin there core → (old : ProxyView) → At w.proxies number old → IsKin old core
+kin_there w number there core at is = λ old h. subst (λ c. IsKin c core) (at_one at h) is
+
+kin_left : (p : ProxyView) (place : ℕ) (o : Option PendingView) → IsKin p (left_by p place o)
+kin_left p place None = kin_same p
+kin_left p place (Some pending) = record { number = refl; routing = refl; schedule = refl }
+
+pub kin_given_up : (p : ProxyView) (op : OpId) → IsKin p (after_give_up p op)
+kin_given_up p op = kin_left p (place_of_op p.outstanding op) (pending_with p.outstanding op)
+
+kin_settled_if : (p : ProxyView) (place : ℕ) (pending : PendingView) (b : Bool)
+    → IsKin p (if b then record p { outstanding = remove p.outstanding place } else record p { outstanding = slice_set p.outstanding place pending })
+kin_settled_if p place pending true = record { number = refl; routing = refl; schedule = refl }
+kin_settled_if p place pending false = record { number = refl; routing = refl; schedule = refl }
+
+kin_settled : (p : ProxyView) (place : ℕ) (o : Option PendingView) → IsKin p (settled p place o)
+kin_settled p place None = kin_same p
+kin_settled p place (Some pending) = kin_settled_if p place pending (is_complete pending)
+
+pub kin_taken : (p : ProxyView) (id : LegId) (reply : LegReply) → IsKin p (after_take p id reply)
+kin_taken p id reply = kin_settled p (place_of_op p.outstanding id.op) (noted_by p id reply)
+
 -- nothing happens
 pub stays : (w : WorldView) (number : ℕ) (core : ProxyView) → At w.proxies number core → RunsSo w number core
 stays w number core there = record {
@@ -60,6 +91,7 @@ stays w number core there = record {
   readings = refl;
   gains = GainsAnswers.same;
   ticks = refl;
+  kin = kin_there w number core core there (kin_same core);
 }
 
 pub run_append : (es fs : List FleetEvent) (a b c : WorldView) → FleetRun a es b → FleetRun b fs c → FleetRun a (es ++ fs) c
@@ -87,6 +119,7 @@ runs_on w number core last h k = record {
   readings = k.readings ∙ h.readings;
   gains = gains_both w.history h.world.history k.world.history h.gains k.gains;
   ticks = ticks_append h.events k.events ∙ ap (λ t. t ++ ticks_of k.events) h.ticks ∙ k.ticks;
+  kin = λ old there. kin_on old core last (h.kin old there) (k.kin core (stands w number old core h there));
 }
 
 -- the core is so by another word
@@ -99,8 +132,9 @@ with_proxy w number core gains = record w { proxies = slice_set w.proxies number
 
 -- one event
 pub one_event : (w : WorldView) (number : ℕ) (core : ProxyView) (gains : List Entry) (event : FleetEvent)
-    → FleetStep w event (with_proxy w number core gains) → ticks_in event ≡ [] → GainsAnswers w.history (w.history ++ gains) → RunsSo w number core
-one_event w number core gains event step quiet only = record {
+    → FleetStep w event (with_proxy w number core gains) → ticks_in event ≡ [] → GainsAnswers w.history (w.history ++ gains)
+    → ((old : ProxyView) → At w.proxies number old → IsKin old core) → RunsSo w number core
+one_event w number core gains event step quiet only kin = record {
   world = with_proxy w number core gains;
   events = event ∷ [];
   run = (with_proxy w number core gains, step, refl);
@@ -111,6 +145,7 @@ one_event w number core gains event step quiet only = record {
   readings = refl;
   gains = only;
   ticks = append-nil (ticks_in event) ∙ quiet;
+  kin = kin;
 }
 
 give_up_by : (w : WorldView) (number : ℕ) (core : ProxyView) (op : OpId) (o : Option PendingView)
@@ -132,7 +167,7 @@ give_up_by w number core op (Some pending) there own e =
       tells = refl;
       becomes = ap (λ p. record w { proxies = p; history = w.history ++ answered answer }) same;
     })
-    refl (gains_answer w.history answer)
+    refl (gains_answer w.history answer) (kin_there w number core (after_give_up core op) there (kin_given_up core op))
 
 -- a request is given up, or wasn't under way
 pub gives_up : (w : WorldView) (number : ℕ) (core : ProxyView) (op : OpId) → At w.proxies number core → op.proxy ≡ number
