@@ -9,3 +9,4 @@ mod Exchanges
 mod Delivering
 mod Serving
 mod Mirrors
+mod Changing
