@@ -1,6 +1,7 @@
 mod Lists
 mod Spellings
 mod Runs
+mod Fronts
 mod Returning
 mod Taking
 mod Caches

@@ -16,6 +16,9 @@ use Rattle.mr_proxy.specs.NodeReplies.{IsAnswer, FindsItemOf}
 use Rattle.mr_proxy.specs.ProxyView.{ProxyView}
 use Rattle.mr_proxy.specs.Transitions.{after_take, taken_of}
 use Rattle.mr_proxy.specs.declared.sheet.LegId.{LegId}
+use Rattle.mr_proxy.specs.declared.sheet.LegSheet.{LegSheet}
+use Rattle.mr_proxy.specs.declared.step.Step.{Step}
+use Rattle.mr_proxy.specs.declared.step.Step.TheVariants.{Take}
 use Rattle.mr_loop.specs.Events.{FrontView, Event, after_all, after_event}
 use Rattle.mr_loop.specs.Returning.{Reads, TakesAll, taking}
 use Rattle.mr_loop.specs.declared.sent_legs.SentLeg.{SentLeg}
@@ -26,8 +29,9 @@ use Rattle.mr_world.specs.declared.message.Message.{Message}
 use Rattle.mr_world.specs.declared.message.Delivery.{Delivery}
 use Rattle.mr_streams.specs.Fleet.{FleetEvent}
 use Rattle.mr_streams.specs.Flows.{AreReplies, WasAnswered, WasDelivered, IsError, AreOf}
-use Rattle.mr_streams.specs.OneProxy.{RunsSo}
-use Rattle.mr_streams.proofs.Runs.{stays, stands, runs_on, runs_to, one_event, with_proxy, gains_taken, kin_there, kin_taken}
+use Rattle.mr_streams.specs.OneProxy.{StepsSo, FrontRuns}
+use Rattle.mr_streams.proofs.Fronts.{front_stays, front_to, front_on, front_does}
+use Rattle.mr_streams.proofs.Runs.{stands, one_event, gains_taken, told_taken, kin_there, kin_taken}
 use Rattle.mr_streams.proofs.Spellings.{ReplyLaws, first_reply, reply_has_bytes}
 
 found_once : (key : List ℕ) (items : List Item) (a b : LegReply) → FindsItemOf key items a → FindsItemOf key items b → a ≡ b
@@ -75,60 +79,67 @@ error_fails (Get key) (ServerError cause) said h k = (cause, k)
 error_fails (Set key flags exptime block) (ServerError cause) said h k = (cause, k)
 error_fails (Delete key) (ServerError cause) said h k = (cause, k)
 
+-- what a proxy takes of a leg
+abbrev pub take_of : LegSheet → LegReply → Step
+take_of sheet said = Take (record { sheet = sheet; reply = said })
+
 -- the core of this proxy takes a reply of its leg
-fails_one : (w : WorldView) (number : ℕ) (core : ProxyView) (id : LegId) (cause : Cause) (said : LegReply)
-    → At w.proxies number core → id.op.proxy ≡ number → said ≡ Failed cause → RunsSo w number (after_take core id said)
-fails_one w number core id cause said there own e =
+fails_one : (w : WorldView) (number : ℕ) (core : ProxyView) (sheet : LegSheet) (cause : Cause)
+    → At w.proxies number core → sheet.id.op.proxy ≡ number → StepsSo w number core (take_of sheet (Failed cause))
+fails_one w number core sheet cause there own =
+    let id : LegId = sheet.id in
     let gains = answered_by (taken_of core id (Failed cause)) in
     let same : slice_set w.proxies number (after_take core id (Failed cause)) ≡ slice_set w.proxies id.op.proxy (after_take core id (Failed cause)) =
     ap (λ n. slice_set w.proxies n (after_take core id (Failed cause))) (sym own) in
-    runs_to w number (after_take core id (Failed cause)) (after_take core id said) (ap (λ r. after_take core id r) (sym e))
-    (one_event w number (after_take core id (Failed cause)) gains (FleetEvent.LegFails id cause)
-    (record {
-      proxy = core;
-      home = subst (λ n. At w.proxies n core) (sym own) there;
-      becomes = ap (λ p. record w { proxies = p; history = w.history ++ gains }) same;
-    })
-    refl (gains_taken w.history (taken_of core id (Failed cause))) (kin_there w number core (after_take core id (Failed cause)) there (kin_taken core id (Failed cause))))
+    record {
+      run = one_event w number (after_take core id (Failed cause)) gains (FleetEvent.LegFails id cause)
+          (record {
+            proxy = core;
+            home = subst (λ n. At w.proxies n core) (sym own) there;
+            becomes = ap (λ p. record w { proxies = p; history = w.history ++ gains }) same;
+          })
+          refl (gains_taken w.history (taken_of core id (Failed cause))) (kin_there w number core (after_take core id (Failed cause)) there (kin_taken core id (Failed cause)));
+      gives = λ answer given wants. told_taken w.history (taken_of core id (Failed cause)) answer given wants;
+    }
 
-returns_one : (w : WorldView) (number : ℕ) (core : ProxyView) (sent : SentLeg) (reply : Reply)
-    → At w.proxies number core → sent.leg.id.op.proxy ≡ number → (d : WasDelivered w.sent w.replies sent reply)
-    → RunsSo w number (after_take core sent.leg.id d.said)
-returns_one w number core sent reply there own d =
-    let id : LegId = d.message.sheet.id in
-    let gains = answered_by (taken_of core id d.said) in
-    let sends : number ≡ d.message.sheet.id.op.proxy = sym own ∙ ap (λ s. s.id.op.proxy) (sym d.of_leg) in
-    runs_to w number (after_take core id d.said) (after_take core sent.leg.id d.said) (ap (λ s. after_take core s.id d.said) d.of_leg)
-    (one_event w number (after_take core id d.said) gains (FleetEvent.Happens (Return d.number))
-    (note_of (taken_of core id d.said), record {
-      message = d.message;
-      proxy = core;
-      sender = number;
-      from = d.from;
-      reply = d.said;
-      came = d.replied;
-      sent = d.there;
-      sends = sends;
-      home = there;
-      tells = refl;
-      becomes = refl;
-    })
-    refl (gains_taken w.history (taken_of core id d.said)) (kin_there w number core (after_take core id d.said) there (kin_taken core id d.said)))
+returns_one : (w : WorldView) (number : ℕ) (core : ProxyView) (message : Message) (reply_number from : ℕ) (said : LegReply)
+    → At w.proxies number core → message.sheet.id.op.proxy ≡ number → At w.sent from message → At w.replies reply_number (record { message = from; reply = said })
+    → StepsSo w number core (take_of message.sheet said)
+returns_one w number core message reply_number from said there own sent came =
+    let id : LegId = message.sheet.id in
+    let gains = answered_by (taken_of core id said) in
+    record {
+      run = one_event w number (after_take core id said) gains (FleetEvent.Happens (Return reply_number))
+          (note_of (taken_of core id said), record {
+            message = message;
+            proxy = core;
+            sender = number;
+            from = from;
+            reply = said;
+            came = came;
+            sent = sent;
+            sends = sym own;
+            home = there;
+            tells = refl;
+            becomes = refl;
+          })
+          refl (gains_taken w.history (taken_of core id said)) (kin_there w number core (after_take core id said) there (kin_taken core id said));
+      gives = λ answer given wants. told_taken w.history (taken_of core id said) answer given wants;
+    }
 
 pub takes_one : (messages : List Message) (deliveries : List Delivery) (w : WorldView) (number : ℕ) (core : ProxyView) (sent : SentLeg) (reply : Reply) (said : LegReply)
     → w.sent ≡ messages → w.replies ≡ deliveries → At w.proxies number core → sent.leg.id.op.proxy ≡ number
-    → WasAnswered messages deliveries sent reply → IsAnswer sent.leg.command reply said → RunsSo w number (after_take core sent.leg.id said)
+    → WasAnswered messages deliveries sent reply → IsAnswer sent.leg.command reply said → StepsSo w number core (take_of sent.leg said)
 takes_one messages deliveries w number core sent reply said ws wr there own was answers =
     elim was [
       | inl d ↦ (
-          let d' : WasDelivered w.sent w.replies sent reply =
-          subst (λ m. WasDelivered m w.replies sent reply) (sym ws) (subst (λ r. WasDelivered messages r sent reply) (sym wr) d) in
-          runs_to w number (after_take core sent.leg.id d'.said) (after_take core sent.leg.id said)
-          (ap (λ r. after_take core sent.leg.id r) (answer_once sent.leg.command reply d'.said said d'.answers answers))
-          (returns_one w number core sent reply there own d'))
+          let one = returns_one w number core d.message d.number d.from d.said there (ap (λ s. s.id.op.proxy) d.of_leg ∙ own)
+          (subst (λ m. At m d.from d.message) (sym ws) d.there) (subst (λ r. At r d.number (record { message = d.from; reply = d.said })) (sym wr) d.replied) in
+          subst (λ r. StepsSo w number core (take_of sent.leg r)) (answer_once sent.leg.command reply d.said said d.answers answers)
+          (subst (λ s. StepsSo w number core (take_of s d.said)) d.of_leg one))
       | inr e ↦ (
           let fails = error_fails sent.leg.command reply said e answers in
-          fails_one w number core sent.leg.id fails.0 said there own fails.1)
+          subst (λ r. StepsSo w number core (take_of sent.leg r)) (sym fails.1) (fails_one w number core sent.leg fails.0 there own))
     ]
 
 pub takes_none : (legs left : List SentLeg) (events : List Event) → TakesAll legs [] events left → (events ≡ []) × (left ≡ legs)
@@ -142,7 +153,7 @@ pub record IsLeft (messages : List Message) (deliveries : List Delivery) (w : Wo
   pub leaves : left ≡ kept ++ going
   pub flows : AreReplies messages deliveries kept back
   pub own : AreOf number kept
-  pub run : RunsSo w number (after_all events front).core
+  pub run : FrontRuns w number front (after_all events front)
 
 pub returns_run : ReplyLaws → (messages : List Message) (deliveries : List Delivery) (replies : List Reply) (returning going left : List SentLeg) (events : List Event)
     (bytes rest later : List ℕ) (w : WorldView) (number : ℕ) (front : FrontView)
@@ -156,7 +167,7 @@ returns_run laws messages deliveries [] returning going left events bytes rest l
       leaves = none.1;
       flows = subst (λ x. AreReplies messages deliveries returning (x ++ later)) (sym reads) flows;
       own = own;
-      run = runs_to w number front.core (after_all events front).core (ap (λ e. (after_all e front).core) (sym none.0)) (stays w number front.core there);
+      run = front_to w number front front (after_all events front) (ap (λ e. after_all e front) (sym none.0)) (front_stays w number front there);
     }
 returns_run laws messages deliveries (reply ∷ replies) [] going left events bytes rest later w number front ws wr there own flows reads takes =
     let e : reads.1.spelling ++ (reads.0 ++ later) ≡ [] =
@@ -167,16 +178,17 @@ returns_run laws messages deliveries (reply ∷ replies) (sent ∷ returning) go
     sym (append_assoc reads.1.spelling reads.0 later) ∙ ap (λ b. b ++ later) (sym reads.1.splits) ∙ flows.4 in
     let one = first_reply laws reads.1.spelling (reads.0 ++ later) flows.1 reply flows.0 reads.1.spells flows.3 e in
     let was : WasAnswered messages deliveries sent reply = subst (λ r. WasAnswered messages deliveries sent r) (sym one.0) flows.2 in
-    let first = takes_one messages deliveries w number front.core sent reply takes.0 ws wr there own.0 was takes.2 in
     let front' : FrontView = after_event (taking sent takes.0) front in
-    let next = returns_run laws messages deliveries replies returning going left takes.1 reads.0 rest later first.world number front'
-    (first.sent ∙ ws) (first.replies ∙ wr) (stands w number front.core front'.core first there) own.1
+    let first = front_does w number front sent.client (take_of sent.leg takes.0) tt
+    (takes_one messages deliveries w number front.core sent reply takes.0 ws wr there own.0 was takes.2) in
+    let next = returns_run laws messages deliveries replies returning going left takes.1 reads.0 rest later first.so.world number front'
+    (first.so.sent ∙ ws) (first.so.replies ∙ wr) (stands w number front.core front'.core first.so there) own.1
     (subst (λ x. AreReplies messages deliveries returning x) (sym one.1) flows.5) reads.2 takes.4 in
     record {
       kept = next.kept;
       leaves = next.leaves;
       flows = next.flows;
       own = next.own;
-      run = runs_to w number (after_all takes.1 front').core (after_all events front).core (ap (λ es. (after_all es front).core) (sym takes.3))
-          (runs_on w number front'.core (after_all takes.1 front').core first next.run);
+      run = front_to w number front (after_all takes.1 front') (after_all events front) (ap (λ es. after_all es front) (sym takes.3))
+          (front_on w number front front' (after_all takes.1 front') first next.run);
     }

@@ -1,5 +1,5 @@
 -- Runs of a fleet in which one proxy takes replies and gives requests up: nothing changes but that proxy and the answers.
-use Rattle.std.proofs.Common.{◌≡◌, ℕ, Bool, true, false, List, [], ◌∷◌, ◌++◌, slice_set, remove, Option, Some, None, if◌then◌else◌, refl, sym, ap, ◌∙◌, subst, append_assoc, inl, inr}
+use Rattle.std.proofs.Common.{◌≡◌, ℕ, Bool, true, false, List, [], ◌∷◌, ◌++◌, length, slice_set, remove, Option, Some, None, if◌then◌else◌, refl, sym, ap, ◌∙◌, subst, append_assoc, inl, inr}
 use Rattle.std.proofs.lemmas.List.{append-nil, set-set}
 use Rattle.mr_clock.specs.Readings.{Tick}
 use Rattle.mr_text.specs.declared.reply.Reply.{Reply}
@@ -18,12 +18,15 @@ use Rattle.mr_proxy.specs.declared.taken.Taken.{Taken}
 use Rattle.mr_proxy.specs.declared.taken.Taken.TheVariants as taken
 use Rattle.mr_world.specs.Steps.{answered, answered_by}
 use Rattle.mr_world.specs.WorldView.{WorldView}
-use Rattle.mr_world.specs.declared.event.Event.TheVariants.{GiveUp}
+use Rattle.mr_proxy.specs.Replay.{answered_in}
+use Rattle.mr_proxy.specs.declared.step.Step.TheVariants.{GiveUp}
+use Rattle.mr_world.specs.Lists.{Has}
+use Rattle.mr_world.specs.declared.event.Event.TheVariants as event
 use Rattle.mr_world.specs.declared.note.Note.TheVariants as note
 use Rattle.mr_streams.specs.Fleet.{FleetEvent, FleetStep, FleetRun, ticks_in, ticks_of}
-use Rattle.mr_streams.specs.OneProxy.{GainsAnswers, IsKin, RunsSo}
+use Rattle.mr_streams.specs.OneProxy.{GainsAnswers, IsKin, RunsSo, StepsSo}
 use Rattle.mr_streams.specs.Refines.{Tells}
-use Rattle.mr_streams.proofs.Lists.{at_one, at_written, written_back}
+use Rattle.mr_streams.proofs.Lists.{at_new, at_one, at_written, written_back}
 
 -- it tells all that the old one told
 pub still_tells : (old new heard : List Entry) → GainsAnswers old new → Tells old heard → Tells new heard
@@ -79,7 +82,7 @@ pub kin_taken : (p : ProxyView) (id : LegId) (reply : LegReply) → IsKin p (aft
 kin_taken p id reply = kin_settled p (place_of_op p.outstanding id.op) (noted_by p id reply)
 
 -- nothing happens
-pub stays : (w : WorldView) (number : ℕ) (core : ProxyView) → At w.proxies number core → RunsSo w number core
+abbrev pub stays : (w : WorldView) (number : ℕ) (core : ProxyView) → At w.proxies number core → RunsSo w number core
 stays w number core there = record {
   world = w;
   events = [];
@@ -107,7 +110,7 @@ pub stands : (w : WorldView) (number : ℕ) (old core : ProxyView) (h : RunsSo w
 stands w number old core h there = subst (λ p. At p number core) (sym h.proxies) (at_written core there)
 
 -- one run behind the other
-pub runs_on : (w : WorldView) (number : ℕ) (core last : ProxyView) (h : RunsSo w number core) → RunsSo h.world number last → RunsSo w number last
+abbrev pub runs_on : (w : WorldView) (number : ℕ) (core last : ProxyView) (h : RunsSo w number core) → RunsSo h.world number last → RunsSo w number last
 runs_on w number core last h k = record {
   world = k.world;
   events = h.events ++ k.events;
@@ -123,15 +126,27 @@ runs_on w number core last h k = record {
 }
 
 -- the core is so by another word
-pub runs_to : (w : WorldView) (number : ℕ) (core other : ProxyView) → core ≡ other → RunsSo w number core → RunsSo w number other
-runs_to w number core other e h = subst (λ c. RunsSo w number c) e h
+abbrev pub runs_to : (w : WorldView) (number : ℕ) (core other : ProxyView) → core ≡ other → RunsSo w number core → RunsSo w number other
+runs_to w number core other e h = record {
+  world = h.world;
+  events = h.events;
+  run = h.run;
+  proxies = h.proxies ∙ ap (λ c. slice_set w.proxies number c) e;
+  sent = h.sent;
+  replies = h.replies;
+  nodes = h.nodes;
+  readings = h.readings;
+  gains = h.gains;
+  ticks = h.ticks;
+  kin = λ old there. subst (λ c. IsKin old c) e (h.kin old there);
+}
 
 -- the fleet after an event that changes one proxy and brings these entries
 abbrev pub with_proxy : WorldView → ℕ → ProxyView → List Entry → WorldView
 with_proxy w number core gains = record w { proxies = slice_set w.proxies number core; history = w.history ++ gains }
 
 -- one event
-pub one_event : (w : WorldView) (number : ℕ) (core : ProxyView) (gains : List Entry) (event : FleetEvent)
+abbrev pub one_event : (w : WorldView) (number : ℕ) (core : ProxyView) (gains : List Entry) (event : FleetEvent)
     → FleetStep w event (with_proxy w number core gains) → ticks_in event ≡ [] → GainsAnswers w.history (w.history ++ gains)
     → ((old : ProxyView) → At w.proxies number old → IsKin old core) → RunsSo w number core
 one_event w number core gains event step quiet only kin = record {
@@ -148,28 +163,54 @@ one_event w number core gains event step quiet only kin = record {
   kin = kin;
 }
 
+silent_or_told : (old : List Entry) (answer : AnswerView) (silent : Bool) → silent ≡ false
+    → Has (old ++ (if silent then [] else entry.Answered answer.op (reply_of answer) ∷ [])) (entry.Answered answer.op (reply_of answer))
+silent_or_told old answer true e = absurd (let no : true ≡ false = e in cc)
+silent_or_told old answer false e = record { place = length old; there = at_new old (entry.Answered answer.op (reply_of answer)) }
+
+-- an answer that is given stands behind the others
+pub told_last : (old : List Entry) (answer : AnswerView) → is_silent answer.request ≡ false → Has (old ++ answered answer) (entry.Answered answer.op (reply_of answer))
+told_last old answer e = silent_or_told old answer (is_silent answer.request) e
+
+pub told_taken : (old : List Entry) (t : Taken) (answer : AnswerView) → answered_in t ≡ Some answer → is_silent answer.request ≡ false
+    → Has (old ++ answered_by t) (entry.Answered answer.op (reply_of answer))
+told_taken old taken.Waiting answer e wants = absurd (let no : None ≡ Some answer = e in cc)
+told_taken old (taken.Answered given) answer e wants =
+    let same : answer ≡ given = cc in
+    subst (λ a. Has (old ++ answered given) (entry.Answered a.op (reply_of a))) (sym same) (told_last old given (ap (λ a. is_silent a.request) (sym same) ∙ wants))
+told_taken old (taken.Stranger reply) answer e wants = absurd (let no : None ≡ Some answer = e in cc)
+
 give_up_by : (w : WorldView) (number : ℕ) (core : ProxyView) (op : OpId) (o : Option PendingView)
-    → At w.proxies number core → op.proxy ≡ number → pending_with core.outstanding op ≡ o → RunsSo w number (after_give_up core op)
+    → At w.proxies number core → op.proxy ≡ number → pending_with core.outstanding op ≡ o → StepsSo w number core (GiveUp op)
 give_up_by w number core op None there own e =
-    runs_to w number core (after_give_up core op) (sym (ap (λ o. left_by core (place_of_op core.outstanding op) o) e)) (stays w number core there)
+    let none : given_up_of core op ≡ None = ap given_up_in e in
+    record {
+      run = runs_to w number core (after_give_up core op) (sym (ap (λ o. left_by core (place_of_op core.outstanding op) o) e)) (stays w number core there);
+      gives = λ answer given wants. absurd (let no : None ≡ Some answer = sym none ∙ given in cc);
+    }
 give_up_by w number core op (Some pending) there own e =
     let answer : AnswerView = answer_of pending true in
     let home = subst (λ n. At w.proxies n core) (sym own) there in
     let gives : given_up_of core op ≡ Some answer = ap given_up_in e in
     let same : slice_set w.proxies number (after_give_up core op) ≡ slice_set w.proxies op.proxy (after_give_up core op) =
     ap (λ n. slice_set w.proxies n (after_give_up core op)) (sym own) in
-    one_event w number (after_give_up core op) (answered answer) (FleetEvent.Happens (GiveUp op))
-    (note.Answered op, record {
-      proxy = core;
-      answer = answer;
-      home = home;
-      gives = gives;
-      tells = refl;
-      becomes = ap (λ p. record w { proxies = p; history = w.history ++ answered answer }) same;
-    })
-    refl (gains_answer w.history answer) (kin_there w number core (after_give_up core op) there (kin_given_up core op))
+    record {
+      run = one_event w number (after_give_up core op) (answered answer) (FleetEvent.Happens (event.GiveUp op))
+          (note.Answered op, record {
+            proxy = core;
+            answer = answer;
+            home = home;
+            gives = gives;
+            tells = refl;
+            becomes = ap (λ p. record w { proxies = p; history = w.history ++ answered answer }) same;
+          })
+          refl (gains_answer w.history answer) (kin_there w number core (after_give_up core op) there (kin_given_up core op));
+      gives = λ other given wants. (
+          let is : other ≡ answer = (let both : Some answer ≡ Some other = sym gives ∙ given in cc) in
+          subst (λ a. Has (w.history ++ answered answer) (entry.Answered a.op (reply_of a))) (sym is)
+          (told_last w.history answer (ap (λ a. is_silent a.request) (sym is) ∙ wants)));
+    }
 
 -- a request is given up, or wasn't under way
-pub gives_up : (w : WorldView) (number : ℕ) (core : ProxyView) (op : OpId) → At w.proxies number core → op.proxy ≡ number
-    → RunsSo w number (after_give_up core op)
+pub gives_up : (w : WorldView) (number : ℕ) (core : ProxyView) (op : OpId) → At w.proxies number core → op.proxy ≡ number → StepsSo w number core (GiveUp op)
 gives_up w number core op there own = give_up_by w number core op (pending_with core.outstanding op) there own refl

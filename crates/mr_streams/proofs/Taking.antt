@@ -7,6 +7,7 @@ use Rattle.mr_history.specs.Places.{At}
 use Rattle.mr_join.specs.declared.leg_reply.LegReply.{LegReply}
 use Rattle.mr_proxy.specs.NodeReplies.{IsAnswer}
 use Rattle.mr_proxy.specs.ProxyView.{ProxyView}
+use Rattle.mr_proxy.specs.declared.step.Step.TheVariants.{GiveUp}
 use Rattle.mr_loop.specs.Events.{FrontView, Event, after_all, after_event}
 use Rattle.mr_loop.specs.Returning.{Reads, TakesAll, HasTaken, TakesWhole, TakesSome, TakesComplaint, BreaksAtComplaint, BreaksAtOnce, TakesBytes, Breaks, IsSurplus, IsMismatch, IsRefused, give_ups, giving_up, taking, standing}
 use Rattle.mr_loop.specs.declared.link.Link.{Link}
@@ -19,9 +20,10 @@ use Rattle.mr_world.specs.declared.message.Message.{Message}
 use Rattle.mr_world.specs.declared.message.Delivery.{Delivery}
 use Rattle.mr_streams.specs.Flows.{AreReplies, AreOf}
 use Rattle.mr_streams.specs.OneLink.{Awaits, BytesTaken}
-use Rattle.mr_streams.specs.OneProxy.{RunsSo}
+use Rattle.mr_streams.specs.OneProxy.{FrontRuns}
+use Rattle.mr_streams.proofs.Fronts.{front_stays, front_to, front_on, front_does}
 use Rattle.mr_streams.proofs.Returning.{IsLeft, returns_run}
-use Rattle.mr_streams.proofs.Runs.{stays, stands, runs_on, runs_to, gives_up}
+use Rattle.mr_streams.proofs.Runs.{stands, gives_up}
 use Rattle.mr_streams.proofs.Spellings.{ReplyLaws}
 
 pub own_both : (number : ℕ) (a b : List SentLeg) → AreOf number a → AreOf number b → AreOf number (a ++ b)
@@ -38,37 +40,37 @@ own_right number (sent ∷ a) b h = own_right number a b h.1
 
 -- the requests of legs are given up, one after the other
 pub give_ups_run : (legs : List SentLeg) (w : WorldView) (number : ℕ) (front : FrontView) → At w.proxies number front.core → AreOf number legs
-    → RunsSo w number (after_all (give_ups legs) front).core
-give_ups_run [] w number front there own = stays w number front.core there
+    → FrontRuns w number front (after_all (give_ups legs) front)
+give_ups_run [] w number front there own = front_stays w number front there
 give_ups_run (sent ∷ legs) w number front there own =
     let front' : FrontView = after_event (giving_up sent) front in
-    let first : RunsSo w number front'.core = gives_up w number front.core sent.leg.id.op there own.0 in
-    runs_on w number front'.core (after_all (give_ups legs) front').core first
-    (give_ups_run legs first.world number front' (stands w number front.core front'.core first there) own.1)
+    let first : FrontRuns w number front front' = front_does w number front sent.client (GiveUp sent.leg.id.op) tt (gives_up w number front.core sent.leg.id.op there own.0) in
+    front_on w number front front' (after_all (give_ups legs) front') first
+    (give_ups_run legs first.so.world number front' (stands w number front.core front'.core first.so there) own.1)
 
 -- a link breaks
 pub breaks_run : (now : ℕ) (link link' : Link) (front front' : FrontView) (w : WorldView) (number : ℕ) → At w.proxies number front.core → AreOf number link.legs
-    → Breaks now link front link' front' → RunsSo w number front'.core
+    → Breaks now link front link' front' → FrontRuns w number front front'
 breaks_run now link link' front front' w number there own b =
-    runs_to w number (after_all (give_ups link.legs) front).core front'.core (ap (λ (f : FrontView). f.core) (sym b.given_up)) (give_ups_run link.legs w number front there own)
+    front_to w number front (after_all (give_ups link.legs) front) front' (sym b.given_up) (give_ups_run link.legs w number front there own)
 
 breaks_down : (now : ℕ) (link link' : Link) (front front' : FrontView) → Breaks now link front link' front' → link'.is_up ≡ false
 breaks_down now link link' front front' b = ap (λ (l : Link). l.is_up) b.down
 
 -- what some replies that were taken leave
-pub record Took (messages : List Message) (deliveries : List Delivery) (w : WorldView) (number : ℕ) (front' : FrontView) (left going : List SentLeg) (bytes : List ℕ) : Type 0 where
-  pub run : RunsSo w number front'.core
-  pub awaits : Awaits messages deliveries run.world number front'.core left going bytes
+pub record Took (messages : List Message) (deliveries : List Delivery) (w : WorldView) (number : ℕ) (front front' : FrontView) (left going : List SentLeg) (bytes : List ℕ) : Type 0 where
+  pub run : FrontRuns w number front front'
+  pub awaits : Awaits messages deliveries run.so.world number front'.core left going bytes
 
 took : ReplyLaws → (messages : List Message) (deliveries : List Delivery) (w : WorldView) (number : ℕ) (front front' : FrontView) (bytes rest later : List ℕ) (legs left going : List SentLeg)
     → Awaits messages deliveries w number front.core legs going (bytes ++ later) → HasTaken bytes legs front rest left front'
-    → Took messages deliveries w number front' left going (rest ++ later)
+    → Took messages deliveries w number front front' left going (rest ++ later)
 took laws messages deliveries w number front front' bytes rest later legs left going a t =
     let own = subst (λ l. AreOf number l) a.splits a.own in
     let takes = subst (λ l. TakesAll l t.replies t.events left) a.splits t.takes in
     let is = returns_run laws messages deliveries t.replies a.returning going left t.events bytes rest later w number front a.sent a.replied a.there
     (own_left number a.returning going own) a.replies t.reads takes in
-    let run = runs_to w number (after_all t.events front).core front'.core (ap (λ (f : FrontView). f.core) (sym t.happens)) is.run in
+    let run = front_to w number front (after_all t.events front) front' (sym t.happens) is.run in
     record {
       run = run;
       awaits = record {
@@ -76,15 +78,15 @@ took laws messages deliveries w number front front' bytes rest later legs left g
         splits = is.leaves;
         replies = is.flows;
         own = subst (λ l. AreOf number l) (sym is.leaves) (own_both number is.kept going is.own (own_right number a.returning going own));
-        sent = run.sent ∙ a.sent;
-        replied = run.replies ∙ a.replied;
-        there = stands w number front.core front'.core run a.there;
+        sent = run.so.sent ∙ a.sent;
+        replied = run.so.replies ∙ a.replied;
+        there = stands w number front.core front'.core run.so a.there;
       };
     }
 
 whole_taken : ReplyLaws → (messages : List Message) (deliveries : List Delivery) (w : WorldView) (number now : ℕ) (piece later : List ℕ) (old new : Link) (front front' : FrontView) (going : List SentLeg)
     → Awaits messages deliveries w number front.core old.legs going ((old.reader.kept ++ piece) ++ later) → TakesWhole now piece old front new front'
-    → BytesTaken messages deliveries w number front' old new going later
+    → BytesTaken messages deliveries w number front front' old new going later
 whole_taken laws messages deliveries w number now piece later old new front front' going a t =
     let is = took laws messages deliveries w number front front' (old.reader.kept ++ piece) new.reader.kept later old.legs new.legs going a t.taken in
     record { run = is.run; left = inl (t.same_state, t.same_out, is.awaits) }
@@ -92,12 +94,12 @@ whole_taken laws messages deliveries w number now piece later old new front fron
 some_taken : ReplyLaws → (messages : List Message) (deliveries : List Delivery) (w : WorldView) (number now : ℕ) (piece later : List ℕ) (old new : Link) (front front' : FrontView) (going : List SentLeg)
     (Next : List ℕ → List SentLeg → Type 0)
     → Awaits messages deliveries w number front.core old.legs going ((old.reader.kept ++ piece) ++ later) → TakesSome now piece old front Next new front'
-    → BytesTaken messages deliveries w number front' old new going later
+    → BytesTaken messages deliveries w number front front' old new going later
 some_taken laws messages deliveries w number now piece later old new front front' going Next a t =
     let is = took laws messages deliveries w number front t.between (old.reader.kept ++ piece) t.rest later old.legs t.left going a t.taken in
-    let broken = breaks_run now (standing t.left t.counts old) new t.between front' is.run.world number is.awaits.there is.awaits.own t.breaks in
+    let broken = breaks_run now (standing t.left t.counts old) new t.between front' is.run.so.world number is.awaits.there is.awaits.own t.breaks in
     record {
-      run = runs_on w number t.between.core front'.core is.run broken;
+      run = front_on w number front t.between front' is.run broken;
       left = inr (breaks_down now (standing t.left t.counts old) new t.between front' t.breaks);
     }
 
@@ -107,7 +109,7 @@ nothing_more (sent ∷ legs) = (refl, refl)
 
 complaint_taken : ReplyLaws → (messages : List Message) (deliveries : List Delivery) (w : WorldView) (number now : ℕ) (piece later : List ℕ) (old new : Link) (front front' : FrontView) (going : List SentLeg)
     → Awaits messages deliveries w number front.core old.legs going ((old.reader.kept ++ piece) ++ later) → BreaksAtComplaint now piece old front new front'
-    → BytesTaken messages deliveries w number front' old new going later
+    → BytesTaken messages deliveries w number front front' old new going later
 complaint_taken laws messages deliveries w number now piece later old new front front' going a t =
     let c = t.taken in
     let is = took laws messages deliveries w number front c.between (old.reader.kept ++ piece) c.rest later old.legs c.before going a c.taken in
@@ -119,23 +121,23 @@ complaint_taken laws messages deliveries w number now piece later old new front 
       takes = subst (λ l. TakesAll l (c.reply ∷ []) (taking c.sent c.said ∷ []) t.left) (sym c.first) (c.said, [], c.answers, refl, nothing_more t.left);
       happens = c.happens;
     } in
-    let last = took laws messages deliveries is.run.world number c.between t.between c.rest c.after later c.before t.left going is.awaits one in
-    let broken = breaks_run now (standing t.left t.counts old) new t.between front' last.run.world number last.awaits.there last.awaits.own t.breaks in
+    let last = took laws messages deliveries is.run.so.world number c.between t.between c.rest c.after later c.before t.left going is.awaits one in
+    let broken = breaks_run now (standing t.left t.counts old) new t.between front' last.run.so.world number last.awaits.there last.awaits.own t.breaks in
     record {
-      run = runs_on w number c.between.core front'.core is.run (runs_on is.run.world number t.between.core front'.core last.run broken);
+      run = front_on w number front c.between front' is.run (front_on is.run.so.world number c.between t.between front' last.run broken);
       left = inr (breaks_down now (standing t.left t.counts old) new t.between front' t.breaks);
     }
 
 at_once_taken : (messages : List Message) (deliveries : List Delivery) (w : WorldView) (number now : ℕ) (piece later bytes : List ℕ) (old new : Link) (front front' : FrontView) (going : List SentLeg) (refusal : TextError)
     → Awaits messages deliveries w number front.core old.legs going bytes → BreaksAtOnce now piece old front refusal new front'
-    → BytesTaken messages deliveries w number front' old new going later
+    → BytesTaken messages deliveries w number front front' old new going later
 at_once_taken messages deliveries w number now piece later bytes old new front front' going refusal a t =
     record { run = breaks_run now old new front front' w number a.there a.own t.breaks; left = inr (breaks_down now old new front front' t.breaks) }
 
 -- whichever way the bytes end
 pub bytes_taken : ReplyLaws → (messages : List Message) (deliveries : List Delivery) (w : WorldView) (number now : ℕ) (piece later : List ℕ) (end : LinkEnd) (old new : Link) (front front' : FrontView) (going : List SentLeg)
     → Awaits messages deliveries w number front.core old.legs going ((old.reader.kept ++ piece) ++ later) → TakesBytes now piece old front end new front'
-    → BytesTaken messages deliveries w number front' old new going later
+    → BytesTaken messages deliveries w number front front' old new going later
 bytes_taken laws messages deliveries w number now piece later Whole old new front front' going a t =
     whole_taken laws messages deliveries w number now piece later old new front front' going a t
 bytes_taken laws messages deliveries w number now piece later Surplus old new front front' going a t =
@@ -151,6 +153,6 @@ bytes_taken laws messages deliveries w number now piece later (Refused refusal) 
     ]
 bytes_taken laws messages deliveries w number now piece later Down old new front front' going a t =
     record {
-      run = runs_to w number front.core front'.core (ap (λ (f : FrontView). f.core) (sym t.2)) (stays w number front.core a.there);
+      run = front_to w number front front front' (sym t.2) (front_stays w number front a.there);
       left = inr (ap (λ (l : Link). l.is_up) t.1 ∙ t.0);
     }
