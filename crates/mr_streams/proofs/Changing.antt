@@ -80,6 +80,7 @@ loop_mirrors w w' readings cores lines nodes seats connections connections' hist
   nodes_are = same ∙ m.nodes_are;
   tells = tells;
   tellable = m.tellable;
+  named = m.named;
   numbers = λ number c h. elim (at_set cores p core' h) [
       | inl e ↦ ap (λ (x : ProxyView). x.number) e.1 ∙ kin.number ∙ m.numbers p core there ∙ sym e.0
       | inr e ↦ m.numbers number c e.1
@@ -123,6 +124,11 @@ node_mirrors w w' readings cores lines nodes seats seats' connections connection
       | inl e ↦ subst (λ (x : Node). AreTellable x.cache.items) (sym e.1) kept
       | inr e ↦ m.tellable number node e.1
     ];
+  named = λ number node h. elim (at_set nodes n (holding name cache') h) [
+      | inl e ↦ ap (λ (x : Node). node_number (slice_set nodes n (holding name cache')) x.name) e.1
+          ∙ numbered_still nodes n (holding name cache) (holding name cache') name there.gets refl ∙ m.named n (holding name cache) there ∙ sym e.0
+      | inr e ↦ numbered_still nodes n (holding name cache) (holding name cache') node.name there.gets refl ∙ m.named number node e.1
+    ];
   numbers = m.numbers;
   plans = m.plans;
   own = m.own;
@@ -153,6 +159,7 @@ made_mirrors w readings cores lines nodes seats connections history new m flows 
   nodes_are = m.nodes_are;
   tells = m.tells;
   tellable = m.tellable;
+  named = m.named;
   numbers = m.numbers;
   plans = m.plans;
   own = m.own;

@@ -35,6 +35,7 @@ use Rattle.mr_streams.specs.OneNode.{ServesSo, holding}
 use Rattle.mr_streams.specs.Refines.{Tells}
 use Rattle.mr_streams.specs.StreamsView.{node_does}
 use Rattle.mr_streams.proofs.Exchanges.{RequestLaws, AsksAll, SpellsAll, IsFirst, first_exchange, text_told}
+use Rattle.mr_streams.proofs.Fronts.{has_left}
 use Rattle.mr_streams.proofs.Lists.{at_left, at_new, at_written, written_back}
 use Rattle.mr_streams.proofs.Performing.{Performs, IsPerformed, performed_for}
 use Rattle.mr_streams.proofs.Runs.{run_append, ticks_append}
@@ -85,6 +86,7 @@ serves_nothing w number name cache heard heard' there same = record {
   more = [];
   replies = sym (append-nil w.replies);
   tells = λ t. subst (λ h. Tells w.history h) (sym same) t;
+  grows = λ x h. h;
   ticks = refl;
 }
 
@@ -101,6 +103,7 @@ serves_to w number name cache a b c e h = record {
   more = h.more;
   replies = h.replies;
   tells = λ t. subst (λ x. Tells h.world.history x) e (h.tells t);
+  grows = h.grows;
   ticks = h.ticks;
 }
 
@@ -118,6 +121,7 @@ serves_on w number name cache last a b c h k = record {
   more = h.more ++ k.more;
   replies = k.replies ∙ ap (λ r. r ++ k.more) h.replies ∙ append_assoc w.replies h.more k.more;
   tells = λ t. k.tells (h.tells t);
+  grows = λ x has. k.grows x (h.grows x has);
   ticks = ticks_append h.events k.events ∙ ap (λ t. t ++ ticks_of k.events) h.ticks ∙ k.ticks;
 }
 
@@ -190,6 +194,7 @@ delivered w number reading name old new sent said heard heard' there going step 
       more = delivery ∷ [];
       replies = refl;
       tells = tells;
+      grows = λ x h. has_left (performed sent.leg sent.leg.command) h;
       ticks = refl;
     }
 

@@ -26,7 +26,7 @@ use Rattle.mr_streams.proofs.Runs.{stays, runs_on, runs_to}
 abbrev pub IsKnown : List Entry → AnswerView → Type 0
 IsKnown history answer = is_silent answer.request ≡ false → Has history (entry.Answered answer.op (reply_of answer))
 
-has_left : {X : Type 0} {xs : List X} (ys : List X) {x : X} → Has xs x → Has (xs ++ ys) x
+pub has_left : {X : Type 0} {xs : List X} (ys : List X) {x : X} → Has xs x → Has (xs ++ ys) x
 has_left ys h = record { place = h.place; there = at_left ys h.there }
 
 -- what stands in a history stays there

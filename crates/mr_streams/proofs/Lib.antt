@@ -11,3 +11,7 @@ mod Delivering
 mod Serving
 mod Mirrors
 mod Changing
+mod LoopMoves
+mod LoopEvents
+mod LinkEvents
+mod NodeEvents

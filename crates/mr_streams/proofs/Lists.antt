@@ -1,5 +1,5 @@
 -- Elements of lists that grow or change at one place, and two cuts of the same bytes.
-use Rattle.std.proofs.Common.{◌≡◌, ◌≢◌, ℕ, zero, suc, ◌+◌, ◌⊎◌, inl, inr, List, [], ◌∷◌, ◌++◌, length, map, slice_get, slice_set, Some, refl, sym, ap, ◌∙◌, arith}
+use Rattle.std.proofs.Common.{◌≡◌, ◌≢◌, ℕ, zero, suc, ◌+◌, ◌⊎◌, inl, inr, List, [], ◌∷◌, ◌++◌, length, map, replicate, slice_get, slice_set, Some, refl, sym, ap, ◌∙◌, arith}
 use Rattle.mr_history.specs.Places.{At}
 
 got_left : {X : Type 0} (xs ys : List X) (i : ℕ) (x : X) → slice_get xs i ≡ Some x → slice_get (xs ++ ys) i ≡ Some x
@@ -120,3 +120,24 @@ got_last (z ∷ xs) y (suc i) x e = elim (got_last xs y i x e) [ inl h ↦ inl h
 -- what a list with one more has
 pub at_last : {X : Type 0} (xs : List X) (y : X) {i : ℕ} {x : X} → At (xs ++ y ∷ []) i x → (At xs i x) ⊎ ((i ≡ length xs) × (x ≡ y))
 at_last xs y {i = i} {x = x} h = elim (got_last xs y i x h.gets) [ inl e ↦ inl (record { gets = e }) | inr e ↦ inr e ]
+
+got_right : {X : Type 0} (xs ys : List X) (i : ℕ) (x : X) → slice_get ys i ≡ Some x → slice_get (xs ++ ys) (length xs + i) ≡ Some x
+got_right [] ys i x e = let z : 0 + i ≡ i = omega arith in rw z e
+got_right (w ∷ xs) ys i x e = let z : suc (length xs) + i ≡ suc (length xs + i) = omega arith in rw z (got_right xs ys i x e)
+
+-- what stands behind others
+pub at_right : {X : Type 0} (xs : List X) {ys : List X} {i : ℕ} {x : X} → At ys i x → At (xs ++ ys) (length xs + i) x
+at_right xs {ys = ys} {i = i} {x = x} h = record { gets = got_right xs ys i x h.gets }
+
+got_replicate : {X : Type 0} (n : ℕ) (y : X) (i : ℕ) (x : X) → slice_get (replicate n y) i ≡ Some x → x ≡ y
+got_replicate zero y i x e = cc
+got_replicate (suc n) y zero x e = cc
+got_replicate (suc n) y (suc i) x e = got_replicate n y i x e
+
+-- a list of one element has that alone
+pub at_replicate : {X : Type 0} (n : ℕ) (y : X) {i : ℕ} {x : X} → At (replicate n y) i x → x ≡ y
+at_replicate n y {i = i} {x = x} h = got_replicate n y i x h.gets
+
+-- nothing stands in an empty list
+pub at_nothing : {X : Type 0} {i : ℕ} {x : X} → At [] i x → ⊥
+at_nothing h = let e = h.gets in cc

@@ -4,7 +4,17 @@ use Rattle.std.specs.List.{AllByRecursion}
 use Rattle.mr_clock.specs.Readings.{ReadingsView, Tick}
 use Rattle.mr_history.specs.Places.{At}
 use Rattle.mr_history.specs.declared.entry.Entry.{Entry}
+use Rattle.std.specs.Prelude.{Contains}
+use Rattle.mr_text.specs.Valid.{IsValidRequest}
+use Rattle.mr_text.specs.declared.request.Request.{Request}
+use Rattle.mr_node.specs.declared.command.NodeCommand.{NodeCommand}
+use Rattle.mr_proxy.specs.NodeRequests.{request_for}
 use Rattle.mr_proxy.specs.ProxyView.{ProxyView}
+use Rattle.mr_proxy.specs.Sheets.{commands_of}
+use Rattle.mr_proxy.specs.Sound.{HasLegs}
+use Rattle.mr_loop.specs.declared.inbox.Inbox.{Inbox}
+use Rattle.mr_loop.specs.declared.inbox.Input.{Input}
+use Rattle.mr_loop.specs.declared.inbox.Input.TheVariants.{Asks, Refused}
 use Rattle.mr_loop.specs.LoopView.{LoopView}
 use Rattle.mr_loop.specs.declared.link.Link.{Link}
 use Rattle.mr_loop.specs.declared.node.client.NodeClient.{NodeClient}
@@ -21,6 +31,7 @@ use Rattle.mr_streams.specs.Flows.{AreReplies, AreRequests, IsGoing, AreOf}
 use Rattle.mr_streams.specs.Headline.{ticks_in as streams_ticks_in}
 use Rattle.mr_streams.specs.Kept.{AreTellable}
 use Rattle.mr_streams.specs.OneNode.{IsBusy}
+use Rattle.mr_streams.specs.OneProxy.{AreKnown}
 use Rattle.mr_streams.specs.Refines.{Tells}
 use Rattle.mr_streams.specs.Steps.{names_of}
 use Rattle.mr_streams.specs.StreamsView.{StreamsView, NodeEnd, Connection, cores_of, world_nodes}
@@ -92,6 +103,7 @@ pub record Mirrors (w : WorldView) (readings : ReadingsView) (cores : List Proxy
   pub nodes_are : w.nodes ≡ nodes
   pub tells : Tells w.history history
   pub tellable : (number : ℕ) (node : Node) → At nodes number node → AreTellable node.cache.items
+  pub named : (number : ℕ) (node : Node) → At nodes number node → node_number nodes node.name ≡ number
   pub numbers : (number : ℕ) (core : ProxyView) → At cores number core → core.number ≡ number
   pub plans : (number : ℕ) (core : ProxyView) → At cores number core → IsPlan core.routing core.schedule
   pub own : (number place : ℕ) (links : List Link) (link : Link) → At lines number links → At links place link → AreOf number link.legs
@@ -101,9 +113,26 @@ pub record Mirrors (w : WorldView) (readings : ReadingsView) (cores : List Proxy
       → c.proxy ≡ d.proxy → c.link ≡ d.link → i ≡ j
   pub one_place : (i j place : ℕ) (c d : Connection) → At connections i c → At connections j d → c.place ≡ Some place → d.place ≡ Some place → c.node ≡ d.node → i ≡ j
 
--- that of streams
-abbrev pub MirrorsStreams : WorldView → StreamsView → Type 0
-MirrorsStreams w s = Mirrors w s.readings (cores_of s.loops) (lines_of s.loops) (world_nodes s.nodes) (seats_of s.nodes) s.connections s.history
+-- a request that has legs, the text of each of which can be read
+pub record IsLegal (request : Request) : Type 0 where
+  pub has_legs : HasLegs request
+  pub valid : (command : NodeCommand) → Contains (commands_of request) command → IsValidRequest (request_for command)
+
+-- what was held back is such a request
+abbrev pub IsLegalInput : Option Input → Type 0
+IsLegalInput None = Unit {0}
+IsLegalInput (Some (Asks request)) = IsLegal request
+IsLegalInput (Some (Refused refusal)) = Unit {0}
+
+-- so it is with each client
+abbrev pub AreLegal : List Inbox → Type 0
+AreLegal inboxes = (place : ℕ) (inbox : Inbox) → At inboxes place inbox → IsLegalInput inbox.held
+
+-- a fleet that streams stand for
+pub record MirrorsStreams (w : WorldView) (s : StreamsView) : Type 0 where
+  pub mirrors : Mirrors w s.readings (cores_of s.loops) (lines_of s.loops) (world_nodes s.nodes) (seats_of s.nodes) s.connections s.history
+  pub known : (number : ℕ) (loop : LoopView) → At s.loops number loop → AreKnown w.history loop.front.clients
+  pub legal : (number : ℕ) (loop : LoopView) → At s.loops number loop → AreLegal loop.inboxes
 
 -- what is going stays so while more messages are sent
 pub going_still : (messages more : List Message) (node : ℕ) (legs : List SentLeg) → AllByRecursion (IsGoing messages node) legs → AllByRecursion (IsGoing (messages ++ more) node) legs

@@ -57,6 +57,9 @@ breaks_run now link link' front front' w number there own b =
 breaks_down : (now : ℕ) (link link' : Link) (front front' : FrontView) → Breaks now link front link' front' → link'.is_up ≡ false
 breaks_down now link link' front front' b = ap (λ (l : Link). l.is_up) b.down
 
+breaks_own : (number now : ℕ) (link link' : Link) (front front' : FrontView) → Breaks now link front link' front' → AreOf number link'.legs
+breaks_own number now link link' front front' b = subst (λ (l : Link). AreOf number l.legs) (sym b.down) tt
+
 -- what some replies that were taken leave
 pub record Took (messages : List Message) (deliveries : List Delivery) (w : WorldView) (number : ℕ) (front front' : FrontView) (left going : List SentLeg) (bytes : List ℕ) : Type 0 where
   pub run : FrontRuns w number front front'
@@ -100,7 +103,7 @@ some_taken laws messages deliveries w number now piece later old new front front
     let broken = breaks_run now (standing t.left t.counts old) new t.between front' is.run.so.world number is.awaits.there is.awaits.own t.breaks in
     record {
       run = front_on w number front t.between front' is.run broken;
-      left = inr (breaks_down now (standing t.left t.counts old) new t.between front' t.breaks);
+      left = inr (breaks_down now (standing t.left t.counts old) new t.between front' t.breaks, breaks_own number now (standing t.left t.counts old) new t.between front' t.breaks);
     }
 
 nothing_more : (legs : List SentLeg) → TakesAll legs [] [] legs
@@ -125,14 +128,14 @@ complaint_taken laws messages deliveries w number now piece later old new front 
     let broken = breaks_run now (standing t.left t.counts old) new t.between front' last.run.so.world number last.awaits.there last.awaits.own t.breaks in
     record {
       run = front_on w number front c.between front' is.run (front_on is.run.so.world number c.between t.between front' last.run broken);
-      left = inr (breaks_down now (standing t.left t.counts old) new t.between front' t.breaks);
+      left = inr (breaks_down now (standing t.left t.counts old) new t.between front' t.breaks, breaks_own number now (standing t.left t.counts old) new t.between front' t.breaks);
     }
 
 at_once_taken : (messages : List Message) (deliveries : List Delivery) (w : WorldView) (number now : ℕ) (piece later bytes : List ℕ) (old new : Link) (front front' : FrontView) (going : List SentLeg) (refusal : TextError)
     → Awaits messages deliveries w number front.core old.legs going bytes → BreaksAtOnce now piece old front refusal new front'
     → BytesTaken messages deliveries w number front front' old new going later
 at_once_taken messages deliveries w number now piece later bytes old new front front' going refusal a t =
-    record { run = breaks_run now old new front front' w number a.there a.own t.breaks; left = inr (breaks_down now old new front front' t.breaks) }
+    record { run = breaks_run now old new front front' w number a.there a.own t.breaks; left = inr (breaks_down now old new front front' t.breaks, breaks_own number now old new front front' t.breaks) }
 
 -- whichever way the bytes end
 pub bytes_taken : ReplyLaws → (messages : List Message) (deliveries : List Delivery) (w : WorldView) (number now : ℕ) (piece later : List ℕ) (end : LinkEnd) (old new : Link) (front front' : FrontView) (going : List SentLeg)
@@ -154,5 +157,5 @@ bytes_taken laws messages deliveries w number now piece later (Refused refusal) 
 bytes_taken laws messages deliveries w number now piece later Down old new front front' going a t =
     record {
       run = front_to w number front front front' (sym t.2) (front_stays w number front a.there);
-      left = inr (ap (λ (l : Link). l.is_up) t.1 ∙ t.0);
+      left = inr (ap (λ (l : Link). l.is_up) t.1 ∙ t.0, subst (λ (l : Link). AreOf number l.legs) (sym t.1) a.own);
     }

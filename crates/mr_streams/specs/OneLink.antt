@@ -28,7 +28,7 @@ pub record BytesTaken (messages : List Message) (deliveries : List Delivery) (w 
   pub run : FrontRuns w number front front'
   pub left :
       ((new.is_up ≡ old.is_up) × (new.out ≡ old.out) × Awaits messages deliveries run.so.world number front'.core new.legs going (new.reader.kept ++ later))
-      ⊎ (new.is_up ≡ false)
+      ⊎ ((new.is_up ≡ false) × AreOf number new.legs)
 
 -- whatever bytes come, and however the link ends by them: events of the fleet lead to the same core, and the legs that are left await the
 -- replies that are left

@@ -5,6 +5,7 @@ use Rattle.mr_history.specs.declared.entry.Entry.{Entry}
 use Rattle.mr_node.specs.Recency.{CacheView}
 use Rattle.mr_loop.specs.declared.sent_legs.SentLeg.{SentLeg}
 use Rattle.mr_loop.specs.node.Serving.{Seat, ServesSome, IsOver, to_tell}
+use Rattle.mr_world.specs.Lists.{Has}
 use Rattle.mr_world.specs.WorldView.{WorldView}
 use Rattle.mr_world.specs.declared.message.Delivery.{Delivery}
 use Rattle.mr_world.specs.declared.message.Message.{Message}
@@ -32,6 +33,7 @@ pub record ServesSo (w : WorldView) (number : ℕ) (name : List ℕ) (cache : Ca
   pub more : List Delivery
   pub replies : world.replies ≡ w.replies ++ more
   pub tells : Tells w.history heard → Tells world.history heard'
+  pub grows : (entry : Entry) → Has w.history entry → Has world.history entry
   pub ticks : ticks_of events ≡ []
 
 -- The legs of a connection whose replies are on the way back, and those whose requests are on the way to the node; the node reads no
