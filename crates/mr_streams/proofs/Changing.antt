@@ -206,7 +206,7 @@ up_there (Some link) links n e up = (link, record { gets = e }, up)
 pub up_at : (links : List Link) (n : ℕ) → is_up_at links n ≡ true → (link : Link) × At links n link × (link.is_up ≡ true)
 up_at links n up = up_there (slice_get links n) links n refl up
 
-here_elsewhere : (lines : List (List Link)) (p : ℕ) (links' : List Link) (c : Connection) (legs : List SentLeg) (front out : List ℕ) → c.proxy ≢ p
+pub here_elsewhere : (lines : List (List Link)) (p : ℕ) (links' : List Link) (c : Connection) (legs : List SentLeg) (front out : List ℕ) → c.proxy ≢ p
     → IsHere lines c legs front out → IsHere (slice_set lines p links') c legs front out
 here_elsewhere lines p links' c legs front out other h = record {
   links = h.links;

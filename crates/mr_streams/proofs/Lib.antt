@@ -15,3 +15,4 @@ mod LoopMoves
 mod LoopEvents
 mod LinkEvents
 mod NodeEvents
+mod Connecting

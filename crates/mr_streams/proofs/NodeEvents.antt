@@ -150,7 +150,7 @@ ticks_on w s s' p reading m h =
     })
 
 -- nothing happens to the world, and one connection and one node change
-quiet_node : (w : WorldView) (s : StreamsView) (n : ℕ) (end : NodeEnd) (loop' : NodeView CacheView) (connections' : List Connection)
+pub quiet_node : (w : WorldView) (s : StreamsView) (n : ℕ) (end : NodeEnd) (loop' : NodeView CacheView) (connections' : List Connection)
     → MirrorsStreams w s → At s.nodes n end → loop'.cache ≡ end.loop.cache
     → ((i : ℕ) (c : Connection) → At connections' i c → StandsFor s.connections i c)
     → ((i : ℕ) (c : Connection) → At connections' i c → FlowsOf w.sent w.replies (lines_of s.loops) (slice_set (seats_of s.nodes) n loop'.clients) c)
