@@ -63,7 +63,7 @@ over_like : (p link : ℕ) (c : Connection) → IsLike c (left_over p link c)
 over_like p link c = over_or_not (λ x. IsLike c x) p link c (left_like c) (λ _. same_like c)
 
 -- the proxy's end of a connection over another link
-here_kept : (lines : List (List Link)) (p node : ℕ) (links : List Link) (link' : Link) (c : Connection) (legs : List SentLeg) (front out : List ℕ) → At lines p links → c.proxy ≡ p → c.link ≢ node
+pub here_kept : (lines : List (List Link)) (p node : ℕ) (links : List Link) (link' : Link) (c : Connection) (legs : List SentLeg) (front out : List ℕ) → At lines p links → c.proxy ≡ p → c.link ≢ node
     → IsHere lines c legs front out → IsHere (slice_set lines p (slice_set links node link')) c legs front out
 here_kept lines p node links link' c legs front out there same other h =
     let own : links ≡ h.links = at_one there (subst (λ n. At lines n h.links) same h.home) in

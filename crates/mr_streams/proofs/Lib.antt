@@ -16,3 +16,6 @@ mod LoopEvents
 mod LinkEvents
 mod NodeEvents
 mod Connecting
+mod Legal
+mod Placing
+mod Sending
