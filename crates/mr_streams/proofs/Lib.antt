@@ -19,3 +19,5 @@ mod Connecting
 mod Legal
 mod Placing
 mod Sending
+mod Asking
+mod ClientEvents

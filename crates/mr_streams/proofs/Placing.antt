@@ -2,6 +2,7 @@
 use Rattle.std.proofs.Common.{◌≡◌, ℕ, zero, suc, ◌+◌, ◌<◌, ◌≤◌, ◌%◌, List, [], ◌∷◌, ◌++◌, length, slice_get, get_or, Some, refl, sym, ap, ◌∙◌, subst, arith}
 use Rattle.std.specs.Prelude.{slice_index_or, sum_by, take}
 use Rattle.std.specs.List.{flat_map}
+use Rattle.std.proofs.lemmas.List.Sums.{sum_by-cons}
 use Rattle.std.proofs.lemmas.Nat.{mod_below}
 use Rattle.std.proofs.lemmas.Option.{slice_get-get_or}
 use Rattle.mr_history.specs.Places.{At}
@@ -31,7 +32,7 @@ got_name (pool ∷ pools) zero k below within =
     let all : At (pool ++ flat_map (λ p. p) pools) k (get_or pool k []) = at_left (flat_map (λ p. p) pools) own in
     ap (λ x. slice_get (flat_map (λ p. p) (pool ∷ pools)) x) none ∙ all.gets
 got_name (pool ∷ pools) (suc n) k below within =
-    let first : nodes_before (pool ∷ pools) (suc n) ≡ length pool + nodes_before pools n = refl in
+    let first : nodes_before (pool ∷ pools) (suc n) ≡ length pool + nodes_before pools n = sum_by-cons length pool (take n pools) in
     let more : nodes_before (pool ∷ pools) (suc n) + k ≡ length pool + (nodes_before pools n + k) = omega (arith, first) in
     let later : At (flat_map (λ p. p) pools) (nodes_before pools n + k) (slice_index_or (slice_index_or pools n []) k []) = record { gets = got_name pools n k (omega arith) within } in
     ap (λ x. slice_get (flat_map (λ p. p) (pool ∷ pools)) x) more ∙ (at_right pool later).gets
