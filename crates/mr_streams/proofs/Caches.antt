@@ -1,5 +1,6 @@
 -- What a cache holds stays such as a text can tell of.
 use Rattle.std.proofs.Common.{◌≡◌, ℕ, ◌-◌, zero, suc, Bool, true, false, cond, List, [], ◌∷◌, ◌++◌, take, Option, Some, None, refl, sym, ap, ◌∙◌, subst}
+use Rattle.std.specs.Prelude.{ℤ}
 use Rattle.std.specs.List.{find, filter, AllByRecursion}
 use Rattle.std.specs.Option.{option_to_list}
 use Rattle.mr_text.specs.Valid.{IsValidRequest, IsFlags}
@@ -62,6 +63,13 @@ set_kept : (b : Bool) (capacity : ℕ) (named : NamedItem) (others : List NamedI
     → AreTellable (cond b (put_in_front capacity named others) others)
 set_kept true capacity named others one all = (one, kept_take (capacity - 1) others all)
 set_kept false capacity named others one all = all
+
+-- so it is after a set of what can be told of
+pub put_kept : (capacity now : ℕ) (key : List ℕ) (flags : ℕ) (exptime : ℤ) (block : List ℕ) (items : List NamedItem) → IsFlags flags → IsBlock block → AreTellable items
+    → AreTellable (items_after capacity now (Set key flags exptime block) items)
+put_kept capacity now key flags exptime block items fit is all =
+    set_kept (is_alive now (expiry_of now exptime)) capacity (key, record { flags = flags; block = block; expires_at = expiry_of now exptime }) (without key items)
+    (fit, is) (without_kept key items all)
 
 -- a command keeps it so
 items_kept : (capacity now : ℕ) (command : NodeCommand) (items : List NamedItem) → IsValidRequest (request_for command) → AreTellable items

@@ -102,7 +102,7 @@ loop_mirrors w w' readings cores lines nodes seats connections connections' hist
       m.one_place i j place s.old t.old s.there t.there (s.like.place place e) (t.like.place place f) (sym s.like.node ∙ same_node ∙ t.like.node));
 }
 
-numbered_still : (nodes : List Node) (n : ℕ) (old new : Node) (name : List ℕ) → slice_get nodes n ≡ Some old → new.name ≡ old.name → node_number (slice_set nodes n new) name ≡ node_number nodes name
+pub numbered_still : (nodes : List Node) (n : ℕ) (old new : Node) (name : List ℕ) → slice_get nodes n ≡ Some old → new.name ≡ old.name → node_number (slice_set nodes n new) name ≡ node_number nodes name
 numbered_still nodes n old new name e same =
     position_or_len-set (λ (node : Node). bytes_eq node.name name) nodes n new old
     (ap (λ (b : List ℕ). bytes_eq b name) (same ∙ ap (λ (y : Node). y.name) (sym (get_or_from_slice_get nodes n old old e))))

@@ -21,3 +21,5 @@ mod Placing
 mod Sending
 mod Asking
 mod ClientEvents
+mod Starting
+mod Refining

@@ -1,7 +1,10 @@
 //! What holds of a fleet as streams of bytes.
 ghost use Rattle.mr_streams.specs.OneLink.{RepliesComeBack, LinksGiveUp};
 ghost use Rattle.mr_streams.specs.OneNode.{RequestsAreDelivered};
+ghost use Rattle.mr_streams.specs.Refines.{RefinesWorld};
 
+use mr_phases::laws::hop_within;
+use mr_proxy::laws::sheets_say;
 use mr_text::laws::{
     canonical_reply_is_read, canonical_request_is_read, no_request_is_refused,
     nothing_is_unfinished, replies_are_prefix_free, requests_are_prefix_free,
@@ -32,4 +35,22 @@ pub fn requests_are_delivered()
     no_request_is_refused();
     skipped_lines_are_refused();
     nothing_is_unfinished();
+}
+
+/// Whatever happens to streams from a fresh start on, events of the world, in which a leg may fail, come to the same cores and the same
+/// nodes at the same readings, and to a history that tells all that happened in the streams: in whatever pieces bytes travel,
+/// whenever connections are made, break or are left with bytes on their way, whichever nodes and proxies restart, and wherever
+/// memory is refused.
+pub fn streams_refine_the_world()
+    ensures { RefinesWorld }
+{
+    replies_are_prefix_free();
+    canonical_reply_is_read();
+    requests_are_prefix_free();
+    canonical_request_is_read();
+    no_request_is_refused();
+    skipped_lines_are_refused();
+    nothing_is_unfinished();
+    sheets_say();
+    hop_within();
 }
