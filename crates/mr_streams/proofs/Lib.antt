@@ -23,3 +23,4 @@ mod Asking
 mod ClientEvents
 mod Starting
 mod Refining
+mod Telling
