@@ -24,3 +24,5 @@ mod ClientEvents
 mod Starting
 mod Refining
 mod Telling
+mod Firsts
+mod Failing

@@ -13,6 +13,7 @@ use Rattle.mr_history.specs.declared.entry.Entry.{Entry}
 use Rattle.mr_history.specs.declared.entry.Entry.TheVariants.{Issued, Stored, Removed, Answered}
 use Rattle.mr_history.specs.declared.op_id.OpId.{OpId}
 use Rattle.mr_join.specs.Join.{Acknowledges}
+use Rattle.mr_phases.specs.declared.side.Side.{Side}
 use Rattle.mr_streams.specs.Flows.{IsError}
 use Rattle.mr_streams.specs.Refines.{Tells}
 use Rattle.mr_streams.proofs.Lists.{at_last, at_left, at_new}
@@ -325,12 +326,50 @@ follows_error told heard op cause f =
           }));
     }
 
+-- the other tells of a removal, which nothing rests on
+follows_removed : (told heard : List Entry) (op : OpId) (side : Side) (key : List ℕ) → Follows told heard → Follows told (heard ++ Removed op side key ∷ [])
+follows_removed told heard op side key f =
+    let new : Entry = Removed op side key in
+    record {
+      to = f.to;
+      issued = λ place o n r h. elim (at_last heard new h) [
+          | inl was ↦ f.issued place o n r was
+          | inr is ↦ absurd (let never : Issued o n r ≡ Removed op side key = is.1 in cc)
+        ];
+      answered = λ place o r h fine. elim (at_last heard new h) [
+          | inl was ↦ f.answered place o r was fine
+          | inr is ↦ absurd (let never : Answered o r ≡ Removed op side key = is.1 in cc)
+        ];
+      in_order = λ answer issue a i l. elim (at_last heard new a.2) [
+          | inl was ↦ elim (at_last heard new i.3) [
+              | inl was_issue ↦ f.in_order answer issue (a.0, a.1, was, a.3) (i.0, i.1, i.2, was_issue) l
+              | inr is ↦ absurd (let never : Issued i.0 i.1 i.2 ≡ Removed op side key = is.1 in cc)
+            ]
+          | inr is ↦ absurd (let never : Answered a.0 a.1 ≡ Removed op side key = is.1 in cc)
+        ];
+      stored = λ place b k g d h. (
+          let s = f.stored place b k g d h in
+          (s.0, record {
+            by = s.1.by;
+            there = at_left (new ∷ []) s.1.there;
+            before = λ answer a l. elim (at_last heard new a.2) [
+                | inl was_answer ↦ s.1.before answer (a.0, a.1, was_answer, a.3) l
+                | inr is ↦ absurd (let never : Answered a.0 a.1 ≡ Removed op side key = is.1 in cc)
+              ];
+            after = λ issue i l. elim (at_last heard new i.3) [
+                | inl was_issue ↦ s.1.after issue (i.0, i.1, i.2, was_issue) l
+                | inr is ↦ absurd (let never : Issued i.0 i.1 i.2 ≡ Removed op side key = is.1 in cc)
+              ];
+          }));
+    }
+
 follows_told : (told heard : List Entry) → Tells told heard → Follows told heard
 follows_told told heard (Tells.begins history) = follows_same history
 follows_told told heard (Tells.issues {told = t} {heard = h} op proxy request tells) = follows_issue t h op proxy request (follows_told t h tells)
 follows_told told heard (Tells.stores {told = t} {heard = h} by other key flags block tells) = follows_stored t h by other key flags block (follows_told t h tells)
 follows_told told heard (Tells.removes {told = t} {heard = h} op side key tells) =
     follows_more t h (Removed op side key) (λ b k g d e. cc) (follows_told t h tells)
+follows_told told heard (Tells.removed {told = t} {heard = h} op side key tells) = follows_removed t h op side key (follows_told t h tells)
 follows_told told heard (Tells.knows {told = t} {heard = h} op reply tells) =
     follows_more t h (Answered op reply) (λ b k g d e. cc) (follows_told t h tells)
 follows_told told heard (Tells.answers {told = t} {heard = h} op reply tells has) = follows_answer t h op reply has.place has.there (follows_told t h tells)

@@ -28,6 +28,8 @@ pub data Tells : List Entry → List Entry → Type 0 where
       → Tells told heard → Tells (told ++ Stored by key flags block ∷ []) (heard ++ Stored other key flags block ∷ [])
   removes : {told heard : List Entry} (op : OpId) (side : Side) (key : List ℕ)
       → Tells told heard → Tells (told ++ Removed op side key ∷ []) heard
+  removed : {told heard : List Entry} (op : OpId) (side : Side) (key : List ℕ)
+      → Tells told heard → Tells told (heard ++ Removed op side key ∷ [])
   knows : {told heard : List Entry} (op : OpId) (reply : Reply)
       → Tells told heard → Tells (told ++ Answered op reply ∷ []) heard
   answers : {told heard : List Entry} (op : OpId) (reply : Reply)
