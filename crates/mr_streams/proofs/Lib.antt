@@ -26,3 +26,4 @@ mod Refining
 mod Telling
 mod Firsts
 mod Failing
+mod Thinning
