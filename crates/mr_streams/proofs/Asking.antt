@@ -91,7 +91,7 @@ front_moves w t p l front' m home front =
     (own_links w t p l m home) (λ i c k. record { old = c; there = k; like = same_like c })
     (λ i c k. subst (λ x. FlowsOf w.sent w.replies x (seats_of t.nodes) c) (sym lines) (m.mirrors.flows i c k))
 
-client_asks : (old : WorldView) (number : ℕ) (asked : Request) (told : Note) (new : WorldView) → HasLegs asked → Issues old number asked told new → ClientAsks old number asked told new
+pub client_asks : (old : WorldView) (number : ℕ) (asked : Request) (told : Note) (new : WorldView) → HasLegs asked → Issues old number asked told new → ClientAsks old number asked told new
 client_asks old number (request.Get keys) told new legs step = step
 client_asks old number (request.Set key flags exptime block noreply) told new legs step = step
 client_asks old number (request.Delete key noreply) told new legs step = step
