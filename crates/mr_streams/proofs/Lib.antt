@@ -27,3 +27,4 @@ mod Telling
 mod Firsts
 mod Failing
 mod Thinning
+mod Safety

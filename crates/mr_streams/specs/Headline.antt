@@ -54,6 +54,13 @@ pub record PremisesHold (setup : SetupView) (events : List StreamsEvent) : Type 
   pub forward : NeverGoesBack (map (λ proxy. proxy.reading) setup.proxies) (ticks_of events)
   pub near : StayWithin (least_interval_of setup.proxies) (map (λ proxy. proxy.reading) setup.proxies) (ticks_of events)
 
+-- Whatever pieces bytes travel in, whenever connections break, nodes and proxies restart and memory is refused: each hit is fresh.
+abbrev pub BytesAreSafe : Type 0
+BytesAreSafe =
+    (setup : SetupView) (first last : StreamsView) (events : List StreamsEvent)
+    → All (λ proxy. IsPlan proxy.routing proxy.schedule) setup.proxies → All HasText setup.held
+    → Starts setup first → StreamsRun first events last → PremisesHold setup events → IsSafe last.history
+
 -- Whatever pieces bytes travel in, whenever connections break, nodes and proxies restart and memory is refused: each hit is fresh, and
 -- each client was told the answers of the history to its requests, in their order.
 abbrev pub HeadlineOverBytes : Type 0

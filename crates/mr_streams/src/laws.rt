@@ -1,4 +1,5 @@
 //! What holds of a fleet as streams of bytes.
+ghost use Rattle.mr_streams.specs.Headline.{BytesAreSafe};
 ghost use Rattle.mr_streams.specs.OneLink.{RepliesComeBack, LinksGiveUp};
 ghost use Rattle.mr_streams.specs.OneNode.{RequestsAreDelivered};
 ghost use Rattle.mr_streams.specs.Refines.{RefinesWorld};
@@ -10,6 +11,7 @@ use mr_text::laws::{
     nothing_is_unfinished, replies_are_prefix_free, requests_are_prefix_free,
     skipped_lines_are_refused,
 };
+use mr_world::headline::headline;
 
 /// Whatever bytes come over a link, in whatever pieces: each reply is that of its leg, and what the core makes of them is some
 /// events of the world, in which a leg may fail.
@@ -53,4 +55,14 @@ pub fn streams_refine_the_world()
     nothing_is_unfinished();
     sheets_say();
     hop_within();
+}
+
+/// Whatever happens to streams from a fresh start on: where the four premises hold of the readings at which requests are issued, each
+/// hit that is put to the bytes of any client was stored by a set of that key before that, and after the issue of every delete of
+/// that key whose acknowledgement was put to the bytes of any client before the get was issued.
+pub fn bytes_are_safe()
+    ensures { BytesAreSafe }
+{
+    headline();
+    streams_refine_the_world();
 }
