@@ -283,7 +283,7 @@ module _ (laws : RequestLaws) (w : WorldView) (s : StreamsView) (number place no
       → fed.is_done ≡ was.inbox.is_done
       → ((kept out : List ℕ) → was.inbox.is_done ≡ false → was.inbox.reader.kept ≡ kept → ReadsOn was c → kept ++ (c.forth ++ out) ≡ fed.reader.kept ++ (forth' ++ out))
       → (was.inbox.is_done ≡ false → ReadsOn was c → fed.reader.ended ≡ true → (c.is_left ≡ true) × (forth' ≡ []))
-      → (serves : ServesSome node_does now end.loop.most_unread was_seat after ⊎ IsOver was_seat after) → Stores s.history serves gains
+      → (serves : ServesSome node_does now end.loop.most_unread was_seat after ⊎ IsOver was_seat after) → Stores serves gains
       → RunsTo w [] (with_node_parts s c.node end (with_seat place after end.loop) (slice_set s.connections number now_forth) (s.history ++ gains))
   node_served m there is_open home was_there same_done texts ended serves stores =
       let c' : Connection = now_forth in

@@ -102,11 +102,11 @@ some_served : RequestLaws → (messages : List Message) (deliveries : List Deliv
     (returning going : List SentLeg) (heard gains : List Entry) (some : ServesSome node_does reading most old new)
     → w.sent ≡ messages → w.replies ≡ deliveries → At w.nodes number (holding name old.cache) → AreTellable old.cache.items
     → IsBusy messages deliveries number old.client.inbox.is_done returning going (back ++ to_tell old.client) (old.client.inbox.reader.kept ++ later)
-    → StoresAll heard some.exchanges gains
+    → StoresAll some.exchanges gains
     → HasServed messages deliveries w number name new returning going back later heard (heard ++ gains)
 some_served laws messages deliveries w number reading most name back later old new returning going heard gains some ws wr there kept busy stores =
     let cut = subst (λ b. AreRequests messages number going b) (ap (λ b. b ++ later) some.splits ∙ append_assoc some.bytes some.rest later) (busy.requests some.is_open) in
-    let all = serve_all laws some.exchanges messages deliveries w number reading name old.cache new.cache going some.bytes (some.rest ++ later) heard heard gains ws wr there kept
+    let all = serve_all laws some.exchanges messages deliveries w number reading name old.cache new.cache going some.bytes (some.rest ++ later) heard gains ws wr there kept
     (asks_all reading old.cache new.cache some.exchanges some.asks) (spells_all some.bytes some.exchanges some.reads) cut stores in
     let out : List ℕ = output_of some.exchanges in
     let told : List ℕ = to_tell old.client in
@@ -147,7 +147,7 @@ pub served : RequestLaws → (messages : List Message) (deliveries : List Delive
     (returning going : List SentLeg) (heard gains : List Entry) (serves : ServesSome node_does reading most old new ⊎ IsOver old new)
     → w.sent ≡ messages → w.replies ≡ deliveries → At w.nodes number (holding name old.cache) → AreTellable old.cache.items
     → IsBusy messages deliveries number old.client.inbox.is_done returning going (back ++ to_tell old.client) (old.client.inbox.reader.kept ++ later)
-    → Stores heard serves gains
+    → Stores serves gains
     → HasServed messages deliveries w number name new returning going back later heard (heard ++ gains)
 served laws messages deliveries w number reading most name back later old new returning going heard gains (inl some) ws wr there kept busy stores =
     some_served laws messages deliveries w number reading most name back later old new returning going heard gains some ws wr there kept busy stores

@@ -4,10 +4,9 @@ use Rattle.std.specs.Prelude.{◌≡◌, ◌==◌, ℕ, List, [], ◌∷◌, ◌
 use Rattle.std.specs.List.{flat_map}
 use Rattle.mr_text.specs.declared.reply.Reply.TheVariants.{Stored}
 use Rattle.mr_text.specs.declared.request.Request.TheVariants.{Set}
-use Rattle.mr_history.specs.declared.entry.Author.TheVariants.{By}
+use Rattle.mr_history.specs.declared.entry.Author.{Author}
 use Rattle.mr_history.specs.declared.entry.Entry.{Entry}
 use Rattle.mr_history.specs.declared.entry.Entry.TheVariants as entry
-use Rattle.mr_history.specs.declared.op_id.OpId.{OpId}
 use Rattle.mr_node.specs.Output.{Exchange}
 use Rattle.mr_node.specs.Output.Exchange.{Asked, Unknown}
 use Rattle.mr_proxy.specs.Issue.{next_op}
@@ -19,7 +18,6 @@ use Rattle.mr_loop.specs.declared.inbox.Input.{Input}
 use Rattle.mr_loop.specs.declared.inbox.Input.TheVariants as input
 use Rattle.mr_loop.specs.declared.turns.Turn.{Turn}
 use Rattle.mr_loop.specs.declared.turns.Turn.TheVariants.{Waits, Answered, Says}
-use Rattle.mr_world.specs.Facts.{WasSet}
 use Rattle.mr_world.specs.Steps.{answered}
 
 -- a request is issued where it takes a number
@@ -42,14 +40,13 @@ told_by (Says reply) = []
 abbrev pub told_in : List Turn → List Entry
 told_in turns = flat_map told_by turns
 
--- a node told STORED of a set: its item is stored, for a set of it that was issued; in bytes nobody can tell which of several
-abbrev pub StoresOnce : List Entry → Exchange → List Entry → Type 0
-StoresOnce history (Asked (Set key flags exptime block noreply) Stored) gains =
-    (op : OpId) × WasSet history op key flags block × (gains ≡ entry.Stored (By op) key flags block ∷ [])
-StoresOnce history exchange gains = gains ≡ []
+-- a node told STORED of a set: its item is stored. By which request doesn't matter: in bytes nobody can tell.
+abbrev pub StoresOnce : Exchange → List Entry → Type 0
+StoresOnce (Asked (Set key flags exptime block noreply) Stored) gains = (by : Author) × (gains ≡ entry.Stored by key flags block ∷ [])
+StoresOnce exchange gains = gains ≡ []
 
 -- the items that a node stored, in order
-abbrev pub StoresAll : List Entry → List Exchange → List Entry → Type 0
-StoresAll history [] gains = gains ≡ []
-StoresAll history (exchange ∷ exchanges) gains =
-    (first : List Entry) × (later : List Entry) × StoresOnce history exchange first × StoresAll history exchanges later × (gains ≡ first ++ later)
+abbrev pub StoresAll : List Exchange → List Entry → Type 0
+StoresAll [] gains = gains ≡ []
+StoresAll (exchange ∷ exchanges) gains =
+    (first : List Entry) × (later : List Entry) × StoresOnce exchange first × StoresAll exchanges later × (gains ≡ first ++ later)

@@ -59,5 +59,5 @@ RequestsAreDelivered =
     (returning going : List SentLeg) (heard gains : List Entry) (serves : ServesSome node_does reading most old new ⊎ IsOver old new)
     → w.sent ≡ messages → w.replies ≡ deliveries → At w.nodes number (holding name old.cache) → AreTellable old.cache.items
     → IsBusy messages deliveries number old.client.inbox.is_done returning going (back ++ to_tell old.client) (old.client.inbox.reader.kept ++ later)
-    → Stores heard serves gains
+    → Stores serves gains
     → HasServed messages deliveries w number name new returning going back later heard (heard ++ gains)

@@ -140,9 +140,9 @@ pub record ReachesProxy (old : StreamsView) (number now : ℕ) (new : StreamsVie
   pub becomes : new ≡ with_loop c.proxy loop' (with_connection number (record c { back = rest }) old)
 
 -- what a node stored while it served a client
-abbrev pub Stores : List Entry → {old new : Seat CacheView} → {reading most : ℕ} → ServesSome node_does reading most old new ⊎ IsOver old new → List Entry → Type 0
-Stores history (inl some) gains = StoresAll history some.exchanges gains
-Stores history (inr over) gains = gains ≡ []
+abbrev pub Stores : {old new : Seat CacheView} → {reading most : ℕ} → ServesSome node_does reading most old new ⊎ IsOver old new → List Entry → Type 0
+Stores (inl some) gains = StoresAll some.exchanges gains
+Stores (inr over) gains = gains ≡ []
 
 -- the first bytes on their way to a node reach it: it serves what is whole, whether or not the proxy has left
 pub record ReachesNode (old : StreamsView) (number now : ℕ) (new : StreamsView) : Type 0 where
@@ -159,7 +159,7 @@ pub record ReachesNode (old : StreamsView) (number now : ℕ) (new : StreamsView
   pub home : At old.nodes c.node node
   pub splits : c.forth ≡ piece ++ rest
   pub step : NodeBytes node_does place now piece node.loop pause loop'
-  pub stores : Stores old.history step.serves.serves gains
+  pub stores : Stores step.serves.serves gains
   pub becomes : new ≡ with_entries gains (with_node c.node node loop' (with_connection number (record c { forth = rest }) old))
 
 -- a node reads that a connection which the proxy has left ends: it serves what is whole of what came
@@ -176,7 +176,7 @@ pub record EndsAtNode (old : StreamsView) (number now : ℕ) (new : StreamsView)
   pub all_came : c.forth ≡ []
   pub home : At old.nodes c.node node
   pub step : NodeEnds node_does place now node.loop pause loop'
-  pub stores : Stores old.history step.serves.serves gains
+  pub stores : Stores step.serves.serves gains
   pub becomes : new ≡ with_entries gains (with_node c.node node loop' old)
 
 -- the first bytes that a node has for a proxy leave it
