@@ -28,3 +28,4 @@ mod Firsts
 mod Failing
 mod Thinning
 mod Safety
+mod Dues

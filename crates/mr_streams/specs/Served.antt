@@ -37,31 +37,31 @@ SpellsInputs bytes [] = bytes ≡ []
 SpellsInputs bytes (input ∷ inputs) =
     (spelling : List ℕ) × (later : List ℕ) × SpellsInput spelling input × SpellsInputs later inputs × (bytes ≡ spelling ++ later)
 
--- the turns of what a client sent: an issued request waits for its answer or has it; one that isn't begun is denied for a cause,
--- which its client is told unless it wants no answer; a refused text is answered where such texts are
-pub data AreTurnsOf (history : List Entry) : List Input → List Turn → Type 0 where
-  begins : AreTurnsOf history [] []
-  issued : {inputs : List Input} {turns : List Turn} (request : Request) (turn : Turn) (op : OpId) (place : ℕ)
-      → AreTurnsOf history inputs turns → IsIssued history op request place → due_of_turn turn ≡ Due.Op op
-      → AreTurnsOf history (inputs ++ input.Asks request ∷ []) (turns ++ turn ∷ [])
-  denied : {inputs : List Input} {turns : List Turn} (request : Request) (cause : Cause)
-      → AreTurnsOf history inputs turns
-      → AreTurnsOf history (inputs ++ input.Asks request ∷ []) (turns ++ map Says (option_to_list (denial request cause)))
-  refused : {inputs : List Input} {turns : List Turn} (refusal : TextError)
-      → AreTurnsOf history inputs turns
-      → AreTurnsOf history (inputs ++ input.Refused refusal ∷ []) (turns ++ map Says (option_to_list (reply_to_refusal refusal)))
+-- what a client is to be told of what it sent, in order: the answer to an issued request; why one isn't begun, unless it wants no
+-- answer; what a refused text is answered, where such texts are
+pub data AreDue (history : List Entry) : List Input → List Due → Type 0 where
+  begins : AreDue history [] []
+  issued : {inputs : List Input} {dues : List Due} (request : Request) (op : OpId) (place : ℕ)
+      → AreDue history inputs dues → IsIssued history op request place
+      → AreDue history (inputs ++ input.Asks request ∷ []) (dues ++ Due.Op op ∷ [])
+  denied : {inputs : List Input} {dues : List Due} (request : Request) (cause : Cause)
+      → AreDue history inputs dues
+      → AreDue history (inputs ++ input.Asks request ∷ []) (dues ++ map Due.Line (option_to_list (denial request cause)))
+  refused : {inputs : List Input} {dues : List Due} (refusal : TextError)
+      → AreDue history inputs dues
+      → AreDue history (inputs ++ input.Refused refusal ∷ []) (dues ++ map Due.Line (option_to_list (reply_to_refusal refusal)))
 
 -- What a client sent begins with requests and refused texts. What it was told, and is to be told next, is the texts of the answers
--- to the first of them in their order; each of these answers stands in the history, unless it has no text.
+-- to the first of them in their order; each of these answers stands in the history, unless its client wants none.
 pub record IsServed (history : List Entry) (visit : Visit) (client : Client) : Type 0 where
   pub inputs : List Input
   pub bytes : List ℕ
   pub rest : List ℕ
   pub sent : visit.sent ≡ bytes ++ rest
   pub spells : SpellsInputs bytes inputs
-  pub turns : AreTurnsOf history inputs (visit.put ++ client.turns)
+  pub due : AreDue history inputs (map due_of_turn (visit.put ++ client.turns))
   pub heard : visit.heard ++ client.out ≡ flat_map told_text visit.put
-  pub answered : (answer : AnswerView) → Has visit.put (Answered answer) → is_silent answer.request ≡ false
+  pub answered : (place : ℕ) (answer : AnswerView) → At visit.put place (Answered answer) → is_silent answer.request ≡ false
       → Has history (entry.Answered answer.op (reply_of answer))
 
 -- so it is with each client
