@@ -1,0 +1,124 @@
+-- Runs of a fleet in which the core of one proxy gives answers to its clients.
+use Rattle.std.proofs.Common.{◌≡◌, ℕ, ◌⊎◌, inl, inr, false, List, [], ◌∷◌, ◌++◌, slice_get, slice_set, position, Option, Some, None, refl, sym, ap, ◌∙◌, subst}
+use Rattle.mr_history.specs.Places.{At}
+use Rattle.mr_history.specs.declared.entry.Entry.{Entry}
+use Rattle.mr_history.specs.declared.entry.Entry.TheVariants as entry
+use Rattle.mr_history.specs.declared.op_id.OpId.{OpId}
+use Rattle.mr_text.specs.declared.reply.Reply.{Reply}
+use Rattle.mr_node.specs.Output.{is_silent}
+use Rattle.mr_proxy.specs.Answer.{AnswerView, reply_of}
+use Rattle.mr_proxy.specs.ProxyView.{ProxyView}
+use Rattle.mr_proxy.specs.Replay.{after, answer_at}
+use Rattle.mr_proxy.specs.declared.step.Step.{Step}
+use Rattle.mr_proxy.specs.declared.step.Step.TheVariants.{Issue, Take, GiveUp}
+use Rattle.mr_loop.specs.Events.{FrontView, Event, after_event, answered, changed, changed_in, with_turn, with_answer}
+use Rattle.mr_loop.specs.Turns.{noted, noted_in, is_turn_of}
+use Rattle.mr_loop.specs.declared.client.Client.{Client}
+use Rattle.mr_loop.specs.declared.turns.Turn.{Turn}
+use Rattle.mr_loop.specs.declared.turns.Turn.TheVariants.{Waits, Answered, Says}
+use Rattle.mr_world.specs.Lists.{Has}
+use Rattle.mr_world.specs.WorldView.{WorldView}
+use Rattle.mr_streams.specs.OneProxy.{GainsAnswers, RunsSo, StepsSo, KnowsTurns, AreKnown, FrontRuns}
+use Rattle.mr_streams.proofs.Lists.{at_left, at_set, at_last}
+use Rattle.mr_streams.proofs.Runs.{stays, runs_on, runs_to}
+
+-- the answer stands in the history, if its client wants one
+abbrev pub IsKnown : List Entry → AnswerView → Type 0
+IsKnown history answer = is_silent answer.request ≡ false → Has history (entry.Answered answer.op (reply_of answer))
+
+pub has_left : {X : Type 0} {xs : List X} (ys : List X) {x : X} → Has xs x → Has (xs ++ ys) x
+has_left ys h = record { place = h.place; there = at_left ys h.there }
+
+-- what stands in a history stays there
+pub has_still : (old new : List Entry) (x : Entry) → GainsAnswers old new → Has old x → Has new x
+has_still old new x GainsAnswers.same h = h
+has_still old new x (GainsAnswers.more {new = between} op reply gains) h = has_left (entry.Answered op reply ∷ []) (has_still old between x gains h)
+
+pub known_still : (old new : List Entry) (clients : List Client) → GainsAnswers old new → AreKnown old clients → AreKnown new clients
+known_still old new clients gains known = λ place client there turn answer h wants. has_still old new (entry.Answered answer.op (reply_of answer)) gains (known place client there turn answer h wants)
+
+-- one client changes
+known_changed_in : (history : List Entry) (o : Option Client) (place : ℕ) (change : Client → Client) (clients : List Client) → slice_get clients place ≡ o
+    → AreKnown history clients → ((client : Client) → KnowsTurns history client.turns → KnowsTurns history (change client).turns)
+    → AreKnown history (changed_in o place change clients)
+known_changed_in history None place change clients e known keeps = known
+known_changed_in history (Some was) place change clients e known keeps = λ n client there turn answer h wants.
+    elim (at_set clients place (change was) there) [
+      | inl new ↦ keeps was (known place was (record { gets = e })) turn answer (subst (λ (c : Client). At c.turns turn (Answered answer)) new.1 h) wants
+      | inr old ↦ known n client old.1 turn answer h wants
+    ]
+
+pub known_changed : (history : List Entry) (place : ℕ) (change : Client → Client) (clients : List Client) → AreKnown history clients
+    → ((client : Client) → KnowsTurns history client.turns → KnowsTurns history (change client).turns) → AreKnown history (changed place change clients)
+known_changed history place change clients known keeps = known_changed_in history (slice_get clients place) place change clients refl known keeps
+
+-- one more turn that is no answer
+pub known_more : (history : List Entry) (turns : List Turn) (turn : Turn) → ((answer : AnswerView) → Answered answer ≡ turn → ⊥) → KnowsTurns history turns → KnowsTurns history (turns ++ turn ∷ [])
+known_more history turns turn other known = λ place answer h wants.
+    elim (at_last turns turn h) [
+      | inl old ↦ known place answer old wants
+      | inr new ↦ absurd (other answer new.1)
+    ]
+
+pub known_waits : (history : List Entry) (turns : List Turn) (op : OpId) → KnowsTurns history turns → KnowsTurns history (turns ++ Waits op ∷ [])
+known_waits history turns op known = known_more history turns (Waits op) (λ answer e. cc) known
+
+pub known_says : (history : List Entry) (turns : List Turn) (reply : Reply) → KnowsTurns history turns → KnowsTurns history (turns ++ Says reply ∷ [])
+known_says history turns reply known = known_more history turns (Says reply) (λ answer e. cc) known
+
+known_noted_in : (history : List Entry) (turns : List Turn) (o : Option ℕ) (answer : AnswerView) → IsKnown history answer → KnowsTurns history turns → KnowsTurns history (noted_in turns o answer)
+known_noted_in history turns None answer is known = known
+known_noted_in history turns (Some at) answer is known = λ place other h wants.
+    elim (at_set turns at (Answered answer) h) [
+      | inl new ↦ (
+          let same : other ≡ answer = (let both : Answered other ≡ Answered answer = new.1 in cc) in
+          subst (λ a. Has history (entry.Answered a.op (reply_of a))) (sym same) (is (ap (λ a. is_silent a.request) (sym same) ∙ wants)))
+      | inr old ↦ known place other old.1 wants
+    ]
+
+-- the answer that is given stands at its turn
+known_answered : (history : List Entry) (place : ℕ) (o : Option AnswerView) (clients : List Client) → ((answer : AnswerView) → o ≡ Some answer → IsKnown history answer)
+    → AreKnown history clients → AreKnown history (answered place o clients)
+known_answered history place None clients is known = known
+known_answered history place (Some answer) clients is known =
+    known_changed history place (with_answer answer) clients known
+    (λ client turns. known_noted_in history client.turns (position (is_turn_of answer.op) client.turns) answer (is answer refl) turns)
+
+-- nothing happens
+abbrev pub front_stays : (w : WorldView) (number : ℕ) (front : FrontView) → At w.proxies number front.core → FrontRuns w number front front
+front_stays w number front there = record { so = stays w number front.core there; known = λ known. known }
+
+abbrev pub front_to : (w : WorldView) (number : ℕ) (front between last : FrontView) → between ≡ last → FrontRuns w number front between → FrontRuns w number front last
+front_to w number front between last e h = record {
+  so = runs_to w number between.core last.core (ap (λ (f : FrontView). f.core) e) h.so;
+  known = λ known. subst (λ (f : FrontView). AreKnown h.so.world.history f.clients) e (h.known known);
+}
+
+abbrev pub front_on : (w : WorldView) (number : ℕ) (front between last : FrontView) (h : FrontRuns w number front between) → FrontRuns h.so.world number between last → FrontRuns w number front last
+front_on w number front between last h k = record {
+  so = runs_on w number between.core last.core h.so k.so;
+  known = λ known. k.known (h.known known);
+}
+
+-- a step that issues nothing
+abbrev pub IssuesNone : Step → Type 0
+IssuesNone (Issue reading request) = ⊥
+IssuesNone (Take back) = Unit {0}
+IssuesNone (GiveUp op) = Unit {0}
+
+pub front_does : (w : WorldView) (number : ℕ) (front : FrontView) (client : ℕ) (step : Step) → IssuesNone step → StepsSo w number front.core step
+    → FrontRuns w number front (after_event (Event.Does client step) front)
+front_does w number front client (Issue reading request) none h = absurd none
+front_does w number front client (Take back) none h = record {
+  so = h.run;
+  known = λ known. known_answered h.run.world.history client (answer_at front.core (Take back)) front.clients (λ answer e wants. h.gives answer e wants)
+      (known_still w.history h.run.world.history front.clients h.run.gains known);
+}
+front_does w number front client (GiveUp op) none h = record {
+  so = h.run;
+  known = λ known. known_answered h.run.world.history client (answer_at front.core (GiveUp op)) front.clients (λ answer e wants. h.gives answer e wants)
+      (known_still w.history h.run.world.history front.clients h.run.gains known);
+}
+
+pub front_alone : (w : WorldView) (number : ℕ) (front : FrontView) (step : Step) → StepsSo w number front.core step → FrontRuns w number front (after_event (Event.Alone step) front)
+front_alone w number front step h = record { so = h.run; known = λ known. known_still w.history h.run.world.history front.clients h.run.gains known }

@@ -1,0 +1,12 @@
+pub mod StreamsView
+pub mod Entries
+pub mod Steps
+pub mod Served
+pub mod Headline
+pub mod Fleet
+pub mod Refines
+pub mod Flows
+pub mod Kept
+pub mod OneProxy
+pub mod OneLink
+pub mod OneNode

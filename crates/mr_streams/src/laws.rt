@@ -1,0 +1,68 @@
+//! What holds of a fleet as streams of bytes.
+ghost use Rattle.mr_streams.specs.Headline.{BytesAreSafe};
+ghost use Rattle.mr_streams.specs.OneLink.{RepliesComeBack, LinksGiveUp};
+ghost use Rattle.mr_streams.specs.OneNode.{RequestsAreDelivered};
+ghost use Rattle.mr_streams.specs.Refines.{RefinesWorld};
+
+use mr_phases::laws::hop_within;
+use mr_proxy::laws::sheets_say;
+use mr_text::laws::{
+    canonical_reply_is_read, canonical_request_is_read, no_request_is_refused,
+    nothing_is_unfinished, replies_are_prefix_free, requests_are_prefix_free,
+    skipped_lines_are_refused,
+};
+use mr_world::headline::headline;
+
+/// Whatever bytes come over a link, in whatever pieces: each reply is that of its leg, and what the core makes of them is some
+/// events of the world, in which a leg may fail.
+pub fn replies_come_back()
+    ensures { RepliesComeBack }
+{
+    replies_are_prefix_free();
+    canonical_reply_is_read();
+}
+
+/// What a link that breaks does to the core is some events of the world.
+pub fn links_give_up()
+    ensures { LinksGiveUp }
+{}
+
+/// Whatever bytes reach a node over a connection, in whatever pieces: each request that is whole is the message of its leg,
+/// delivered, and its reply is on its way back behind the others.
+pub fn requests_are_delivered()
+    ensures { RequestsAreDelivered }
+{
+    requests_are_prefix_free();
+    canonical_request_is_read();
+    no_request_is_refused();
+    skipped_lines_are_refused();
+    nothing_is_unfinished();
+}
+
+/// Whatever happens to streams from a fresh start on, events of the world, in which a leg may fail, come to the same cores and the same
+/// nodes at the same readings, and to a history that tells all that happened in the streams: in whatever pieces bytes travel,
+/// whenever connections are made, break or are left with bytes on their way, whichever nodes and proxies restart, and wherever
+/// memory is refused.
+pub fn streams_refine_the_world()
+    ensures { RefinesWorld }
+{
+    replies_are_prefix_free();
+    canonical_reply_is_read();
+    requests_are_prefix_free();
+    canonical_request_is_read();
+    no_request_is_refused();
+    skipped_lines_are_refused();
+    nothing_is_unfinished();
+    sheets_say();
+    hop_within();
+}
+
+/// Whatever happens to streams from a fresh start on: where the four premises hold of the readings at which requests are issued, each
+/// hit that is put to the bytes of any client was stored by a set of that key before that, and after the issue of every delete of
+/// that key whose acknowledgement was put to the bytes of any client before the get was issued.
+pub fn bytes_are_safe()
+    ensures { BytesAreSafe }
+{
+    headline();
+    streams_refine_the_world();
+}
