@@ -78,7 +78,7 @@ tells_core : (client : ℕ) (o : Option Reply) (front : FrontView) → (after_al
 tells_core client None front = refl
 tells_core client (Some reply) front = refl
 
-denies_core : (client : ℕ) (asked : Request) (why : Cause) (front : FrontView) → (after_all (denies client asked why) front).core ≡ front.core
+pub denies_core : (client : ℕ) (asked : Request) (why : Cause) (front : FrontView) → (after_all (denies client asked why) front).core ≡ front.core
 denies_core client asked why front = tells_core client (denial asked why) (after_event (Event.Denies why) front)
 
 -- the core and its clients change alone
@@ -220,10 +220,10 @@ if_true : (b : Bool) (x : List Entry) → b ≡ true → (if b then [] else x) �
 if_true true x e = refl
 if_true false x e = absurd (let no : false ≡ true = e in cc)
 
-issued_new : (asked : Request) (old new : ProxyView) → new.next ≡ old.next + 1 → issued_by (input.Asks asked) old new ≡ issued_entry old asked
+pub issued_new : (asked : Request) (old new : ProxyView) → new.next ≡ old.next + 1 → issued_by (input.Asks asked) old new ≡ issued_entry old asked
 issued_new asked old new e = if_false (new.next == old.next) (issued_entry old asked) (ne_eqb new.next old.next (λ same. omega arith))
 
-issued_none : (asked : Request) (old new : ProxyView) → new.next ≡ old.next → issued_by (input.Asks asked) old new ≡ []
+pub issued_none : (asked : Request) (old new : ProxyView) → new.next ≡ old.next → issued_by (input.Asks asked) old new ≡ []
 issued_none asked old new e = if_true (new.next == old.next) (issued_entry old asked) (eq-eqb new.next old.next e)
 
 -- the loop has another front and other links
@@ -294,7 +294,7 @@ begun_by laws w t p l asker asked false m home clock legal accepted =
     (all_sent asker core.routing (sheets_of core asker.reading asked) l.links) (issued_entry core asked) first home
     (λ there. front_does first.world p front1 asker.client (GiveUp op) tt (gives_up first.world p front1.core op there number))
 
-begun_next : (asker : Asker) (asked : Request) (all : Bool) (front : FrontView) → (after_all (begins asker asked all front.core) front).core.next ≡ front.core.next + 1
+pub begun_next : (asker : Asker) (asked : Request) (all : Bool) (front : FrontView) → (after_all (begins asker asked all front.core) front).core.next ≡ front.core.next + 1
 begun_next asker asked true front = refl
 begun_next asker asked false front = next_given_up (after_issue front.core asker.reading asked) (next_op front.core)
 
@@ -317,7 +317,7 @@ failed_by w t p l asker asked m home clock legal accepted =
     front_behind w t p l front1 (after_event (Event.Alone (GiveUp op)) front1) l.links (issued_entry core asked) first home
     (λ there. front_alone first.world p front1 (GiveUp op) (gives_up first.world p front1.core op there number))
 
-fails_next : (asker : Asker) (asked : Request) (front : FrontView) → (after_all (fails asker asked front.core) front).core.next ≡ front.core.next + 1
+pub fails_next : (asker : Asker) (asked : Request) (front : FrontView) → (after_all (fails asker asked front.core) front).core.next ≡ front.core.next + 1
 fails_next asker asked front = next_given_up (after_issue front.core asker.reading asked) (next_op front.core)
 
 -- a request that is asked, by another word for the front and what was issued

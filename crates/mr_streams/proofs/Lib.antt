@@ -29,3 +29,5 @@ mod Failing
 mod Thinning
 mod Safety
 mod Dues
+mod Hearing
+mod HearingEvents

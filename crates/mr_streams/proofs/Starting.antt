@@ -151,7 +151,7 @@ proxy_at number (x ∷ proxies) (suc place) p e =
     record { proxy = later.proxy; there = later.there; number_is = later.number_is ∙ same; routing_is = later.routing_is; schedule_is = later.schedule_is }
 
 -- a loop that is fresh, wherever it stands
-fresh_at : (loops : List LoopView) (number : ℕ) (loop : LoopView) → AllByRecursion IsFreshLoop loops → slice_get loops number ≡ Some loop → IsFreshLoop loop
+pub fresh_at : (loops : List LoopView) (number : ℕ) (loop : LoopView) → AllByRecursion IsFreshLoop loops → slice_get loops number ≡ Some loop → IsFreshLoop loop
 fresh_at [] number loop all e = cc
 fresh_at (x ∷ loops) zero loop all e = let same : x ≡ loop = cc in subst IsFreshLoop same all.0
 fresh_at (x ∷ loops) (suc number) loop all e = fresh_at loops number loop all.1 e
