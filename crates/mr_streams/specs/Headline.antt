@@ -61,6 +61,10 @@ BytesAreSafe =
     → All (λ proxy. IsPlan proxy.routing proxy.schedule) setup.proxies → All HasText setup.held
     → Starts setup first → StreamsRun first events last → PremisesHold setup events → IsSafe last.history
 
+-- Whatever happens, each client was told the answers of the history to its requests, in their order.
+abbrev pub ClientsAreServed : Type 0
+ClientsAreServed = (setup : SetupView) (first last : StreamsView) (events : List StreamsEvent) → Starts setup first → StreamsRun first events last → AreServed last
+
 -- Whatever pieces bytes travel in, whenever connections break, nodes and proxies restart and memory is refused: each hit is fresh, and
 -- each client was told the answers of the history to its requests, in their order.
 abbrev pub HeadlineOverBytes : Type 0
