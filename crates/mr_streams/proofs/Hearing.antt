@@ -1,8 +1,8 @@
 -- What a client sent, what of it was read, and what it is told of that.
-use Rattle.std.proofs.Common.{◌≡◌, ◌≢◌, ℕ, ◌+◌, ◌==◌, ◌||◌, IsTrue, ◌⊎◌, inl, inr, Bool, true, false, List, [], ◌∷◌, ◌++◌, length, map, slice_get, slice_set, Option, Some, None, Result, Ok, Err, if◌then◌else◌, refl, sym, ap, ◌∙◌, subst, append_assoc, eq-eqb, ne_eqb}
+use Rattle.std.proofs.Common.{◌≡◌, ◌≢◌, ℕ, ◌+◌, ◌==◌, ◌||◌, IsTrue, inl, inr, Bool, true, false, List, [], ◌∷◌, ◌++◌, length, map, Option, Some, None, Err, if◌then◌else◌, refl, sym, ap, ◌∙◌, subst, append_assoc, eq-eqb, ne_eqb}
 use Rattle.std.specs.Prelude.{option_to_list, flat_map}
 use Rattle.std.proofs.lemmas.List.{append-nil, map-append}
-use Rattle.mr_text.specs.Requests.{SpellsRequest, RefusesRequest, SkipsLine}
+use Rattle.mr_text.specs.Requests.{SpellsRequest}
 use Rattle.mr_text.specs.declared.cause.Cause.{Cause}
 use Rattle.mr_text.specs.declared.cause.Cause.TheVariants as cause
 use Rattle.mr_text.specs.declared.error.TextError.{TextError}
@@ -14,34 +14,31 @@ use Rattle.mr_history.specs.History.{IsIssued}
 use Rattle.mr_history.specs.Places.{At}
 use Rattle.mr_history.specs.declared.entry.Entry.{Entry}
 use Rattle.mr_history.specs.declared.entry.Entry.TheVariants as entry
-use Rattle.mr_history.specs.declared.op_id.OpId.{OpId}
 use Rattle.mr_node.specs.Output.{is_silent, reply_to_refusal}
 use Rattle.mr_proxy.specs.Answer.{AnswerView, reply_of}
 use Rattle.mr_proxy.specs.Issue.{next_op, sheets_of}
 use Rattle.mr_proxy.specs.ProxyView.{ProxyView}
-use Rattle.mr_proxy.specs.declared.step.Step.TheVariants.{Issue, GiveUp}
-use Rattle.mr_loop.specs.Asking.{Asking, AsksOn, DoesAll, DoesOne, IsDoneFor, HoldsBack, LeavesUnread, StopsFor, begins, given_up_unless, denies, denial, fails, tells}
+use Rattle.mr_loop.specs.Asking.{Asking, DoesAll, DoesOne, IsDoneFor, HoldsBack, StopsFor, begins, denies, denial, fails, tells}
 use Rattle.mr_loop.specs.Events.{FrontView, Event, after_event, after_all}
 use Rattle.mr_loop.specs.Inboxes.{FetchIs, ReadsOne, TakesHeld}
 use Rattle.mr_loop.specs.Links.{all_up}
 use Rattle.mr_loop.specs.LoopView.{TakesPiece, EndsInput}
-use Rattle.mr_loop.specs.Runs.{Due, due_of_turn, due_now, due, told_text}
+use Rattle.mr_loop.specs.Runs.{Due, due_of_turn, due, told_text}
 use Rattle.mr_loop.specs.declared.asker.Asker.{Asker}
 use Rattle.mr_loop.specs.declared.asking.Pause.{Pause}
 use Rattle.mr_loop.specs.declared.asking.Pause.TheVariants.{NeedsBytes, NeedsRoom, NeedsReader, NeedsQueue, NeedsMemory, IsDone}
 use Rattle.mr_loop.specs.declared.client.Client.{Client}
-use Rattle.mr_loop.specs.declared.inbox.Fetched.TheVariants.{Came, Nothing, NoMemory, Done}
+use Rattle.mr_loop.specs.declared.inbox.Fetched.TheVariants.{Came, Done}
 use Rattle.mr_loop.specs.declared.inbox.Inbox.{Inbox}
 use Rattle.mr_loop.specs.declared.inbox.Input.{Input}
 use Rattle.mr_loop.specs.declared.inbox.Input.TheVariants as input
 use Rattle.mr_loop.specs.declared.link.Link.{Link}
-use Rattle.mr_loop.specs.declared.turns.Turn.{Turn}
 use Rattle.mr_loop.specs.declared.turns.Turn.TheVariants.{Answered}
 use Rattle.mr_world.specs.Lists.{Has}
 use Rattle.mr_streams.specs.Entries.{issued_by, issued_in}
 use Rattle.mr_streams.specs.Served.{SpellsInput, SpellsInputs, AreDue}
 use Rattle.mr_streams.specs.StreamsView.{Visit}
-use Rattle.mr_streams.proofs.Asking.{issued_new, issued_none, begun_next, fails_next, denies_core}
+use Rattle.mr_streams.proofs.Asking.{issued_new, begun_next}
 use Rattle.mr_streams.proofs.Dues.{Grew, GrewAt, AreNoFlush, all_grew, grew_none, grew_on}
 use Rattle.mr_streams.proofs.Fronts.{has_left}
 use Rattle.mr_streams.proofs.Lists.{at_left, at_new}
@@ -143,10 +140,10 @@ held_next visit bytes held tail next old new sent holds reads h = record {
   is = subst (λ o. HeldIs o held) h.held holds;
   none_held = ap (λ (i : Inbox). i.held) h.taken;
   reads = λ open_. (let was = reads (ap (λ (i : Inbox). i.reader.closed) (sym h.taken) ∙ open_) in record {
-      lost = was.lost;
-      kept = was.kept ∙ ap (λ (i : Inbox). i.reader.kept ++ was.lost) (sym h.taken);
-      nothing = λ e. was.nothing (ap (λ (i : Inbox). i.reader.ended) (sym h.taken) ∙ e);
-    });
+    lost = was.lost;
+    kept = was.kept ∙ ap (λ (i : Inbox). i.reader.kept ++ was.lost) (sym h.taken);
+    nothing = λ e. was.nothing (ap (λ (i : Inbox). i.reader.ended) (sym h.taken) ∙ e);
+  });
 }
 
 -- nothing was held
@@ -360,46 +357,46 @@ done_due (input.Asks asked) asker history front front' links links' h =
             due = λ inputs dues no_quit was. AreDue.issued asked (next_op core) (length history) (due_still history gains inputs dues was) (issued_there history asked core front'.core next_is);
           })
       | inr other ↦ elim other [
-          | inl quits ↦ record {
-              more = [];
-              so = record {
-                events = [];
-                happens = quits.0.unchanged;
-                no_flush = tt;
-                here = refl;
-                elsewhere = λ place ne. refl;
-              };
-              due = λ inputs dues no_quit was. absurd (no_quit asked refl quits.0.quits);
+        | inl quits ↦ record {
+          more = [];
+          so = record {
+            events = [];
+            happens = quits.0.unchanged;
+            no_flush = tt;
+            here = refl;
+            elsewhere = λ place ne. refl;
+          };
+          due = λ inputs dues no_quit was. absurd (no_quit asked refl quits.0.quits);
+        }
+        | inr third ↦ elim third [
+          | inl spent ↦ record {
+            more = map Due.Line (option_to_list (denial asked cause.NumbersSpent));
+            so = denied_so asker asked cause.NumbersSpent front front' spent.0.happens;
+            due = λ inputs dues no_quit was. AreDue.denied asked cause.NumbersSpent (due_still history gains inputs dues was);
+          }
+          | inr memory ↦ elim memory.0.either [
+            | inl none ↦ record {
+              more = map Due.Line (option_to_list (denial asked cause.OutOfMemory));
+              so = denied_so asker asked cause.OutOfMemory front front' (memory.0.happens ∙ ap (λ x. after_all (x ++ denies asker.client asked cause.OutOfMemory) front) none);
+              due = λ inputs dues no_quit was. AreDue.denied asked cause.OutOfMemory (due_still history gains inputs dues was);
             }
-          | inr third ↦ elim third [
-              | inl spent ↦ record {
-                  more = map Due.Line (option_to_list (denial asked cause.NumbersSpent));
-                  so = denied_so asker asked cause.NumbersSpent front front' spent.0.happens;
-                  due = λ inputs dues no_quit was. AreDue.denied asked cause.NumbersSpent (due_still history gains inputs dues was);
-                }
-              | inr memory ↦ elim memory.0.either [
-                  | inl none ↦ record {
-                      more = map Due.Line (option_to_list (denial asked cause.OutOfMemory));
-                      so = denied_so asker asked cause.OutOfMemory front front' (memory.0.happens ∙ ap (λ x. after_all (x ++ denies asker.client asked cause.OutOfMemory) front) none);
-                      due = λ inputs dues no_quit was. AreDue.denied asked cause.OutOfMemory (due_still history gains inputs dues was);
-                    }
-                  | inr failed ↦ (
-                      let between : FrontView = after_all (fails asker asked core) front in
-                      let o : Option Reply = denial asked cause.OutOfMemory in
-                      record {
-                        more = map Due.Line (option_to_list o);
-                        so = record {
-                          events = fails asker asked core ++ denies asker.client asked cause.OutOfMemory;
-                          happens = memory.0.happens ∙ ap (λ x. after_all (x ++ denies asker.client asked cause.OutOfMemory) front) failed;
-                          no_flush = (tt, (tt, (tt, tells_no_flush asker.client o)));
-                          here = tells_here asker.client o (after_event (Event.Denies cause.OutOfMemory) between);
-                          elsewhere = λ place ne. tells_elsewhere asker.client place o (after_event (Event.Denies cause.OutOfMemory) between) ne;
-                        };
-                        due = λ inputs dues no_quit was. AreDue.denied asked cause.OutOfMemory (due_still history gains inputs dues was);
-                      })
-                ]
-            ]
+            | inr failed ↦ (
+                let between : FrontView = after_all (fails asker asked core) front in
+                let o : Option Reply = denial asked cause.OutOfMemory in
+                record {
+                  more = map Due.Line (option_to_list o);
+                  so = record {
+                    events = fails asker asked core ++ denies asker.client asked cause.OutOfMemory;
+                    happens = memory.0.happens ∙ ap (λ x. after_all (x ++ denies asker.client asked cause.OutOfMemory) front) failed;
+                    no_flush = (tt, (tt, (tt, tells_no_flush asker.client o)));
+                    here = tells_here asker.client o (after_event (Event.Denies cause.OutOfMemory) between);
+                    elsewhere = λ place ne. tells_elsewhere asker.client place o (after_event (Event.Denies cause.OutOfMemory) between) ne;
+                  };
+                  due = λ inputs dues no_quit was. AreDue.denied asked cause.OutOfMemory (due_still history gains inputs dues was);
+                })
+          ]
         ]
+      ]
     ]
 done_due (input.Refused refusal) asker history front front' links links' h =
     let o : Option Reply = reply_to_refusal refusal in
@@ -462,10 +459,10 @@ one_asked asker history visit first old new a one =
             spells = is.spells;
             holds = subst (λ o. HeldIs o []) (sym (ap (λ (i : Inbox). i.held) one.goes_on ∙ read.none_held)) refl;
             reads = λ e. (let was = read.reads (ap (λ (i : Inbox). i.reader.closed) (sym one.goes_on) ∙ e) in record {
-                lost = was.lost;
-                kept = was.kept ∙ ap (λ (i : Inbox). i.reader.kept ++ was.lost) (sym one.goes_on);
-                nothing = λ f. was.nothing (ap (λ (i : Inbox). i.reader.ended) (sym one.goes_on) ∙ f);
-              });
+              lost = was.lost;
+              kept = was.kept ∙ ap (λ (i : Inbox). i.reader.kept ++ was.lost) (sym one.goes_on);
+              nothing = λ f. was.nothing (ap (λ (i : Inbox). i.reader.ended) (sym one.goes_on) ∙ f);
+            });
             due = due_now_is;
             heard = ap (λ x. visit.heard ++ x) g.same_out ∙ ok.heard;
             answered = λ n answer at wants. has_left gains (ok.answered n answer at wants);
@@ -511,9 +508,9 @@ ok_reader : (history : List Entry) (visit : Visit) (client : Client) (old new : 
     → ClientOk history visit client new
 ok_reader history visit client old new ok held reader =
     ok_inbox history visit client old new ok ok.held ok.tail ok.sent (subst (λ o. HeldIs o ok.held) (sym held) ok.holds) (λ e. (
-        let r = reader e in
-        let was = ok.reads r.0 in
-        record { lost = was.lost; kept = was.kept ∙ ap (λ x. x ++ was.lost) (sym r.1); nothing = λ f. was.nothing (r.2 f) }))
+    let r = reader e in
+    let was = ok.reads r.0 in
+    record { lost = was.lost; kept = was.kept ∙ ap (λ x. x ++ was.lost) (sym r.1); nothing = λ f. was.nothing (r.2 f) }))
 
 held_ok : (history : List Entry) (visit : Visit) (client : Client) (asker : Asker) (old new : Asking) (next : Input) → ClientOk history visit client old.inbox → HoldsBack asker old new next
     → ClientOk history visit client new.inbox
@@ -522,10 +519,10 @@ held_ok history visit client asker old new next ok h =
     ok_inbox history visit client old.inbox new.inbox ok read.text read.tail read.sent
     (subst (λ o. HeldIs o read.text) (ap (λ (a : Asking). a.inbox.held) (sym h.held)) read.is)
     (λ e. (let was = read.reads (ap (λ (a : Asking). a.inbox.reader.closed) (sym h.held) ∙ e) in record {
-        lost = was.lost;
-        kept = was.kept ∙ ap (λ (a : Asking). a.inbox.reader.kept ++ was.lost) (sym h.held);
-        nothing = λ f. was.nothing (ap (λ (a : Asking). a.inbox.reader.ended) (sym h.held) ∙ f);
-      }))
+      lost = was.lost;
+      kept = was.kept ∙ ap (λ (a : Asking). a.inbox.reader.kept ++ was.lost) (sym h.held);
+      nothing = λ f. was.nothing (ap (λ (a : Asking). a.inbox.reader.ended) (sym h.held) ∙ f);
+    }))
 
 closed_ok : (history : List Entry) (visit : Visit) (client : Client) (old new : Inbox) → ClientOk history visit client old → new.held ≡ None → old.held ≡ None → new.reader.closed ≡ true
     → ClientOk history visit client new
@@ -537,13 +534,13 @@ done_ok history visit client old new ok fetch =
     elim fetch [
       | inl over ↦ subst (λ i. ClientOk history visit client i) (sym over.2) ok
       | inr reads ↦ elim reads [
-          | inl quits ↦ closed_ok history visit client old new ok quits.same_held quits.none_held quits.next.3.is_closed
-          | inr other ↦ elim other [
-              | inl ended ↦ ok_reader history visit client old new ok (ended.0.same_held ∙ sym ended.0.none_held)
-                  (λ e. (ended.0.next.0, ended.0.next.3.stands, λ f. sym ended.0.next.3.is_ended ∙ f))
-              | inr closed ↦ closed_ok history visit client old new ok closed.same_held closed.none_held closed.next.1.is_closed
-            ]
+        | inl quits ↦ closed_ok history visit client old new ok quits.same_held quits.none_held quits.next.3.is_closed
+        | inr other ↦ elim other [
+          | inl ended ↦ ok_reader history visit client old new ok (ended.0.same_held ∙ sym ended.0.none_held)
+              (λ e. (ended.0.next.0, ended.0.next.3.stands, λ f. sym ended.0.next.3.is_ended ∙ f))
+          | inr closed ↦ closed_ok history visit client old new ok closed.same_held closed.none_held closed.next.1.is_closed
         ]
+      ]
     ]
 
 pub stops_ok : (asker : Asker) (pause : Pause) (history : List Entry) (visit : Visit) (client : Client) (old new : Asking) → ClientOk history visit client old.inbox → StopsFor asker pause old new
@@ -582,10 +579,10 @@ piece_ok history visit client piece old new ok (inl takes) =
       spells = ok.spells;
       holds = subst (λ o. HeldIs o ok.held) (ap (λ (i : Inbox). i.held) (sym takes.3)) ok.holds;
       reads = λ e. record {
-          lost = [];
-          kept = ap (λ x. x ++ piece) (was.kept ∙ ap (λ x. old.reader.kept ++ x) none ∙ append-nil old.reader.kept) ∙ sym takes.0.stands ∙ sym (append-nil new.reader.kept);
-          nothing = λ f. refl;
-        };
+        lost = [];
+        kept = ap (λ x. x ++ piece) (was.kept ∙ ap (λ x. old.reader.kept ++ x) none ∙ append-nil old.reader.kept) ∙ sym takes.0.stands ∙ sym (append-nil new.reader.kept);
+        nothing = λ f. refl;
+      };
       due = ok.due;
       heard = ok.heard;
       answered = ok.answered;

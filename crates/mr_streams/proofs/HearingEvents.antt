@@ -1,9 +1,8 @@
 -- Whatever happens, each client is told the answers to what it sent, in order.
-use Rattle.std.proofs.Common.{◌≡◌, ◌≢◌, ℕ, zero, suc, ◌+◌, ◌<◌, ◌⊎◌, inl, inr, Bool, true, false, List, [], ◌∷◌, ◌++◌, length, map, slice_get, slice_set, drop, get_or, Option, Some, None, if◌then◌else◌, refl, sym, ap, ◌∙◌, subst, append_assoc, arith, length-append}
+use Rattle.std.proofs.Common.{◌≡◌, ℕ, zero, suc, ◌+◌, ◌<◌, ◌⊎◌, inl, inr, Bool, true, false, List, [], ◌∷◌, ◌++◌, length, map, slice_get, slice_set, drop, get_or, Option, Some, None, if◌then◌else◌, refl, sym, ap, ◌∙◌, subst, append_assoc, arith, length-append}
 use Rattle.std.specs.Prelude.{flat_map}
-use Rattle.std.specs.List.{AllByRecursion}
 use Rattle.std.proofs.lemmas.Grind.{flat_map-append}
-use Rattle.std.proofs.lemmas.List.{append-nil, map-append, length-set, drop_at}
+use Rattle.std.proofs.lemmas.List.{append-nil, length-set, drop_at}
 use Rattle.std.proofs.lemmas.Option.{slice_get_within, slice_get-get_or}
 use Rattle.mr_history.specs.Places.{At}
 use Rattle.mr_history.specs.declared.entry.Entry.{Entry}
@@ -14,7 +13,7 @@ use Rattle.mr_proxy.specs.Transitions.{after_restart}
 use Rattle.mr_loop.specs.Asking.{Asking, AsksOn, StopsFor}
 use Rattle.mr_loop.specs.Events.{FrontView, after_all}
 use Rattle.mr_loop.specs.Inboxes.{fresh_inbox}
-use Rattle.mr_loop.specs.LoopView.{LoopView, IsAsked, asker_of, after_coming, after_leaving, with_place, after_tick, output_in, fresh_loop}
+use Rattle.mr_loop.specs.LoopView.{LoopView, IsAsked, asker_of, after_coming, after_leaving, with_place, output_in, fresh_loop}
 use Rattle.mr_loop.specs.Runs.{due_of_turn, told_text}
 use Rattle.mr_loop.specs.Ticking.{ticks}
 use Rattle.mr_loop.specs.Turns.{fresh_client}
@@ -26,19 +25,17 @@ use Rattle.mr_loop.specs.declared.counts.ClientCounts.{ClientCounts}
 use Rattle.mr_loop.specs.declared.inbox.Inbox.{Inbox}
 use Rattle.mr_loop.specs.declared.link.Link.{Link}
 use Rattle.mr_loop.specs.declared.turns.Turn.{Turn}
-use Rattle.mr_loop.specs.declared.turns.Turn.TheVariants.{Waits, Answered, Says}
+use Rattle.mr_loop.specs.declared.turns.Turn.TheVariants.{Answered}
 use Rattle.mr_world.specs.Lists.{Has}
 use Rattle.mr_world.specs.Setup.{SetupView}
-use Rattle.mr_world.specs.Steps.{answered}
 use Rattle.mr_streams.specs.Entries.{issued_in, told_by, told_in}
 use Rattle.mr_streams.specs.Headline.{Starts}
-use Rattle.mr_streams.specs.Served.{IsServed, AreServed, AreDue}
+use Rattle.mr_streams.specs.Served.{AreServed, AreDue}
 use Rattle.mr_streams.specs.Steps.{StreamsEvent, StreamsStep, StreamsRun, ClientSends, ClientStops, IsVisit, visits_in}
 use Rattle.mr_streams.specs.StreamsView.{StreamsView, Visit, fresh_visit}
-use Rattle.mr_streams.proofs.Dues.{Grew, GrewAt, StaysDue, grew_none, quiet_grew, quiet_ticks, stays_breaks, stays_bytes, stays_to}
-use Rattle.mr_streams.proofs.Fronts.{has_left}
-use Rattle.mr_streams.proofs.Hearing.{ClientOk, HeldIs, ReadsFrom, ok_still, ok_stays, all_asked, stops_ok, piece_ok, ends_ok}
-use Rattle.mr_streams.proofs.Lists.{at_set, at_written, at_elsewhere, at_one, at_last, at_left, at_new, at_mapped, at_nothing, same_or_not, written_back}
+use Rattle.mr_streams.proofs.Dues.{GrewAt, StaysDue, grew_none, quiet_grew, quiet_ticks, stays_breaks, stays_bytes, stays_to}
+use Rattle.mr_streams.proofs.Hearing.{ClientOk, ok_still, ok_stays, all_asked, stops_ok, piece_ok, ends_ok}
+use Rattle.mr_streams.proofs.Lists.{at_set, at_written, at_elsewhere, at_one, at_last, at_left, at_new, at_mapped, at_nothing, written_back}
 use Rattle.mr_streams.proofs.Starting.{fresh_at}
 
 -- a place of a loop, with what its client sent and was told
@@ -92,29 +89,29 @@ moved_loop history visits loop loop' h stays same = record {
 one_ok : (loops : List LoopView) (all : List (List Visit)) (history gains : List Entry) (p : ℕ) (loop loop' : LoopView) (visits' : List Visit) → AllOk loops all history → At loops p loop
     → LoopOk (history ++ gains) visits' loop' → AllOk (slice_set loops p loop') (slice_set all p visits') (history ++ gains)
 one_ok loops all history gains p loop loop' visits' ok home new = λ q other h. elim (at_set loops p loop' h) [
-      | inl e ↦ record {
-          visits = visits';
-          there = subst (λ n. At (slice_set all p visits') n visits') (sym e.0) (at_written visits' (ok p loop home).there);
-          ok = subst (λ l. LoopOk (history ++ gains) visits' l) (sym e.1) new;
-        }
-      | inr e ↦ (
-          let v = ok q other e.1 in
-          record { visits = v.visits; there = at_elsewhere visits' e.0 v.there; ok = still_loop history gains v.visits other v.ok })
-    ]
+  | inl e ↦ record {
+    visits = visits';
+    there = subst (λ n. At (slice_set all p visits') n visits') (sym e.0) (at_written visits' (ok p loop home).there);
+    ok = subst (λ l. LoopOk (history ++ gains) visits' l) (sym e.1) new;
+  }
+  | inr e ↦ (
+      let v = ok q other e.1 in
+      record { visits = v.visits; there = at_elsewhere visits' e.0 v.there; ok = still_loop history gains v.visits other v.ok })
+]
 
 -- one loop changes alone
 loop_ok : (loops : List LoopView) (all : List (List Visit)) (history : List Entry) (p : ℕ) (loop loop' : LoopView) → AllOk loops all history → At loops p loop
     → StaysDue loop.front loop'.front → loop'.inboxes ≡ loop.inboxes → AllOk (slice_set loops p loop') all history
 loop_ok loops all history p loop loop' ok home stays same = λ q other h. elim (at_set loops p loop' h) [
-      | inl e ↦ (
-          let v = ok p loop home in
-          record {
-            visits = v.visits;
-            there = subst (λ n. At all n v.visits) (sym e.0) v.there;
-            ok = subst (λ l. LoopOk history v.visits l) (sym e.1) (moved_loop history v.visits loop loop' v.ok stays same);
-          })
-      | inr e ↦ ok q other e.1
-    ]
+  | inl e ↦ (
+      let v = ok p loop home in
+      record {
+        visits = v.visits;
+        there = subst (λ n. At all n v.visits) (sym e.0) v.there;
+        ok = subst (λ l. LoopOk history v.visits l) (sym e.1) (moved_loop history v.visits loop loop' v.ok stays same);
+      })
+  | inr e ↦ ok q other e.1
+]
 
 -- the visits of a loop
 visits_are : (s : StreamsView) (p : ℕ) (visits : List Visit) → At s.visits p visits → visits_in (slice_get s.visits p) ≡ visits
@@ -149,23 +146,23 @@ seat_loop history visits loop loop' place client' inbox' visit' h clients inboxe
       let a' : At (slice_set loop.front.clients place client') n client = subst (λ x. At x n client) clients a in
       elim (at_set loop.front.clients place client' a') [
         | inl e ↦ elim (at_set visits place visit' b) [
-            | inl f ↦ (
-                let client_below : n < length (slice_set loop.front.clients place client') = slice_get_within (slice_set loop.front.clients place client') n client a'.gets in
-                let visit_below : n < length (slice_set visits place visit') = slice_get_within (slice_set visits place visit') n visit b.gets in
-                let was = seat_was history visits loop place n e.0 h (let l = length-set loop.front.clients place client' in omega arith) (let l = length-set visits place visit' in omega arith) in
-                record {
-                  inbox = inbox';
-                  there = subst (λ x. At x n inbox') (sym inboxes) (subst (λ k. At (slice_set loop.inboxes place inbox') k inbox') (sym e.0) (at_written inbox' was.seat.there));
-                  ok = subst (λ x. ClientOk history x client inbox') (sym f.1) (subst (λ x. ClientOk history visit' x inbox') (sym e.1) (new was.visit was.client was.client_there was.visit_there));
-                })
-            | inr f ↦ absurd (f.0 e.0)
-          ]
+          | inl f ↦ (
+              let client_below : n < length (slice_set loop.front.clients place client') = slice_get_within (slice_set loop.front.clients place client') n client a'.gets in
+              let visit_below : n < length (slice_set visits place visit') = slice_get_within (slice_set visits place visit') n visit b.gets in
+              let was = seat_was history visits loop place n e.0 h (let l = length-set loop.front.clients place client' in omega arith) (let l = length-set visits place visit' in omega arith) in
+              record {
+                inbox = inbox';
+                there = subst (λ x. At x n inbox') (sym inboxes) (subst (λ k. At (slice_set loop.inboxes place inbox') k inbox') (sym e.0) (at_written inbox' was.seat.there));
+                ok = subst (λ x. ClientOk history x client inbox') (sym f.1) (subst (λ x. ClientOk history visit' x inbox') (sym e.1) (new was.visit was.client was.client_there was.visit_there));
+              })
+          | inr f ↦ absurd (f.0 e.0)
+        ]
         | inr e ↦ elim (at_set visits place visit' b) [
-            | inl f ↦ absurd (e.0 f.0)
-            | inr f ↦ (
-                let s = h.seats n client visit e.1 f.1 in
-                record { inbox = s.inbox; there = subst (λ x. At x n s.inbox) (sym inboxes) (at_elsewhere inbox' e.0 s.there); ok = s.ok })
-          ]
+          | inl f ↦ absurd (e.0 f.0)
+          | inr f ↦ (
+              let s = h.seats n client visit e.1 f.1 in
+              record { inbox = s.inbox; there = subst (λ x. At x n s.inbox) (sym inboxes) (at_elsewhere inbox' e.0 s.there); ok = s.ok })
+        ]
       ]);
 }
 
@@ -218,31 +215,31 @@ added_ok s p loop ok home =
       places = length-append loop.front.clients (fresh_client ∷ []) ∙ ap (λ n. n + 1) v.ok.places ∙ sym (length-append v.visits (fresh_visit ∷ []));
       boxes = length-append loop.inboxes (fresh_inbox ∷ []) ∙ ap (λ n. n + 1) v.ok.boxes ∙ sym (length-append v.visits (fresh_visit ∷ []));
       seats = λ place client visit a b. elim (at_last loop.front.clients fresh_client a) [
-          | inl old ↦ elim (at_last v.visits fresh_visit b) [
-              | inl was ↦ (let seat = v.ok.seats place client visit old was in record { inbox = seat.inbox; there = at_left (fresh_inbox ∷ []) seat.there; ok = seat.ok })
-              | inr last ↦ absurd (
-                  let below : place < length loop.front.clients = slice_get_within loop.front.clients place client old.gets in
-                  let same = v.ok.places in
-                  let at = last.0 in
-                  omega arith)
-            ]
-          | inr new_client ↦ elim (at_last v.visits fresh_visit b) [
-              | inl was ↦ absurd (
-                  let below : place < length v.visits = slice_get_within v.visits place visit was.gets in
-                  let same = v.ok.places in
-                  let at = new_client.0 in
-                  omega arith)
-              | inr last ↦ (
-                  let there : At (loop.inboxes ++ fresh_inbox ∷ []) (length loop.inboxes) fresh_inbox = at_new loop.inboxes fresh_inbox in
-                  let here : length loop.inboxes ≡ place = v.ok.boxes ∙ sym last.0 in
-                  record {
-                    inbox = fresh_inbox;
-                    there = subst (λ n. At (loop.inboxes ++ fresh_inbox ∷ []) n fresh_inbox) here there;
-                    ok = subst (λ x. ClientOk s.history x client fresh_inbox) (sym last.1)
-                        (subst (λ x. ClientOk s.history fresh_visit x fresh_inbox) (sym new_client.1) (fresh_ok s.history));
-                  })
-            ]
-        ];
+        | inl old ↦ elim (at_last v.visits fresh_visit b) [
+          | inl was ↦ (let seat = v.ok.seats place client visit old was in record { inbox = seat.inbox; there = at_left (fresh_inbox ∷ []) seat.there; ok = seat.ok })
+          | inr last ↦ absurd (
+              let below : place < length loop.front.clients = slice_get_within loop.front.clients place client old.gets in
+              let same = v.ok.places in
+              let at = last.0 in
+              omega arith)
+        ]
+        | inr new_client ↦ elim (at_last v.visits fresh_visit b) [
+          | inl was ↦ absurd (
+              let below : place < length v.visits = slice_get_within v.visits place visit was.gets in
+              let same = v.ok.places in
+              let at = new_client.0 in
+              omega arith)
+          | inr last ↦ (
+              let there : At (loop.inboxes ++ fresh_inbox ∷ []) (length loop.inboxes) fresh_inbox = at_new loop.inboxes fresh_inbox in
+              let here : length loop.inboxes ≡ place = v.ok.boxes ∙ sym last.0 in
+              record {
+                inbox = fresh_inbox;
+                there = subst (λ n. At (loop.inboxes ++ fresh_inbox ∷ []) n fresh_inbox) here there;
+                ok = subst (λ x. ClientOk s.history x client fresh_inbox) (sym last.1)
+                    (subst (λ x. ClientOk s.history fresh_visit x fresh_inbox) (sym new_client.1) (fresh_ok s.history));
+              })
+        ]
+      ];
     } in
     let all = one_ok s.loops s.visits s.history [] p loop loop' visits' ok home (still_loop s.history [] visits' loop' new) in
     subst (λ x. AllOk (slice_set s.loops p loop') (slice_set s.visits p (x ++ fresh_visit ∷ [])) s.history) (sym (visits_are s p v.visits v.there))
@@ -302,9 +299,9 @@ put_ok history visit was told later inbox splits h =
       due = subst (λ t. AreDue (history ++ told_in told) still.inputs (map due_of_turn t)) (sym turns) still.due;
       heard = sym (append_assoc visit.heard was.out (flat_map told_text told)) ∙ ap (λ x. x ++ flat_map told_text told) still.heard ∙ sym (flat_map-append told_text visit.put told);
       answered = λ place answer at wants. elim (at_either visit.put told place (Answered answer) at.gets) [
-          | inl old ↦ still.answered place answer (record { gets = old }) wants
-          | inr new ↦ told_there history told new.0 answer new.1 wants
-        ];
+        | inl old ↦ still.answered place answer (record { gets = old }) wants
+        | inr new ↦ told_there history told new.0 answer new.1 wants
+      ];
     }
 
 hear_ok : (history : List Entry) (visit : Visit) (was : Client) (piece rest out : List ℕ) (inbox : Inbox) → was.out ≡ piece ++ rest → out ≡ rest → ClientOk history visit was inbox
@@ -351,7 +348,7 @@ asked_ok : (history : List Entry) (visits : List Visit) (loop : LoopView) (asker
     → LoopOk history visits loop
     → ((client : Client) → At loop.front.clients asker.client client → ClientOk history visit' client fed)
     → (asks : AsksOn asker pause (record { inbox = fed; front = loop.front; links = loop.links; counts = loop.client_counts })
-        (record { inbox = inbox'; front = front'; links = links'; counts = counts' }))
+    (record { inbox = inbox'; front = front'; links = links'; counts = counts' }))
     → (loop' : LoopView) → loop'.front ≡ front' → loop'.inboxes ≡ slice_set loop.inboxes asker.client inbox'
     → LoopOk (history ++ issued_in asks.did) (slice_set visits asker.client visit') loop'
 asked_ok history visits loop asker pause fed inbox' front' links' counts' visit' h own asks loop' front inboxes =
@@ -398,9 +395,9 @@ asker_sends s p client now piece s' ok h =
     let visit' : Visit = record h.visit { sent = h.visit.sent ++ piece } in
     let visit_there : At v.visits client h.visit = subst (λ x. At x client h.visit) (visits_are s p v.visits v.there) h.is_visit in
     let own : (c : Client) → At loop.front.clients client c → ClientOk s.history visit' c l.fed = λ c there. (
-        let seat = v.ok.seats client c h.visit there visit_there in
-        let one : seat.inbox ≡ l.inbox = at_one seat.there (let t : At loop.inboxes client l.inbox = record { gets = l.there } in t) in
-        piece_ok s.history h.visit c piece l.inbox l.fed (subst (λ i. ClientOk s.history h.visit c i) one seat.ok) l.takes) in
+    let seat = v.ok.seats client c h.visit there visit_there in
+    let one : seat.inbox ≡ l.inbox = at_one seat.there (let t : At loop.inboxes client l.inbox = record { gets = l.there } in t) in
+    piece_ok s.history h.visit c piece l.inbox l.fed (subst (λ i. ClientOk s.history h.visit c i) one seat.ok) l.takes) in
     let new = asked_ok s.history v.visits loop (asker_of loop client h.reading now) h.pause l.fed l.inbox' l.front' l.links' l.counts' visit' v.ok own l.asks h.loop'
     (ap (λ (x : LoopView). x.front) l.becomes) (ap (λ (x : LoopView). x.inboxes) l.becomes) in
     ok_in _ s' h.becomes
@@ -417,9 +414,9 @@ asker_stops s p client now s' ok h =
     let below : client < length v.visits = (let b = slice_get_within loop.inboxes client l.inbox l.there in let same = v.ok.boxes in omega arith) in
     let visit_there : At v.visits client visit = record { gets = slice_get-get_or v.visits client fresh_visit below } in
     let own : (c : Client) → At loop.front.clients client c → ClientOk s.history visit c l.ended = λ c there. (
-        let seat = v.ok.seats client c visit there visit_there in
-        let one : seat.inbox ≡ l.inbox = at_one seat.there box in
-        ends_ok s.history visit c l.inbox l.ended (subst (λ i. ClientOk s.history visit c i) one seat.ok) l.ends) in
+    let seat = v.ok.seats client c visit there visit_there in
+    let one : seat.inbox ≡ l.inbox = at_one seat.there box in
+    ends_ok s.history visit c l.inbox l.ended (subst (λ i. ClientOk s.history visit c i) one seat.ok) l.ends) in
     let new = asked_ok s.history v.visits loop (asker_of loop client h.reading now) h.pause l.ended l.inbox' l.front' l.links' l.counts' visit v.ok own l.asks h.loop'
     (ap (λ (x : LoopView). x.front) l.becomes) (ap (λ (x : LoopView). x.inboxes) l.becomes) in
     let same_visits : slice_set s.visits p (slice_set v.visits client visit) ≡ s.visits = ap (λ x. slice_set s.visits p x) (written_back visit_there) ∙ written_back v.there in
@@ -525,16 +522,16 @@ pub all_served : (setup : SetupView) (first last : StreamsView) (events : List S
 all_served setup first last events starts run =
     let ok = run_ok events first last (starts_ok setup first starts) run in
     λ proxy place loop client visit home there is_visit. (
-        let v = ok proxy loop home in
-        let seat = v.ok.seats place client visit (record { gets = there }) (subst (λ x. At x place visit) (visits_are last proxy v.visits v.there) is_visit) in
-        let h = seat.ok in
-        record {
-          inputs = h.inputs;
-          bytes = h.bytes;
-          rest = h.held ++ h.tail;
-          sent = h.sent;
-          spells = h.spells;
-          due = h.due;
-          heard = h.heard;
-          answered = h.answered;
-        })
+    let v = ok proxy loop home in
+    let seat = v.ok.seats place client visit (record { gets = there }) (subst (λ x. At x place visit) (visits_are last proxy v.visits v.there) is_visit) in
+    let h = seat.ok in
+    record {
+      inputs = h.inputs;
+      bytes = h.bytes;
+      rest = h.held ++ h.tail;
+      sent = h.sent;
+      spells = h.spells;
+      due = h.due;
+      heard = h.heard;
+      answered = h.answered;
+    })

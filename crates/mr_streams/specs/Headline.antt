@@ -1,11 +1,10 @@
 -- The headline over bytes, and what it says of the premises.
-use Rattle.std.specs.Prelude.{◌≡◌, ℕ, All, List, [], ◌∷◌, map, flat_map}
+use Rattle.std.specs.Prelude.{◌≡◌, All, List, [], ◌∷◌, map, flat_map}
 use Rattle.std.specs.List.{AllByRecursion}
 use Rattle.mr_clock.specs.Clocks.{NeverGoesBack, StayWithin}
 use Rattle.mr_clock.specs.Readings.{Tick, readings_at_first}
 use Rattle.mr_history.specs.History.{IsSafe}
 use Rattle.mr_text.specs.Valid.{IsValidItem}
-use Rattle.mr_proxy.specs.ProxyView.{ProxyView}
 use Rattle.mr_loop.specs.LoopView.{LoopView, fresh_loop}
 use Rattle.mr_loop.specs.node.NodeView.{fresh_node}
 use Rattle.mr_world.specs.Headline.{IsPlan}
