@@ -31,3 +31,4 @@ mod Safety
 mod Dues
 mod Hearing
 mod HearingEvents
+mod Flushing

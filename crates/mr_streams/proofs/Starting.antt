@@ -64,9 +64,9 @@ fleet_push capacity nodes name f none =
             let most : node_number nodes name ≤ length nodes = prefix_len-le-length (λ (x : Node). not (bytes_eq x.name name)) nodes in
             let same : node_number nodes name ≡ length nodes = omega arith in
             let yes : eqb (node_number nodes name) (length nodes) ≡ true = eq-eqb (node_number nodes name) (length nodes) same in
-            let own : cond (bytes_eq name name) 0 1 ≡ 0 = cond_yes (bytes_eq name name) 0 1 ((bytes_eq-Decides name name).1 refl) in
             let zero_more : length nodes + 0 ≡ length nodes = omega arith in
-            let there : length nodes + cond (bytes_eq name name) 0 1 ≡ length nodes = ap (λ k. length nodes + k) own ∙ zero_more in
+            let itself : cond (bytes_eq name name) 0 1 ≡ 0 = cond_yes (bytes_eq name name) 0 1 ((bytes_eq-Decides name name).1 refl) in
+            let there : length nodes + cond (bytes_eq name name) 0 1 ≡ length nodes = ap (λ k. length nodes + k) itself ∙ zero_more in
             ap (λ x. node_number (nodes ++ new ∷ []) x) is ∙ named_push nodes new name
             ∙ cond_yes (eqb (node_number nodes name) (length nodes)) (length nodes + cond (bytes_eq name name) 0 1) (node_number nodes name) yes ∙ there ∙ sym last.0)
       ];

@@ -1,4 +1,5 @@
 //! What holds of a fleet as streams of bytes.
+ghost use Rattle.mr_streams.specs.Flushing.{FlushesPutTexts};
 ghost use Rattle.mr_streams.specs.Headline.{BytesAreSafe, ClientsAreServed, HeadlineOverBytes};
 ghost use Rattle.mr_streams.specs.OneLink.{RepliesComeBack, LinksGiveUp};
 ghost use Rattle.mr_streams.specs.OneNode.{RequestsAreDelivered};
@@ -82,3 +83,8 @@ pub fn headline_over_bytes()
     bytes_are_safe();
     clients_are_served();
 }
+
+/// What a loop does at a flush is what streams do where requests are answered.
+pub fn flushes_put_texts()
+    ensures { FlushesPutTexts }
+{}
