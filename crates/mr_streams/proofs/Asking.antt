@@ -1,7 +1,7 @@
 -- What a client asks is issued in the world, and its legs are messages.
-use Rattle.std.proofs.Common.{◌≡◌, ◌≢◌, ℕ, zero, suc, ◌+◌, ◌==◌, ◌⊎◌, inl, inr, Bool, true, false, List, [], ◌∷◌, ◌++◌, length, map, slice_get, slice_set, Option, Some, None, if◌then◌else◌, refl, sym, ap, ◌∙◌, subst, append_assoc, arith, eq-eqb, ne_eqb}
+use Rattle.std.proofs.Common.{◌≡◌, ℕ, suc, ◌+◌, ◌==◌, inl, inr, Bool, true, false, List, [], ◌∷◌, ◌++◌, length, map, slice_get, slice_set, Option, Some, None, if◌then◌else◌, refl, sym, ap, ◌∙◌, subst, append_assoc, arith, eq-eqb, ne_eqb}
 use Rattle.std.specs.List.{AllByRecursion}
-use Rattle.std.proofs.lemmas.List.{append-nil, set-set, map-set}
+use Rattle.std.proofs.lemmas.List.{append-nil, set-set}
 use Rattle.mr_text.specs.Valid.{IsValidRequest}
 use Rattle.mr_text.specs.declared.cause.Cause.{Cause}
 use Rattle.mr_text.specs.declared.cause.Cause.TheVariants as cause
@@ -24,9 +24,9 @@ use Rattle.mr_proxy.specs.Sound.{HasLegs}
 use Rattle.mr_proxy.specs.Transitions.{after_give_up, left_by, place_of_op, pending_with}
 use Rattle.mr_proxy.specs.declared.sheet.LegSheet.{LegSheet}
 use Rattle.mr_proxy.specs.declared.step.Step.TheVariants.{Issue, GiveUp}
-use Rattle.mr_loop.specs.Asking.{Asking, DoesAll, DoesOne, IsDoneFor, IsBegun, HasNoNumber, HasNoMemory, AsksNothing, begins, given_up_unless, denies, denial, fails, tells}
+use Rattle.mr_loop.specs.Asking.{Asking, DoesAll, IsDoneFor, HasNoMemory, begins, denies, denial, fails, tells}
 use Rattle.mr_loop.specs.Events.{FrontView, Event, after_event, after_all, with_turn}
-use Rattle.mr_loop.specs.Links.{all_sent, all_up, link_of, sent_by}
+use Rattle.mr_loop.specs.Links.{all_sent, all_up, link_of}
 use Rattle.mr_loop.specs.LoopView.{LoopView}
 use Rattle.mr_loop.specs.declared.asker.Asker.{Asker}
 use Rattle.mr_loop.specs.declared.client.Client.{Client}
@@ -45,7 +45,7 @@ use Rattle.mr_world.specs.declared.note.Note.{Note}
 use Rattle.mr_world.specs.declared.note.Note.TheVariants as note
 use Rattle.mr_streams.specs.Entries.{issued_by, issued_in}
 use Rattle.mr_streams.specs.Fleet.{FleetEvent}
-use Rattle.mr_streams.specs.Flows.{AreOf, IsGoing}
+use Rattle.mr_streams.specs.Flows.{AreOf}
 use Rattle.mr_streams.specs.OneProxy.{AreKnown, FrontRuns}
 use Rattle.mr_streams.specs.Refines.{Tells}
 use Rattle.mr_streams.specs.Steps.{names_of}
@@ -78,7 +78,7 @@ tells_core : (client : ℕ) (o : Option Reply) (front : FrontView) → (after_al
 tells_core client None front = refl
 tells_core client (Some reply) front = refl
 
-denies_core : (client : ℕ) (asked : Request) (why : Cause) (front : FrontView) → (after_all (denies client asked why) front).core ≡ front.core
+pub denies_core : (client : ℕ) (asked : Request) (why : Cause) (front : FrontView) → (after_all (denies client asked why) front).core ≡ front.core
 denies_core client asked why front = tells_core client (denial asked why) (after_event (Event.Denies why) front)
 
 -- the core and its clients change alone
@@ -118,7 +118,7 @@ issue_streams : (w : WorldView) (t : StreamsView) (p reading : ℕ) (l : LoopVie
     → AreKnown (w.history ++ entry.Issued (next_op l.front.core) p asked ∷ []) front'.clients
     → ((place : ℕ) (link : Link) → At links' place link → AreOf p link.legs)
     → ((i : ℕ) (c : Connection) → At t.connections i c
-        → FlowsOf (w.sent ++ map (message_of w.nodes l.front.core.routing) (sheets_of l.front.core reading asked)) w.replies (slice_set (lines_of t.loops) p links') (seats_of t.nodes) c)
+    → FlowsOf (w.sent ++ map (message_of w.nodes l.front.core.routing) (sheets_of l.front.core reading asked)) w.replies (slice_set (lines_of t.loops) p links') (seats_of t.nodes) c)
     → RunsTo w [] (with_parts t p (record l { front = front'; links = links' }) t.connections (t.history ++ issued_entry l.front.core asked))
 issue_streams w t p reading l front' links' asked m home clock legs accepted core_is known own flows =
     let core : ProxyView = l.front.core in
@@ -130,16 +130,23 @@ issue_streams w t p reading l front' links' asked m home clock legs accepted cor
     record {
       world = world;
       happened = FleetEvent.Happens (event.Client p asked) ∷ [];
-      run = (world, (told, client_asks w p asked told world legs (record {
-        proxy = core;
-        reading = reading;
-        home = core_there w t p l m home;
-        clock = subst (λ r. At r.standing p reading) (sym m.mirrors.readings_are) clock;
-        has_legs = legs;
-        accepted = accepted;
-        tells = refl;
-        becomes = refl;
-      })), refl);
+      run = (
+        world,
+        (
+          told,
+          client_asks w p asked told world legs (record {
+            proxy = core;
+            reading = reading;
+            home = core_there w t p l m home;
+            clock = subst (λ r. At r.standing p reading) (sym m.mirrors.readings_are) clock;
+            has_legs = legs;
+            accepted = accepted;
+            tells = refl;
+            becomes = refl;
+          }),
+        ),
+        refl,
+      );
       ticks_are = refl;
       mirrors = loop_streams w world t p l (record l { front = front'; links = links' }) t.connections (t.history ++ issued_entry core asked) m home
           (record {
@@ -183,7 +190,7 @@ go_home front (sheet ∷ sheets) nodes cores core p asker c there home all = (
         valid = all.0.valid;
       }),
   subst (λ m. GoHome m p core.routing asker c sheets) (append_assoc front (message_of nodes core.routing sheet ∷ []) (map (message_of nodes core.routing) sheets))
-  (go_home (front ++ message_of nodes core.routing sheet ∷ []) sheets nodes cores core p asker c there home all.1),
+      (go_home (front ++ message_of nodes core.routing sheet ∷ []) sheets nodes cores core p asker c there home all.1),
 )
 
 all_own : (routing : RoutingView) (p : ℕ) (sheets : List LegSheet) → AllByRecursion (IsSound routing p) sheets → AllByRecursion (λ (sheet : LegSheet). sheet.id.op.proxy ≡ p) sheets
@@ -198,12 +205,12 @@ sheets_sound laws w t p reading l asked m home legal =
     let core_at = at_mapped (λ (x : LoopView). x.front.core) home in
     let u : ℕ = used_reading core.last reading in
     all_from (IsSound core.routing p) (sheets_of core reading asked) (λ i sheet e. (
-        let says = laws.say core.routing core.schedule (next_op core) u asked i sheet e in
-        record {
-          placed = sheet_placed laws core.routing core.schedule (next_op core) u asked i sheet (m.mirrors.plans p core core_at) e;
-          valid = legal.valid sheet.command says.command;
-          own = ap (λ id. id.op.proxy) says.named ∙ m.mirrors.numbers p core core_at;
-        }))
+    let says = laws.say core.routing core.schedule (next_op core) u asked i sheet e in
+    record {
+      placed = sheet_placed laws core.routing core.schedule (next_op core) u asked i sheet (m.mirrors.plans p core core_at) e;
+      valid = legal.valid sheet.command says.command;
+      own = ap (λ id. id.op.proxy) says.named ∙ m.mirrors.numbers p core core_at;
+    }))
 
 next_left : (p : ProxyView) (place : ℕ) (o : Option PendingView) → (left_by p place o).next ≡ p.next
 next_left p place None = refl
@@ -220,10 +227,10 @@ if_true : (b : Bool) (x : List Entry) → b ≡ true → (if b then [] else x) �
 if_true true x e = refl
 if_true false x e = absurd (let no : false ≡ true = e in cc)
 
-issued_new : (asked : Request) (old new : ProxyView) → new.next ≡ old.next + 1 → issued_by (input.Asks asked) old new ≡ issued_entry old asked
+pub issued_new : (asked : Request) (old new : ProxyView) → new.next ≡ old.next + 1 → issued_by (input.Asks asked) old new ≡ issued_entry old asked
 issued_new asked old new e = if_false (new.next == old.next) (issued_entry old asked) (ne_eqb new.next old.next (λ same. omega arith))
 
-issued_none : (asked : Request) (old new : ProxyView) → new.next ≡ old.next → issued_by (input.Asks asked) old new ≡ []
+pub issued_none : (asked : Request) (old new : ProxyView) → new.next ≡ old.next → issued_by (input.Asks asked) old new ≡ []
 issued_none asked old new e = if_true (new.next == old.next) (issued_entry old asked) (eq-eqb new.next old.next e)
 
 -- the loop has another front and other links
@@ -258,7 +265,7 @@ front_alone_here w t p l front' gains m home none front =
 begun_all : SheetLaws → (w : WorldView) (t : StreamsView) (p : ℕ) (l : LoopView) (asker : Asker) (asked : Request)
     → MirrorsStreams w t → At t.loops p l → At t.readings.standing p asker.reading → IsLegal asked → refusal_of l.front.core ≡ None
     → RunsTo w [] (asked_parts t p l (after_event (Event.Does asker.client (Issue asker.reading asked)) l.front) (all_sent asker l.front.core.routing (sheets_of l.front.core asker.reading asked) l.links)
-        (issued_entry l.front.core asked))
+    (issued_entry l.front.core asked))
 begun_all laws w t p l asker asked m home clock legal accepted =
     let core : ProxyView = l.front.core in
     let sheets : List LegSheet = sheets_of core asker.reading asked in
@@ -282,7 +289,7 @@ begun_all laws w t p l asker asked m home clock legal accepted =
 begun_by : SheetLaws → (w : WorldView) (t : StreamsView) (p : ℕ) (l : LoopView) (asker : Asker) (asked : Request) (all : Bool)
     → MirrorsStreams w t → At t.loops p l → At t.readings.standing p asker.reading → IsLegal asked → refusal_of l.front.core ≡ None
     → RunsTo w [] (asked_parts t p l (after_all (begins asker asked all l.front.core) l.front) (all_sent asker l.front.core.routing (sheets_of l.front.core asker.reading asked) l.links)
-        (issued_entry l.front.core asked))
+    (issued_entry l.front.core asked))
 begun_by laws w t p l asker asked true m home clock legal accepted = begun_all laws w t p l asker asked m home clock legal accepted
 begun_by laws w t p l asker asked false m home clock legal accepted =
     let core : ProxyView = l.front.core in
@@ -294,7 +301,7 @@ begun_by laws w t p l asker asked false m home clock legal accepted =
     (all_sent asker core.routing (sheets_of core asker.reading asked) l.links) (issued_entry core asked) first home
     (λ there. front_does first.world p front1 asker.client (GiveUp op) tt (gives_up first.world p front1.core op there number))
 
-begun_next : (asker : Asker) (asked : Request) (all : Bool) (front : FrontView) → (after_all (begins asker asked all front.core) front).core.next ≡ front.core.next + 1
+pub begun_next : (asker : Asker) (asked : Request) (all : Bool) (front : FrontView) → (after_all (begins asker asked all front.core) front).core.next ≡ front.core.next + 1
 begun_next asker asked true front = refl
 begun_next asker asked false front = next_given_up (after_issue front.core asker.reading asked) (next_op front.core)
 
@@ -317,7 +324,7 @@ failed_by w t p l asker asked m home clock legal accepted =
     front_behind w t p l front1 (after_event (Event.Alone (GiveUp op)) front1) l.links (issued_entry core asked) first home
     (λ there. front_alone first.world p front1 (GiveUp op) (gives_up first.world p front1.core op there number))
 
-fails_next : (asker : Asker) (asked : Request) (front : FrontView) → (after_all (fails asker asked front.core) front).core.next ≡ front.core.next + 1
+pub fails_next : (asker : Asker) (asked : Request) (front : FrontView) → (after_all (fails asker asked front.core) front).core.next ≡ front.core.next + 1
 fails_next asker asked front = next_given_up (after_issue front.core asker.reading asked) (next_op front.core)
 
 -- a request that is asked, by another word for the front and what was issued
@@ -369,19 +376,19 @@ one_done laws w t p l asker (input.Asks asked) front' links' m home clock legal 
           (issued_new asked l.front.core front'.core (ap (λ (f : FrontView). f.core.next) begun.happens ∙ begun_next asker asked all l.front))
           (begun_by laws w t p l asker asked all m home clock legal begun.accepted))
       | inr other ↦ elim other [
-          | inl quits ↦ links_to quits.1 (front_alone_here w t p l front' (done_of l (input.Asks asked) front') m home
-              (issued_none asked l.front.core front'.core (ap (λ (f : FrontView). f.core.next) quits.0.unchanged))
-              (front_to w p l.front l.front front' (sym quits.0.unchanged) (front_stays w p l.front (core_there w t p l m home))))
-          | inr third ↦ elim third [
-              | inl spent ↦ (
-                  let why : Cause = cause.NumbersSpent in
-                  let denied : FrontView = after_all (denies asker.client asked why) l.front in
-                  let same : front'.core ≡ l.front.core = ap (λ (f : FrontView). f.core) spent.0.happens ∙ denies_core asker.client asked why l.front in
-                  links_to spent.1 (front_alone_here w t p l front' (done_of l (input.Asks asked) front') m home (issued_none asked l.front.core front'.core (ap (λ (x : ProxyView). x.next) same))
-                  (front_to w p l.front denied front' (sym spent.0.happens) (denies_run asker.client asked why w p l.front (core_there w t p l m home)))))
-              | inr memory ↦ links_to memory.1 (memory_lost laws w t p l asker asked front' m home clock legal memory.0)
-            ]
+        | inl quits ↦ links_to quits.1 (front_alone_here w t p l front' (done_of l (input.Asks asked) front') m home
+            (issued_none asked l.front.core front'.core (ap (λ (f : FrontView). f.core.next) quits.0.unchanged))
+            (front_to w p l.front l.front front' (sym quits.0.unchanged) (front_stays w p l.front (core_there w t p l m home))))
+        | inr third ↦ elim third [
+          | inl spent ↦ (
+              let why : Cause = cause.NumbersSpent in
+              let denied : FrontView = after_all (denies asker.client asked why) l.front in
+              let same : front'.core ≡ l.front.core = ap (λ (f : FrontView). f.core) spent.0.happens ∙ denies_core asker.client asked why l.front in
+              links_to spent.1 (front_alone_here w t p l front' (done_of l (input.Asks asked) front') m home (issued_none asked l.front.core front'.core (ap (λ (x : ProxyView). x.next) same))
+              (front_to w p l.front denied front' (sym spent.0.happens) (denies_run asker.client asked why w p l.front (core_there w t p l m home)))))
+          | inr memory ↦ links_to memory.1 (memory_lost laws w t p l asker asked front' m home clock legal memory.0)
         ]
+      ]
     ]
 one_done laws w t p l asker (input.Refused refusal) front' links' m home clock legal h =
     subst (λ x. RunsTo w [] (asked_parts t p l front' x [])) (sym h.1)

@@ -1,14 +1,14 @@
 -- What a cache holds stays such as a text can tell of.
-use Rattle.std.proofs.Common.{◌≡◌, ℕ, ◌-◌, zero, suc, Bool, true, false, cond, List, [], ◌∷◌, ◌++◌, take, Option, Some, None, refl, sym, ap, ◌∙◌, subst}
+use Rattle.std.proofs.Common.{◌≡◌, ℕ, ◌-◌, zero, suc, Bool, true, false, cond, List, [], ◌∷◌, ◌++◌, take, Option, Some, None, refl, sym, ap, subst}
 use Rattle.std.specs.Prelude.{ℤ}
-use Rattle.std.specs.List.{find, filter, AllByRecursion}
+use Rattle.std.specs.List.{find, filter}
 use Rattle.std.specs.Option.{option_to_list}
 use Rattle.mr_text.specs.Valid.{IsValidRequest, IsFlags}
 use Rattle.mr_text.specs.Block.{IsBlock}
 use Rattle.mr_join.specs.declared.leg_reply.LegReply.{LegReply}
 use Rattle.mr_node.specs.Expiry.{expiry_of, is_alive}
 use Rattle.mr_node.specs.Items.{NamedItem, is_named, named_item_of, without}
-use Rattle.mr_node.specs.Recency.{CacheView, RecencyStep, unless_expired, live_item, put_in_front, after_set, items_after}
+use Rattle.mr_node.specs.Recency.{CacheView, RecencyStep, unless_expired, live_item, put_in_front, items_after}
 use Rattle.mr_node.specs.declared.command.NodeCommand.{NodeCommand}
 use Rattle.mr_node.specs.declared.command.NodeCommand.TheVariants.{Get, Set, Delete}
 use Rattle.mr_proxy.specs.NodeRequests.{request_for}

@@ -1,5 +1,5 @@
 -- One proxy changes, or one node, or a connection is made: what else a fleet that mirrors streams keeps.
-use Rattle.std.proofs.Common.{◌≡◌, ◌≢◌, ℕ, zero, suc, ◌==◌, ◌&&◌, ◌⊎◌, inl, inr, Bool, true, false, not, cond, List, [], ◌∷◌, ◌++◌, length, map, slice_get, slice_set, Option, Some, None, refl, sym, ap, ◌∙◌, subst, eqb-true, eq-eqb, ne_eqb}
+use Rattle.std.proofs.Common.{◌≡◌, ◌≢◌, ℕ, ◌==◌, ◌&&◌, ◌⊎◌, inl, inr, Bool, true, false, not, List, [], ◌∷◌, ◌++◌, slice_get, slice_set, Option, Some, None, refl, sym, ap, ◌∙◌, subst, eq-eqb}
 use Rattle.std.specs.Prelude.{bytes_eq, if◌then◌else◌}
 use Rattle.std.proofs.lemmas.List.Folds.{position_or_len-set}
 use Rattle.std.proofs.lemmas.Option.{get_or_from_slice_get}
@@ -26,8 +26,8 @@ use Rattle.mr_streams.specs.OneProxy.{IsKin}
 use Rattle.mr_streams.specs.Refines.{Tells}
 use Rattle.mr_streams.specs.Steps.{names_of, left_if_down}
 use Rattle.mr_streams.specs.StreamsView.{Connection}
-use Rattle.mr_streams.proofs.Lists.{at_set, at_written, at_elsewhere, at_one, at_last, at_left, same_or_not}
-use Rattle.mr_streams.proofs.Mirrors.{Mirrors, FlowsOf, IsHere, IsAtHome, flows_on_lines, flows_left}
+use Rattle.mr_streams.proofs.Lists.{at_set, at_written, at_elsewhere, at_one, at_last, same_or_not}
+use Rattle.mr_streams.proofs.Mirrors.{Mirrors, FlowsOf, IsHere, IsAtHome, flows_left}
 
 -- a connection stands where another one stood: between the same ends, unless one of them is gone
 pub record IsLike (old new : Connection) : Type 0 where
@@ -57,12 +57,12 @@ home_like cores nodes p core core' old new there kin like h =
             numbered = like.node ∙ h.numbered;
           })
       | inr other ↦ record {
-          core = h.core;
-          name = h.name;
-          home = at_elsewhere core' other (subst (λ n. At cores n h.core) (sym like.proxy) h.home);
-          named = subst (λ n. At (names_of h.core.routing) n h.name) (sym like.link) h.named;
-          numbered = like.node ∙ h.numbered;
-        }
+        core = h.core;
+        name = h.name;
+        home = at_elsewhere core' other (subst (λ n. At cores n h.core) (sym like.proxy) h.home);
+        named = subst (λ n. At (names_of h.core.routing) n h.name) (sym like.link) h.named;
+        numbered = like.node ∙ h.numbered;
+      }
     ]
 
 -- one proxy changes, and with it the connections over its links
@@ -82,18 +82,18 @@ loop_mirrors w w' readings cores lines nodes seats connections connections' hist
   tellable = m.tellable;
   named = m.named;
   numbers = λ number c h. elim (at_set cores p core' h) [
-      | inl e ↦ ap (λ (x : ProxyView). x.number) e.1 ∙ kin.number ∙ m.numbers p core there ∙ sym e.0
-      | inr e ↦ m.numbers number c e.1
-    ];
+    | inl e ↦ ap (λ (x : ProxyView). x.number) e.1 ∙ kin.number ∙ m.numbers p core there ∙ sym e.0
+    | inr e ↦ m.numbers number c e.1
+  ];
   plans = λ number c h. elim (at_set cores p core' h) [
-      | inl e ↦ subst (λ (x : ProxyView). IsPlan x.routing x.schedule) (sym e.1)
-          (subst (λ s. IsPlan core'.routing s) (sym kin.schedule) (subst (λ r. IsPlan r core.schedule) (sym kin.routing) (m.plans p core there)))
-      | inr e ↦ m.plans number c e.1
-    ];
+    | inl e ↦ subst (λ (x : ProxyView). IsPlan x.routing x.schedule) (sym e.1)
+        (subst (λ s. IsPlan core'.routing s) (sym kin.schedule) (subst (λ r. IsPlan r core.schedule) (sym kin.routing) (m.plans p core there)))
+    | inr e ↦ m.plans number c e.1
+  ];
   own = λ number place links link h k. elim (at_set lines p links' h) [
-      | inl e ↦ subst (λ n. AreOf n link.legs) (sym e.0) (own place link (subst (λ l. At l place link) e.1 k))
-      | inr e ↦ m.own number place links link e.1 k
-    ];
+    | inl e ↦ subst (λ n. AreOf n link.legs) (sym e.0) (own place link (subst (λ l. At l place link) e.1 k))
+    | inr e ↦ m.own number place links link e.1 k
+  ];
   flows = flows;
   homes = λ i c h. (let s = stands i c h in home_like cores nodes p core core' s.old c there kin s.like (m.homes i s.old s.there));
   one_link = λ i j c d h k left right e f. (let s = stands i c h in let t = stands j d k in
@@ -121,25 +121,25 @@ node_mirrors w w' readings cores lines nodes seats seats' connections connection
   nodes_are = changed ∙ ap (λ x. slice_set x n (holding name cache')) m.nodes_are;
   tells = tells;
   tellable = λ number node h. elim (at_set nodes n (holding name cache') h) [
-      | inl e ↦ subst (λ (x : Node). AreTellable x.cache.items) (sym e.1) kept
-      | inr e ↦ m.tellable number node e.1
-    ];
+    | inl e ↦ subst (λ (x : Node). AreTellable x.cache.items) (sym e.1) kept
+    | inr e ↦ m.tellable number node e.1
+  ];
   named = λ number node h. elim (at_set nodes n (holding name cache') h) [
-      | inl e ↦ ap (λ (x : Node). node_number (slice_set nodes n (holding name cache')) x.name) e.1
-          ∙ numbered_still nodes n (holding name cache) (holding name cache') name there.gets refl ∙ m.named n (holding name cache) there ∙ sym e.0
-      | inr e ↦ numbered_still nodes n (holding name cache) (holding name cache') node.name there.gets refl ∙ m.named number node e.1
-    ];
+    | inl e ↦ ap (λ (x : Node). node_number (slice_set nodes n (holding name cache')) x.name) e.1
+        ∙ numbered_still nodes n (holding name cache) (holding name cache') name there.gets refl ∙ m.named n (holding name cache) there ∙ sym e.0
+    | inr e ↦ numbered_still nodes n (holding name cache) (holding name cache') node.name there.gets refl ∙ m.named number node e.1
+  ];
   numbers = m.numbers;
   plans = m.plans;
   own = m.own;
   flows = flows;
   homes = λ i c h. (let s = stands i c h in let old = m.homes i s.old s.there in record {
-      core = old.core;
-      name = old.name;
-      home = subst (λ k. At cores k old.core) (sym s.like.proxy) old.home;
-      named = subst (λ k. At (names_of old.core.routing) k old.name) (sym s.like.link) old.named;
-      numbered = s.like.node ∙ old.numbered ∙ sym (numbered_still nodes n (holding name cache) (holding name cache') old.name there.gets refl);
-    });
+    core = old.core;
+    name = old.name;
+    home = subst (λ k. At cores k old.core) (sym s.like.proxy) old.home;
+    named = subst (λ k. At (names_of old.core.routing) k old.name) (sym s.like.link) old.named;
+    numbered = s.like.node ∙ old.numbered ∙ sym (numbered_still nodes n (holding name cache) (holding name cache') old.name there.gets refl);
+  });
   one_link = λ i j c d h k left right e f. (let s = stands i c h in let t = stands j d k in
       m.one_link i j s.old t.old s.there t.there (s.like.here left) (t.like.here right) (sym s.like.proxy ∙ e ∙ t.like.proxy) (sym s.like.link ∙ f ∙ t.like.link));
   one_place = λ i j place c d h k e f same_node. (let s = stands i c h in let t = stands j d k in
@@ -164,33 +164,33 @@ made_mirrors w readings cores lines nodes seats connections history new m flows 
   plans = m.plans;
   own = m.own;
   flows = λ i c h. elim (at_last connections new h) [
-      | inl old ↦ m.flows i c old
-      | inr last ↦ subst (λ x. FlowsOf w.sent w.replies lines seats x) (sym last.1) flows
-    ];
+    | inl old ↦ m.flows i c old
+    | inr last ↦ subst (λ x. FlowsOf w.sent w.replies lines seats x) (sym last.1) flows
+  ];
   homes = λ i c h. elim (at_last connections new h) [
-      | inl old ↦ m.homes i c old
-      | inr last ↦ subst (λ x. IsAtHome cores nodes x) (sym last.1) home
-    ];
+    | inl old ↦ m.homes i c old
+    | inr last ↦ subst (λ x. IsAtHome cores nodes x) (sym last.1) home
+  ];
   one_link = λ i j c d h k left right e f. elim (at_last connections new h) [
-      | inl old ↦ elim (at_last connections new k) [
-          | inl other ↦ m.one_link i j c d old other left right e f
-          | inr last ↦ absurd (no_link i c old left (e ∙ ap (λ (x : Connection). x.proxy) last.1) (f ∙ ap (λ (x : Connection). x.link) last.1))
-        ]
-      | inr first ↦ elim (at_last connections new k) [
-          | inl other ↦ absurd (no_link j d other right (sym e ∙ ap (λ (x : Connection). x.proxy) first.1) (sym f ∙ ap (λ (x : Connection). x.link) first.1))
-          | inr last ↦ first.0 ∙ sym last.0
-        ]
-    ];
+    | inl old ↦ elim (at_last connections new k) [
+      | inl other ↦ m.one_link i j c d old other left right e f
+      | inr last ↦ absurd (no_link i c old left (e ∙ ap (λ (x : Connection). x.proxy) last.1) (f ∙ ap (λ (x : Connection). x.link) last.1))
+    ]
+    | inr first ↦ elim (at_last connections new k) [
+      | inl other ↦ absurd (no_link j d other right (sym e ∙ ap (λ (x : Connection). x.proxy) first.1) (sym f ∙ ap (λ (x : Connection). x.link) first.1))
+      | inr last ↦ first.0 ∙ sym last.0
+    ]
+  ];
   one_place = λ i j place c d h k e f same_node. elim (at_last connections new h) [
-      | inl old ↦ elim (at_last connections new k) [
-          | inl other ↦ m.one_place i j place c d old other e f same_node
-          | inr last ↦ absurd (no_place i place c old e (ap (λ (x : Connection). x.place) (sym last.1) ∙ f) (same_node ∙ ap (λ (x : Connection). x.node) last.1))
-        ]
-      | inr first ↦ elim (at_last connections new k) [
-          | inl other ↦ absurd (no_place j place d other f (ap (λ (x : Connection). x.place) (sym first.1) ∙ e) (sym same_node ∙ ap (λ (x : Connection). x.node) first.1))
-          | inr last ↦ first.0 ∙ sym last.0
-        ]
-    ];
+    | inl old ↦ elim (at_last connections new k) [
+      | inl other ↦ m.one_place i j place c d old other e f same_node
+      | inr last ↦ absurd (no_place i place c old e (ap (λ (x : Connection). x.place) (sym last.1) ∙ f) (same_node ∙ ap (λ (x : Connection). x.node) last.1))
+    ]
+    | inr first ↦ elim (at_last connections new k) [
+      | inl other ↦ absurd (no_place j place d other f (ap (λ (x : Connection). x.place) (sym first.1) ∙ e) (sym same_node ∙ ap (λ (x : Connection). x.node) first.1))
+      | inr last ↦ first.0 ∙ sym last.0
+    ]
+  ];
 }
 
 -- a link is as it was, where it is up
@@ -269,9 +269,9 @@ moved_flow messages deliveries lines seats p loop loop' c there h still =
       is_deaf = h.is_deaf;
       busy = h.busy;
       here = λ hears. elim where' [
-          | inl other ↦ here_elsewhere lines p loop'.links c (h.returning ++ h.going) h.front h.out other (h.here hears)
-          | inr same ↦ here_still lines p loop.links loop'.links c (h.returning ++ h.going) h.front h.out there same.0 (still hears same.0) same.1 (h.here hears)
-        ];
+        | inl other ↦ here_elsewhere lines p loop'.links c (h.returning ++ h.going) h.front h.out other (h.here hears)
+        | inr same ↦ here_still lines p loop.links loop'.links c (h.returning ++ h.going) h.front h.out there same.0 (still hears same.0) same.1 (h.here hears)
+      ];
       opens = h.opens;
     })
 

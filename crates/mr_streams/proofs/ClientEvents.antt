@@ -1,9 +1,9 @@
 -- What a client sends.
-use Rattle.std.proofs.Common.{◌≡◌, ℕ, ◌⊎◌, inl, inr, List, [], ◌∷◌, ◌++◌, map, slice_set, Option, Some, None, refl, sym, ap, ◌∙◌, subst}
+use Rattle.std.proofs.Common.{◌≡◌, ℕ, inl, inr, List, [], ◌++◌, map, slice_set, refl, sym, ap, ◌∙◌, subst}
 use Rattle.std.proofs.lemmas.List.{set-set}
 use Rattle.mr_history.specs.Places.{At}
 use Rattle.mr_history.specs.declared.entry.Entry.{Entry}
-use Rattle.mr_loop.specs.Asking.{Asking, AsksOn}
+use Rattle.mr_loop.specs.Asking.{AsksOn}
 use Rattle.mr_loop.specs.LoopView.{LoopView, TakesPiece, asker_of}
 use Rattle.mr_loop.specs.declared.asker.Asker.{Asker}
 use Rattle.mr_loop.specs.declared.asking.Pause.{Pause}
@@ -14,11 +14,11 @@ use Rattle.mr_loop.specs.Events.{FrontView}
 use Rattle.mr_world.specs.WorldView.{WorldView}
 use Rattle.mr_streams.specs.Entries.{issued_in}
 use Rattle.mr_streams.specs.Steps.{ClientSends, ClientStops, left_if_down, with_loop, with_visit, with_entries}
-use Rattle.mr_streams.specs.StreamsView.{StreamsView, Connection}
-use Rattle.mr_streams.proofs.Asking.{IsAsked, asks_run}
+use Rattle.mr_streams.specs.StreamsView.{StreamsView}
+use Rattle.mr_streams.proofs.Asking.{asks_run}
 use Rattle.mr_streams.proofs.Connecting.{runs_behind}
 use Rattle.mr_streams.proofs.Fronts.{front_stays}
-use Rattle.mr_streams.proofs.Legal.{IsStopped, stops}
+use Rattle.mr_streams.proofs.Legal.{stops}
 use Rattle.mr_streams.proofs.Lists.{at_set, at_written}
 use Rattle.mr_streams.proofs.LoopEvents.{all_same}
 use Rattle.mr_streams.proofs.LoopMoves.{with_parts, core_there, own_links, moves_quietly, runs_in, runs_visited}
@@ -27,9 +27,9 @@ use Rattle.mr_streams.proofs.Placing.{SheetLaws}
 
 legal_set : (inboxes : List Inbox) (place : ℕ) (inbox : Inbox) → AreLegal inboxes → IsLegalInput inbox.held → AreLegal (slice_set inboxes place inbox)
 legal_set inboxes place new legal one = λ n inbox h. elim (at_set inboxes place new h) [
-      | inl e ↦ subst (λ (x : Inbox). IsLegalInput x.held) (sym e.1) one
-      | inr e ↦ legal n inbox e.1
-    ]
+  | inl e ↦ subst (λ (x : Inbox). IsLegalInput x.held) (sym e.1) one
+  | inr e ↦ legal n inbox e.1
+]
 
 -- what is whole of what a client sent is asked
 module _ (laws : SheetLaws) (w : WorldView) (s : StreamsView) (p place : ℕ) (loop : LoopView) (asker : Asker) (pause : Pause) (fed inbox' : Inbox) (front' : FrontView) (links' : List Link) (counts' : ClientCounts) where
@@ -38,7 +38,7 @@ module _ (laws : SheetLaws) (w : WorldView) (s : StreamsView) (p place : ℕ) (l
 
   asks_on : MirrorsStreams w s → At s.loops p loop → At s.readings.standing p asker.reading → IsLegalInput fed.held
       → (asks : AsksOn asker pause (record { inbox = fed; front = loop.front; links = loop.links; counts = loop.client_counts })
-          (record { inbox = inbox'; front = front'; links = links'; counts = counts' }))
+      (record { inbox = inbox'; front = front'; links = links'; counts = counts' }))
       → RunsTo w [] (with_entries (issued_in asks.did) (with_loop p asked_of s))
   asks_on m home clock legal asks =
       let between = asks.between in

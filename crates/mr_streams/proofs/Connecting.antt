@@ -1,6 +1,6 @@
 -- A connection is made.
-use Rattle.std.proofs.Common.{◌≡◌, ◌≢◌, ℕ, ◌<◌, ◌==◌, ◌&&◌, ◌⊎◌, inl, inr, Bool, true, false, List, [], ◌∷◌, ◌++◌, map, slice_get, slice_set, length, get_or, Option, Some, None, if◌then◌else◌, refl, sym, ap, ◌∙◌, subst, append_assoc, eq-eqb}
-use Rattle.std.proofs.lemmas.List.{append-nil, map-set}
+use Rattle.std.proofs.Common.{◌≡◌, ◌≢◌, ℕ, ◌==◌, ◌&&◌, inl, inr, Bool, true, false, List, [], ◌∷◌, ◌++◌, map, slice_set, get_or, Some, if◌then◌else◌, refl, sym, ap, ◌∙◌, subst, eq-eqb}
+use Rattle.std.proofs.lemmas.List.{map-set}
 use Rattle.std.proofs.lemmas.Option.{slice_get-get_or}
 use Rattle.mr_clock.specs.Readings.{Tick}
 use Rattle.mr_history.specs.Places.{At}
@@ -15,14 +15,11 @@ use Rattle.mr_world.specs.Positions.{node_number}
 use Rattle.mr_world.specs.WorldView.{WorldView}
 use Rattle.mr_world.specs.declared.message.Delivery.{Delivery}
 use Rattle.mr_world.specs.declared.message.Message.{Message}
-use Rattle.mr_world.specs.declared.node.Node.{Node}
-use Rattle.mr_streams.specs.Fleet.{FleetEvent, FleetRun, ticks_of}
-use Rattle.mr_streams.specs.Flows.{AreOf}
+use Rattle.mr_streams.specs.Fleet.{ticks_of}
 use Rattle.mr_streams.specs.OneNode.{holding}
-use Rattle.mr_streams.specs.OneProxy.{FrontRuns}
 use Rattle.mr_streams.specs.Steps.{Connects, left_over, fresh_connection, names_of, with_node}
 use Rattle.mr_streams.specs.StreamsView.{StreamsView, NodeEnd, Connection, cores_of, world_nodes}
-use Rattle.mr_streams.proofs.Changing.{IsLike, StandsFor, made_mirrors, same_like, here_elsewhere}
+use Rattle.mr_streams.proofs.Changing.{IsLike, made_mirrors, same_like, here_elsewhere}
 use Rattle.mr_streams.proofs.Lists.{at_map, at_mapped, at_written, at_elsewhere, at_one, same_or_not, written_back}
 use Rattle.mr_streams.proofs.LoopEvents.{own_set}
 use Rattle.mr_streams.proofs.LoopMoves.{with_parts, core_there, own_links, front_streams, runs_in}
@@ -93,9 +90,9 @@ over_flow messages deliveries lines seats p node links link' c there h =
       is_deaf = h.is_deaf;
       busy = h.busy;
       here = λ e. elim (same_or_not c.proxy p) [
-          | inl same ↦ here_kept lines p node links link' c (h.returning ++ h.going) h.front h.out there same (other same) (h.here e)
-          | inr ne ↦ here_elsewhere lines p (slice_set links node link') c (h.returning ++ h.going) h.front h.out ne (h.here e)
-        ];
+        | inl same ↦ here_kept lines p node links link' c (h.returning ++ h.going) h.front h.out there same (other same) (h.here e)
+        | inr ne ↦ here_elsewhere lines p (slice_set links node link') c (h.returning ++ h.going) h.front h.out ne (h.here e)
+      ];
       opens = h.opens;
     })
 
@@ -112,10 +109,10 @@ comes_up w s p node now loop loop' m home l =
     (still_tells w.history front.so.world.history s.history front.so.gains m.mirrors.tells)
     (own_set p loop.links node new own tt)
     (λ i c k. (let old = at_map (left_over p node) s.connections k in
-        record { old = old.0; there = old.1; like = subst (λ x. IsLike old.0 x) (sym old.2) (over_like p node old.0) }))
+    record { old = old.0; there = old.1; like = subst (λ x. IsLike old.0 x) (sym old.2) (over_like p node old.0) }))
     (λ i c k. (let old = at_map (left_over p node) s.connections k in
-        subst (λ x. FlowsOf w.sent w.replies (slice_set (lines_of s.loops) p explicit.links) (seats_of s.nodes) x) (sym old.2)
-        (over_flow w.sent w.replies (lines_of s.loops) (seats_of s.nodes) p node loop.links new old.0 (at_mapped (λ (x : LoopView). x.links) home) (m.mirrors.flows i old.0 old.1))))
+    subst (λ x. FlowsOf w.sent w.replies (slice_set (lines_of s.loops) p explicit.links) (seats_of s.nodes) x) (sym old.2)
+    (over_flow w.sent w.replies (lines_of s.loops) (seats_of s.nodes) p node loop.links new old.0 (at_mapped (λ (x : LoopView). x.links) home) (m.mirrors.flows i old.0 old.1))))
 
 -- the node's side: a client comes to a place that no connection has
 module _ (s : StreamsView) (p node place : ℕ) (end : NodeEnd) (connections : List Connection) where
@@ -144,9 +141,9 @@ connects w s s' p link place now m h =
     let s1 : StreamsView = with_parts s p explicit connections s.history in
     let up : RunsTo w [] s1 = comes_up w s p link now loop h.loop' m h.home l in
     let free : (i : ℕ) (c : Connection) → At connections i c → c.node ≡ node → c.place ≢ Some place = λ i c k at_node at_place. (
-        let old = at_map (left_over p link) s.connections k in
-        let like : IsLike old.0 c = subst (λ x. IsLike old.0 x) (sym old.2) (over_like p link old.0) in
-        h.free i old.0 old.1 (sym like.node ∙ at_node) (like.place place at_place)) in
+    let old = at_map (left_over p link) s.connections k in
+    let like : IsLike old.0 c = subst (λ x. IsLike old.0 x) (sym old.2) (over_like p link old.0) in
+    h.free i old.0 old.1 (sym like.node ∙ at_node) (like.place place at_place)) in
     let loop_there : At s1.loops p explicit = at_written explicit h.home in
     let s2 : StreamsView = with_node_parts s1 node end (after_node_coming place end.loop) connections s.history in
     let seated : RunsTo up.world [] s2 = comes_in s1 p node place end connections up.world up.mirrors h.there refl free in
@@ -168,15 +165,15 @@ connects w s s' p link place now m h =
       is_deaf = false;
       busy = record { replies = refl; requests = λ _. record { texts = refl; sent = tt } };
       here = λ _. record {
-          links = explicit.links;
-          link = new;
-          home = at_mapped (λ (x : LoopView). x.links) loop_there;
-          there = link_there;
-          is_up = refl;
-          legs_are = refl;
-          kept = refl;
-          out_is = refl;
-        };
+        links = explicit.links;
+        link = new;
+        home = at_mapped (λ (x : LoopView). x.links) loop_there;
+        there = link_there;
+        is_up = refl;
+        legs_are = refl;
+        kept = refl;
+        out_is = refl;
+      };
       opens = λ k e. (
           let same : place ≡ k = (let both : Some place ≡ Some k = e in cc) in
           record {
@@ -204,9 +201,9 @@ connects w s s' p link place now m h =
     } in
     let made = made_mirrors w2 s2.readings (cores_of s2.loops) (lines_of s2.loops) (world_nodes s2.nodes) (seats_of s2.nodes) connections s.history c m2.mirrors flow home
     (λ i d k here same_proxy same_link. (
-        let old = at_map (left_over p link) s.connections k in
-        over_or_not (λ x. x.is_left ≡ false → x.proxy ≡ p → x.link ≡ link → ⊥) p link old.0 (λ e _ _. (let no : true ≡ false = e in cc)) (λ other _ a b. other a b)
-        (subst (λ (x : Connection). x.is_left ≡ false) old.2 here) (subst (λ (x : Connection). x.proxy ≡ p) old.2 same_proxy) (subst (λ (x : Connection). x.link ≡ link) old.2 same_link)))
+    let old = at_map (left_over p link) s.connections k in
+    over_or_not (λ x. x.is_left ≡ false → x.proxy ≡ p → x.link ≡ link → ⊥) p link old.0 (λ e _ _. (let no : true ≡ false = e in cc)) (λ other _ a b. other a b)
+    (subst (λ (x : Connection). x.is_left ≡ false) old.2 here) (subst (λ (x : Connection). x.proxy ≡ p) old.2 same_proxy) (subst (λ (x : Connection). x.link ≡ link) old.2 same_link)))
     (λ i k d a e f same_node. free i d a same_node (e ∙ sym f)) in
     let s3 : StreamsView = record s2 { connections = connections ++ c ∷ [] } in
     let last : RunsTo up.world [] s3 = record {

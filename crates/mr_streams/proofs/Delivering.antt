@@ -1,9 +1,7 @@
 -- A node's exchanges are messages that are delivered, in their order.
-use Rattle.std.proofs.Common.{◌≡◌, ℕ, ◌⊎◌, inl, inr, List, [], ◌∷◌, ◌++◌, length, slice_set, refl, sym, ap, ◌∙◌, subst, append_assoc}
-use Rattle.std.specs.List.{flat_map}
+use Rattle.std.proofs.Common.{◌≡◌, ℕ, inl, inr, List, [], ◌∷◌, ◌++◌, length, slice_set, refl, sym, ap, ◌∙◌, subst, append_assoc}
 use Rattle.std.proofs.lemmas.List.{append-nil, set-set}
 use Rattle.mr_text.specs.Canonical.{canonical_reply}
-use Rattle.mr_text.specs.Valid.{IsValidReply}
 use Rattle.mr_text.specs.declared.reply.Reply.{Reply}
 use Rattle.mr_text.specs.declared.reply.Reply.TheVariants.{Items, Stored, Deleted, NotFound, Error, ClientError, ServerError}
 use Rattle.mr_history.specs.Places.{At}
@@ -11,7 +9,7 @@ use Rattle.mr_history.specs.declared.entry.Author.TheVariants.{By}
 use Rattle.mr_history.specs.declared.entry.Entry.{Entry}
 use Rattle.mr_join.specs.declared.leg_reply.LegReply.{LegReply}
 use Rattle.mr_node.specs.Output.{Exchange, output_of, text_of_exchange}
-use Rattle.mr_node.specs.Output.Exchange.{Asked, Unknown}
+use Rattle.mr_node.specs.Output.Exchange.{Asked}
 use Rattle.mr_node.specs.Recency.{CacheView, RecencyStep}
 use Rattle.mr_node.specs.declared.command.NodeCommand.{NodeCommand}
 use Rattle.mr_node.specs.declared.command.NodeCommand.TheVariants.{Get, Set, Delete}
@@ -25,19 +23,18 @@ use Rattle.mr_world.specs.WorldView.{WorldView}
 use Rattle.mr_world.specs.declared.event.Event.TheVariants.{Deliver}
 use Rattle.mr_world.specs.declared.message.Delivery.{Delivery}
 use Rattle.mr_world.specs.declared.message.Message.{Message}
-use Rattle.mr_world.specs.declared.node.Node.{Node}
 use Rattle.mr_world.specs.declared.note.Note.TheVariants as note
 use Rattle.mr_streams.specs.Entries.{StoresOnce, StoresAll}
 use Rattle.mr_streams.specs.Fleet.{FleetEvent, ticks_of}
-use Rattle.mr_streams.specs.Flows.{AreReplies, AreRequests, IsError, IsGoing, WasAnswered, WasDelivered}
+use Rattle.mr_streams.specs.Flows.{AreReplies, AreRequests, IsError, IsGoing, WasAnswered}
 use Rattle.mr_streams.specs.Kept.{AreTellable}
 use Rattle.mr_streams.specs.OneNode.{ServesSo, holding}
 use Rattle.mr_streams.specs.Refines.{Tells}
 use Rattle.mr_streams.specs.StreamsView.{node_does}
-use Rattle.mr_streams.proofs.Exchanges.{RequestLaws, AsksAll, SpellsAll, IsFirst, first_exchange, text_told}
+use Rattle.mr_streams.proofs.Exchanges.{RequestLaws, AsksAll, SpellsAll, first_exchange, text_told}
 use Rattle.mr_streams.proofs.Fronts.{has_left}
 use Rattle.mr_streams.proofs.Lists.{at_left, at_new, at_written, written_back}
-use Rattle.mr_streams.proofs.Performing.{Performs, IsPerformed, performed_for}
+use Rattle.mr_streams.proofs.Performing.{Performs, performed_for}
 use Rattle.mr_streams.proofs.Runs.{run_append, ticks_append}
 
 -- what was delivered stays so
@@ -46,15 +43,15 @@ pub answered_still : (messages : List Message) (deliveries more : List Delivery)
 answered_still messages deliveries more sent reply was =
     elim was [
       | inl d ↦ inl (record {
-          message = d.message;
-          number = d.number;
-          from = d.from;
-          said = d.said;
-          there = d.there;
-          of_leg = d.of_leg;
-          replied = at_left more d.replied;
-          answers = d.answers;
-        })
+        message = d.message;
+        number = d.number;
+        from = d.from;
+        said = d.said;
+        there = d.there;
+        of_leg = d.of_leg;
+        replied = at_left more d.replied;
+        answers = d.answers;
+      })
       | inr e ↦ inr e
     ]
 
@@ -68,9 +65,14 @@ replies_still messages deliveries more (sent ∷ legs) bytes h =
 pub replies_both : (messages : List Message) (deliveries : List Delivery) (legs others : List SentLeg) (bytes later : List ℕ) → AreReplies messages deliveries legs bytes
     → AreReplies messages deliveries others later → AreReplies messages deliveries (legs ++ others) (bytes ++ later)
 replies_both messages deliveries [] others bytes later h k = subst (λ b. AreReplies messages deliveries others (b ++ later)) (sym h) k
-replies_both messages deliveries (sent ∷ legs) others bytes later h k =
-    (h.0, h.1 ++ later, h.2, h.3, ap (λ b. b ++ later) h.4 ∙ append_assoc (canonical_reply h.0) h.1 later,
-    replies_both messages deliveries legs others h.1 later h.5 k)
+replies_both messages deliveries (sent ∷ legs) others bytes later h k = (
+  h.0,
+  h.1 ++ later,
+  h.2,
+  h.3,
+  ap (λ b. b ++ later) h.4 ∙ append_assoc (canonical_reply h.0) h.1 later,
+  replies_both messages deliveries legs others h.1 later h.5 k,
+)
 
 -- nothing happens
 abbrev pub serves_nothing : (w : WorldView) (number : ℕ) (name : List ℕ) (cache : CacheView) (heard heard' : List Entry) → At w.nodes number (holding name cache) → heard' ≡ heard
@@ -176,17 +178,24 @@ delivered w number reading name old new sent said heard heard' there going step 
     record {
       world = world;
       events = FleetEvent.Happens (Deliver going.number reading) ∷ [];
-      run = (world, (note.Performed (length w.replies), record {
-        message = record { sheet = sent.leg; node = number };
-        node = holding name old;
-        reply = said;
-        left = new;
-        sent = going.there;
-        there = there;
-        step = step;
-        tells = refl;
-        becomes = refl;
-      }), refl);
+      run = (
+        world,
+        (
+          note.Performed (length w.replies),
+          record {
+            message = record { sheet = sent.leg; node = number };
+            node = holding name old;
+            reply = said;
+            left = new;
+            sent = going.there;
+            there = there;
+            step = step;
+            tells = refl;
+            becomes = refl;
+          },
+        ),
+        refl,
+      );
       nodes = refl;
       proxies = refl;
       sent = refl;
@@ -290,10 +299,12 @@ serve_all laws (exchange ∷ exchanges) messages deliveries w number reading nam
       left = next.left;
       splits = is.legs_are ∙ ap (λ l. is.sent ∷ l) next.splits;
       replies = (
-        is.told, output_of exchanges,
+        is.told,
+        output_of exchanges,
         subst (λ d. WasAnswered messages d is.sent is.told) all (answered_still messages (deliveries ++ so.more) next.so.more is.sent is.told first.was),
-        done.valid, ap (λ t. t ++ output_of exchanges) told,
-        subst (λ d. AreReplies messages d next.answered (output_of exchanges)) all next.replies
+        done.valid,
+        ap (λ t. t ++ output_of exchanges) told,
+        subst (λ d. AreReplies messages d next.answered (output_of exchanges)) all next.replies,
       );
       requests = next.requests;
       kept = next.kept;

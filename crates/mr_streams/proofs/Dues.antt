@@ -1,6 +1,6 @@
 -- What becomes due to the client of a place by events of its loop.
-use Rattle.std.proofs.Common.{◌≡◌, ◌≢◌, ℕ, ◌==◌, ◌&&◌, ◌⊎◌, inl, inr, Bool, true, false, List, [], ◌∷◌, ◌++◌, length, map, slice_get, slice_set, get_or, position, Option, Some, None, if◌then◌else◌, refl, sym, ap, ◌∙◌, subst, append_assoc, eqb-true, eq-eqb, ne_eqb}
-use Rattle.std.proofs.lemmas.List.{append-nil, map-append, map-set}
+use Rattle.std.proofs.Common.{◌≡◌, ℕ, ◌==◌, ◌&&◌, inl, inr, Bool, true, false, List, [], ◌∷◌, ◌++◌, length, map, slice_get, slice_set, get_or, position, Option, Some, None, if◌then◌else◌, refl, sym, ap, ◌∙◌, subst, append_assoc, eqb-true, eq-eqb, ne_eqb}
+use Rattle.std.proofs.lemmas.List.{append-nil, map-append, map-set, length-set}
 use Rattle.std.proofs.lemmas.List.Quantifiers.{position-Some}
 use Rattle.std.proofs.lemmas.Option.{slice_get-get_or}
 use Rattle.mr_text.specs.declared.reply.Reply.{Reply}
@@ -9,12 +9,10 @@ use Rattle.mr_history.specs.Places.{At}
 use Rattle.mr_history.specs.declared.op_id.OpId.{OpId}
 use Rattle.mr_proxy.specs.Answer.{AnswerView}
 use Rattle.mr_proxy.specs.Issue.{next_op}
-use Rattle.mr_proxy.specs.ProxyView.{ProxyView}
-use Rattle.mr_proxy.specs.Replay.{after, answer_at}
-use Rattle.mr_proxy.specs.declared.step.Step.{Step}
+use Rattle.mr_proxy.specs.Replay.{answer_at}
 use Rattle.mr_proxy.specs.declared.step.Step.TheVariants.{Issue, Take, GiveUp}
-use Rattle.mr_loop.specs.Events.{FrontView, Event, after_event, after_all, changed, changed_in, with_turn, with_answer, queued, answered}
-use Rattle.mr_loop.specs.Returning.{TakesAll, TakesBytes, HasTaken, Breaks, give_ups, taking, giving_up, standing}
+use Rattle.mr_loop.specs.Events.{FrontView, Event, after_event, after_all, changed, changed_in, with_turn, with_answer, answered}
+use Rattle.mr_loop.specs.Returning.{TakesAll, TakesBytes, HasTaken, Breaks, give_ups, taking, standing}
 use Rattle.mr_loop.specs.Runs.{Due, due_of_turn, due_now, due}
 use Rattle.mr_loop.specs.Ticking.{ticks, given_up_at, is_late}
 use Rattle.mr_loop.specs.Turns.{noted, noted_in, is_turn_of}
@@ -64,27 +62,37 @@ pub record GrewAt (old : List Client) (place : ℕ) (more : List Due) (new : Cli
   pub same_out : new.out ≡ was.out
   pub dues : map due_of_turn new.turns ≡ map due_of_turn was.turns ++ more
 
-abbrev pub Grew : (old : List Client) → (ℕ → List Due) → List Client → Type 0
-Grew old more new = (place : ℕ) (client : Client) → At new place client → GrewAt old place (more place) client
+pub record Grew (old : List Client) (more : ℕ → List Due) (new : List Client) : Type 0 where
+  pub count : length new ≡ length old
+  pub each : (place : ℕ) (client : Client) → At new place client → GrewAt old place (more place) client
 
 pub grew_none : (clients : List Client) → Grew clients (λ place. []) clients
-grew_none clients = λ place client there. record { was = client; there = there; same_out = refl; dues = sym (append-nil (map due_of_turn client.turns)) }
+grew_none clients = record {
+  count = refl;
+  each = λ place client there. record { was = client; there = there; same_out = refl; dues = sym (append-nil (map due_of_turn client.turns)) };
+}
 
 pub grew_on : (a b c : List Client) (first later : ℕ → List Due) → Grew a first b → Grew b later c → Grew a (λ place. first place ++ later place) c
-grew_on a b c first later h k = λ place client there. (
-    let last = k place client there in
-    let was = h place last.was last.there in
-    record {
-      was = was.was;
-      there = was.there;
-      same_out = last.same_out ∙ was.same_out;
-      dues = last.dues ∙ ap (λ x. x ++ later place) was.dues ∙ append_assoc (map due_of_turn was.was.turns) (first place) (later place);
-    })
+grew_on a b c first later h k = record {
+  count = k.count ∙ h.count;
+  each = λ place client there. (
+      let last = k.each place client there in
+      let was = h.each place last.was last.there in
+      record {
+        was = was.was;
+        there = was.there;
+        same_out = last.same_out ∙ was.same_out;
+        dues = last.dues ∙ ap (λ x. x ++ later place) was.dues ∙ append_assoc (map due_of_turn was.was.turns) (first place) (later place);
+      });
+}
 
 pub grew_to : (a c : List Client) (first more : ℕ → List Due) → ((place : ℕ) → more place ≡ first place) → Grew a first c → Grew a more c
-grew_to a c first more e h = λ place client there. (
-    let was = h place client there in
-    record { was = was.was; there = was.there; same_out = was.same_out; dues = was.dues ∙ ap (λ x. map due_of_turn was.was.turns ++ x) (sym (e place)) })
+grew_to a c first more e h = record {
+  count = h.count;
+  each = λ place client there. (
+      let was = h.each place client there in
+      record { was = was.was; there = was.there; same_out = was.same_out; dues = was.dues ∙ ap (λ x. map due_of_turn was.was.turns ++ x) (sym (e place)) });
+}
 
 -- what one more turn makes due, to the client of its place
 abbrev due_at : ℕ → Due → ℕ → List Due
@@ -100,31 +108,37 @@ due_elsewhere false one e = refl
 
 turn_grew_in : (o : Option Client) (client : ℕ) (turn : Turn) (clients : List Client) → slice_get clients client ≡ o
     → Grew clients (due_at client (due_of_turn turn)) (changed_in o client (with_turn turn) clients)
-turn_grew_in None client turn clients e = λ place one there. elim (same_or_not client place) [
-      | inl same ↦ absurd (let never : None ≡ Some one = sym e ∙ ap (λ k. slice_get clients k) same ∙ there.gets in cc)
-      | inr other ↦ record {
-          was = one;
-          there = there;
-          same_out = refl;
-          dues = sym (append-nil (map due_of_turn one.turns)) ∙ ap (λ x. map due_of_turn one.turns ++ x) (sym (due_elsewhere (client == place) (due_of_turn turn) (ne_eqb client place other)));
-        }
-    ]
-turn_grew_in (Some was) client turn clients e = λ place one there. elim (at_set clients client (with_turn turn was) there) [
-      | inl new ↦ record {
-          was = was;
-          there = record { gets = ap (λ k. slice_get clients k) new.0 ∙ e };
-          same_out = ap (λ (c : Client). c.out) new.1;
-          dues = ap (λ (c : Client). map due_of_turn c.turns) new.1 ∙ map-append due_of_turn was.turns (turn ∷ [])
-              ∙ ap (λ x. map due_of_turn was.turns ++ x) (sym (due_here (client == place) (due_of_turn turn) (eq-eqb client place (sym new.0))));
-        }
-      | inr old ↦ record {
-          was = one;
-          there = old.1;
-          same_out = refl;
-          dues = sym (append-nil (map due_of_turn one.turns))
-              ∙ ap (λ x. map due_of_turn one.turns ++ x) (sym (due_elsewhere (client == place) (due_of_turn turn) (ne_eqb client place (λ same. old.0 (sym same)))));
-        }
-    ]
+turn_grew_in None client turn clients e = record {
+  count = refl;
+  each = λ place one there. elim (same_or_not client place) [
+    | inl same ↦ absurd (let never : None ≡ Some one = sym e ∙ ap (λ k. slice_get clients k) same ∙ there.gets in cc)
+    | inr other ↦ record {
+      was = one;
+      there = there;
+      same_out = refl;
+      dues = sym (append-nil (map due_of_turn one.turns)) ∙ ap (λ x. map due_of_turn one.turns ++ x) (sym (due_elsewhere (client == place) (due_of_turn turn) (ne_eqb client place other)));
+    }
+  ];
+}
+turn_grew_in (Some was) client turn clients e = record {
+  count = length-set clients client (with_turn turn was);
+  each = λ place one there. elim (at_set clients client (with_turn turn was) there) [
+    | inl new ↦ record {
+      was = was;
+      there = record { gets = ap (λ k. slice_get clients k) new.0 ∙ e };
+      same_out = ap (λ (c : Client). c.out) new.1;
+      dues = ap (λ (c : Client). map due_of_turn c.turns) new.1 ∙ map-append due_of_turn was.turns (turn ∷ [])
+          ∙ ap (λ x. map due_of_turn was.turns ++ x) (sym (due_here (client == place) (due_of_turn turn) (eq-eqb client place (sym new.0))));
+    }
+    | inr old ↦ record {
+      was = one;
+      there = old.1;
+      same_out = refl;
+      dues = sym (append-nil (map due_of_turn one.turns))
+          ∙ ap (λ x. map due_of_turn one.turns ++ x) (sym (due_elsewhere (client == place) (due_of_turn turn) (ne_eqb client place (λ same. old.0 (sym same)))));
+    }
+  ];
+}
 
 turn_grew : (client : ℕ) (turn : Turn) (clients : List Client) → Grew clients (due_at client (due_of_turn turn)) (changed client (with_turn turn) clients)
 turn_grew client turn clients = turn_grew_in (slice_get clients client) client turn clients refl
@@ -132,15 +146,18 @@ turn_grew client turn clients = turn_grew_in (slice_get clients client) client t
 answer_grew_in : (o : Option Client) (client : ℕ) (answer : AnswerView) (clients : List Client) → slice_get clients client ≡ o
     → Grew clients (λ place. []) (changed_in o client (with_answer answer) clients)
 answer_grew_in None client answer clients e = grew_none clients
-answer_grew_in (Some was) client answer clients e = λ place one there. elim (at_set clients client (with_answer answer was) there) [
-      | inl new ↦ record {
-          was = was;
-          there = record { gets = ap (λ k. slice_get clients k) new.0 ∙ e };
-          same_out = ap (λ (c : Client). c.out) new.1;
-          dues = ap (λ (c : Client). map due_of_turn c.turns) new.1 ∙ due_noted answer was.turns ∙ sym (append-nil (map due_of_turn was.turns));
-        }
-      | inr old ↦ record { was = one; there = old.1; same_out = refl; dues = sym (append-nil (map due_of_turn one.turns)) }
-    ]
+answer_grew_in (Some was) client answer clients e = record {
+  count = length-set clients client (with_answer answer was);
+  each = λ place one there. elim (at_set clients client (with_answer answer was) there) [
+    | inl new ↦ record {
+      was = was;
+      there = record { gets = ap (λ k. slice_get clients k) new.0 ∙ e };
+      same_out = ap (λ (c : Client). c.out) new.1;
+      dues = ap (λ (c : Client). map due_of_turn c.turns) new.1 ∙ due_noted answer was.turns ∙ sym (append-nil (map due_of_turn was.turns));
+    }
+    | inr old ↦ record { was = one; there = old.1; same_out = refl; dues = sym (append-nil (map due_of_turn one.turns)) }
+  ];
+}
 
 answered_grew : (client : ℕ) (o : Option AnswerView) (clients : List Client) → Grew clients (λ place. []) (answered client o clients)
 answered_grew client None clients = grew_none clients

@@ -12,14 +12,14 @@ use Rattle.mr_text.specs.declared.error.TextError.TheVariants.{LineTooLong, BadK
 use Rattle.mr_text.specs.declared.reply.Reply.{Reply}
 use Rattle.mr_text.specs.declared.request.Request.{Request}
 use Rattle.mr_text.specs.declared.request.Request.TheVariants.{Quit}
-use Rattle.mr_node.specs.Output.{Exchange, ReadsExchanges, SpellsExchange, IsServed, output_of, text_of_exchange, reply_to_refusal}
+use Rattle.mr_node.specs.Output.{Exchange, ReadsExchanges, SpellsExchange, text_of_exchange, reply_to_refusal}
 use Rattle.mr_node.specs.Output.Exchange.{Asked, Unknown}
 use Rattle.mr_node.specs.Recency.{CacheView}
 use Rattle.mr_node.specs.declared.command.NodeCommand.{NodeCommand}
 use Rattle.mr_node.specs.declared.command.NodeCommand.TheVariants.{Get, Set, Delete}
 use Rattle.mr_node.specs.declared.ended.Ended.{Ended}
 use Rattle.mr_node.specs.declared.ended.Ended.TheVariants as how
-use Rattle.mr_proxy.specs.NodeRequests.{request_for, text_for}
+use Rattle.mr_proxy.specs.NodeRequests.{request_for}
 use Rattle.mr_loop.specs.declared.sent_legs.SentLeg.{SentLeg}
 use Rattle.mr_loop.specs.node.Serving.{AsksOnce, AsksInOrder, EndsThere}
 use Rattle.mr_world.specs.declared.message.Message.{Message}

@@ -1,6 +1,6 @@
 -- Requests a leg of which failed: they are answered with an error.
-use Rattle.std.proofs.Common.{◌≡◌, ◌≢◌, ℕ, zero, suc, ◌⊎◌, inl, inr, Bool, true, false, not, ◌||◌, ◌&&◌, cond, List, [], ◌∷◌, ◌++◌, map, slice_get, slice_set, Option, Some, None, if◌then◌else◌, refl, sym, ap, ◌∙◌, subst}
-use Rattle.std.specs.Prelude.{fold, nat_lt}
+use Rattle.std.proofs.Common.{◌≡◌, ℕ, zero, suc, Bool, true, false, not, ◌||◌, ◌&&◌, List, [], ◌∷◌, ◌++◌, map, slice_get, slice_set, Option, Some, None, if◌then◌else◌, refl, sym, ap, ◌∙◌, subst}
+use Rattle.std.specs.Prelude.{fold}
 use Rattle.std.proofs.lemmas.List.{append-nil}
 use Rattle.mr_text.specs.declared.cause.Cause.{Cause}
 use Rattle.mr_text.specs.declared.reply.Reply.{Reply}
@@ -9,11 +9,11 @@ use Rattle.mr_text.specs.declared.request.Request.{Request}
 use Rattle.mr_text.specs.declared.request.Request.TheVariants as request
 use Rattle.mr_history.specs.declared.entry.Entry.{Entry}
 use Rattle.mr_history.specs.declared.entry.Entry.TheVariants as entry
-use Rattle.mr_join.specs.Join.{worse_of, worst_of, first_cause, joined_reply, reply_by, reply_by_worst, hits_of, items_unless, badness_of}
+use Rattle.mr_join.specs.Join.{worse_of, worst_of, first_cause, joined_reply, reply_by, reply_by_worst, hits_of, items_unless}
 use Rattle.mr_join.specs.declared.leg_reply.LegReply.{LegReply}
 use Rattle.mr_join.specs.declared.leg_reply.LegReply.TheVariants.{Hit, Miss, Stored, Deleted, NotFound, Failed}
 use Rattle.mr_node.specs.Output.{is_silent}
-use Rattle.mr_proxy.specs.Answer.{AnswerView, answer_of, reply_of}
+use Rattle.mr_proxy.specs.Answer.{AnswerView, reply_of}
 use Rattle.mr_proxy.specs.Pending.{PendingView, with_reply, with_reply_in}
 use Rattle.mr_proxy.specs.Slots.{is_open, is_of_kind, is_awaiting, is_failed, reply_of_slot, open_slot}
 use Rattle.mr_proxy.specs.declared.sheet.LegSheet.{LegSheet}

@@ -1,5 +1,5 @@
 -- The first element that passes a test, in a list and in what a filter keeps of it.
-use Rattle.std.proofs.Common.{◌≡◌, ◌≢◌, ℕ, zero, suc, ◌+◌, ◌≤◌, Bool, true, false, not, cond, List, [], ◌∷◌, ◌++◌, length, slice_get, slice_set, remove, Some, refl, sym, ap, ◌∙◌, subst, arith}
+use Rattle.std.proofs.Common.{◌≡◌, ℕ, zero, suc, ◌+◌, ◌≤◌, Bool, true, false, not, cond, List, [], ◌∷◌, ◌++◌, length, slice_get, slice_set, remove, Some, refl, sym, ap, ◌∙◌, arith}
 use Rattle.std.specs.List.{filter, position_or_len}
 
 pub keeps : {X : Type 0} (p : X → Bool) (z : X) (zs : List X) → p z ≡ true → filter p (z ∷ zs) ≡ z ∷ filter p zs

@@ -1,5 +1,5 @@
 -- Runs of a fleet in which the core of one proxy gives answers to its clients.
-use Rattle.std.proofs.Common.{◌≡◌, ℕ, ◌⊎◌, inl, inr, false, List, [], ◌∷◌, ◌++◌, slice_get, slice_set, position, Option, Some, None, refl, sym, ap, ◌∙◌, subst}
+use Rattle.std.proofs.Common.{◌≡◌, ℕ, inl, inr, false, List, [], ◌∷◌, ◌++◌, slice_get, position, Option, Some, None, refl, sym, ap, ◌∙◌, subst}
 use Rattle.mr_history.specs.Places.{At}
 use Rattle.mr_history.specs.declared.entry.Entry.{Entry}
 use Rattle.mr_history.specs.declared.entry.Entry.TheVariants as entry
@@ -7,18 +7,17 @@ use Rattle.mr_history.specs.declared.op_id.OpId.{OpId}
 use Rattle.mr_text.specs.declared.reply.Reply.{Reply}
 use Rattle.mr_node.specs.Output.{is_silent}
 use Rattle.mr_proxy.specs.Answer.{AnswerView, reply_of}
-use Rattle.mr_proxy.specs.ProxyView.{ProxyView}
-use Rattle.mr_proxy.specs.Replay.{after, answer_at}
+use Rattle.mr_proxy.specs.Replay.{answer_at}
 use Rattle.mr_proxy.specs.declared.step.Step.{Step}
 use Rattle.mr_proxy.specs.declared.step.Step.TheVariants.{Issue, Take, GiveUp}
-use Rattle.mr_loop.specs.Events.{FrontView, Event, after_event, answered, changed, changed_in, with_turn, with_answer}
-use Rattle.mr_loop.specs.Turns.{noted, noted_in, is_turn_of}
+use Rattle.mr_loop.specs.Events.{FrontView, Event, after_event, answered, changed, changed_in, with_answer}
+use Rattle.mr_loop.specs.Turns.{noted_in, is_turn_of}
 use Rattle.mr_loop.specs.declared.client.Client.{Client}
 use Rattle.mr_loop.specs.declared.turns.Turn.{Turn}
 use Rattle.mr_loop.specs.declared.turns.Turn.TheVariants.{Waits, Answered, Says}
 use Rattle.mr_world.specs.Lists.{Has}
 use Rattle.mr_world.specs.WorldView.{WorldView}
-use Rattle.mr_streams.specs.OneProxy.{GainsAnswers, RunsSo, StepsSo, KnowsTurns, AreKnown, FrontRuns}
+use Rattle.mr_streams.specs.OneProxy.{GainsAnswers, StepsSo, KnowsTurns, AreKnown, FrontRuns}
 use Rattle.mr_streams.proofs.Lists.{at_left, at_set, at_last}
 use Rattle.mr_streams.proofs.Runs.{stays, runs_on, runs_to}
 

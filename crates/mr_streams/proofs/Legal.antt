@@ -1,10 +1,9 @@
 -- What is read of a client's bytes can be asked of nodes.
-use Rattle.std.proofs.Common.{◌≡◌, ◌≢◌, ℕ, zero, suc, ◌+◌, ◌<◌, ◌≤◌, ◌⊎◌, inl, inr, Bool, List, [], ◌∷◌, ◌++◌, length, map, Contains, All, Option, Some, None, Result, Ok, Err, refl, sym, ap, ◌∙◌, subst, arith}
-use Rattle.std.specs.Prelude.{ℤ, slice_index_or}
+use Rattle.std.proofs.Common.{◌≡◌, ◌≢◌, ℕ, zero, suc, ◌<◌, inl, inr, List, [], ◌∷◌, length, map, Option, Some, None, refl, sym, ap, subst, arith}
+use Rattle.std.specs.Prelude.{slice_index_or}
 use Rattle.std.specs.List.{AllByRecursion}
 use Rattle.std.proofs.lemmas.List.Elements.{All-cons, All-nil, recursion_from_All}
 use Rattle.mr_text.specs.Key.{IsKey}
-use Rattle.mr_text.specs.Limits.{MAX_KEY, MAX_LINE}
 use Rattle.mr_text.specs.Requests.{SpellsRequest}
 use Rattle.mr_text.specs.Valid.{IsValidRequest}
 use Rattle.mr_text.specs.declared.request.Request.{Request}
@@ -12,13 +11,12 @@ use Rattle.mr_text.specs.declared.request.Request.TheVariants as request
 use Rattle.mr_node.specs.declared.command.NodeCommand.{NodeCommand}
 use Rattle.mr_node.specs.declared.command.NodeCommand.TheVariants.{Get, Set, Delete}
 use Rattle.mr_proxy.specs.NodeRequests.{request_for}
-use Rattle.mr_proxy.specs.Sheets.{commands_of}
-use Rattle.mr_loop.specs.Asking.{AsksOn, StopsFor, Asking, HoldsBack, LeavesUnread}
-use Rattle.mr_loop.specs.Inboxes.{FetchIs, ReadsOne, TakesHeld, holding, going_on}
+use Rattle.mr_loop.specs.Asking.{StopsFor, Asking, HoldsBack}
+use Rattle.mr_loop.specs.Inboxes.{FetchIs}
 use Rattle.mr_loop.specs.declared.asker.Asker.{Asker}
 use Rattle.mr_loop.specs.declared.asking.Pause.{Pause}
 use Rattle.mr_loop.specs.declared.asking.Pause.TheVariants.{NeedsBytes, NeedsRoom, NeedsReader, NeedsQueue, NeedsMemory, IsDone}
-use Rattle.mr_loop.specs.declared.inbox.Fetched.TheVariants.{Came, Nothing, NoMemory, Done}
+use Rattle.mr_loop.specs.declared.inbox.Fetched.TheVariants.{Came, Done}
 use Rattle.mr_loop.specs.declared.inbox.Inbox.{Inbox}
 use Rattle.mr_loop.specs.declared.inbox.Input.{Input}
 use Rattle.mr_loop.specs.declared.inbox.Input.TheVariants as input
@@ -107,12 +105,12 @@ done_held old new legal fetch =
     elim fetch [
       | inl over ↦ subst (λ (i : Inbox). IsLegalInput i.held) (sym over.2) legal
       | inr reads ↦ elim reads [
-          | inl quits ↦ none_legal new.held quits.same_held
-          | inr other ↦ elim other [
-              | inl ended ↦ none_legal new.held ended.0.same_held
-              | inr closed ↦ none_legal new.held closed.same_held
-            ]
+        | inl quits ↦ none_legal new.held quits.same_held
+        | inr other ↦ elim other [
+          | inl ended ↦ none_legal new.held ended.0.same_held
+          | inr closed ↦ none_legal new.held closed.same_held
         ]
+      ]
     ]
 
 pub stops : (asker : Asker) (pause : Pause) (old new : Asking) → IsLegalInput old.inbox.held → StopsFor asker pause old new → IsStopped old new
@@ -128,9 +126,9 @@ stops asker (NeedsQueue number) old new legal h = held_back asker old new (input
 stops asker NeedsMemory old new legal h =
     elim h [
       | inl unread ↦ record {
-          same_front = ap (λ (a : Asking). a.front) unread.left;
-          same_links = ap (λ (a : Asking). a.links) unread.left;
-          legal = subst (λ (a : Asking). IsLegalInput a.inbox.held) (sym unread.left) (none_legal unread.fetched.held unread.refused.same_held);
-        }
+        same_front = ap (λ (a : Asking). a.front) unread.left;
+        same_links = ap (λ (a : Asking). a.links) unread.left;
+        legal = subst (λ (a : Asking). IsLegalInput a.inbox.held) (sym unread.left) (none_legal unread.fetched.held unread.refused.same_held);
+      }
       | inr held ↦ held_back asker old new held.0 legal held.1
     ]

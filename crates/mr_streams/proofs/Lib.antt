@@ -29,3 +29,6 @@ mod Failing
 mod Thinning
 mod Safety
 mod Dues
+mod Hearing
+mod HearingEvents
+mod Flushing

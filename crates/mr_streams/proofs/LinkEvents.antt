@@ -1,5 +1,5 @@
 -- What happens on the proxy's side of a connection: bytes leave the loop and reach it, a proxy restarts, a client is answered.
-use Rattle.std.proofs.Common.{◌≡◌, ◌≢◌, ℕ, suc, ◌+◌, ◌⊎◌, inl, inr, Bool, true, false, List, [], ◌∷◌, ◌++◌, map, slice_get, slice_set, drop, length, Option, Some, None, if◌then◌else◌, refl, sym, ap, ◌∙◌, subst, append_assoc}
+use Rattle.std.proofs.Common.{◌≡◌, ◌≢◌, ℕ, suc, ◌+◌, inl, inr, Bool, true, false, List, [], ◌∷◌, ◌++◌, map, slice_set, drop, length, Some, if◌then◌else◌, refl, sym, ap, ◌∙◌, subst, append_assoc}
 use Rattle.std.specs.List.{flat_map}
 use Rattle.std.proofs.lemmas.List.{append-nil, drop_at}
 use Rattle.mr_history.specs.Places.{At}
@@ -15,32 +15,28 @@ use Rattle.mr_loop.specs.Runs.{told_text}
 use Rattle.mr_loop.specs.declared.client.Client.{Client}
 use Rattle.mr_loop.specs.declared.link.Link.{Link}
 use Rattle.mr_loop.specs.declared.node.client.NodeClient.{NodeClient}
-use Rattle.mr_loop.specs.declared.sent_legs.SentLeg.{SentLeg}
 use Rattle.mr_loop.specs.declared.turns.Turn.{Turn}
 use Rattle.mr_loop.specs.declared.turns.Turn.TheVariants.{Waits, Answered, Says}
 use Rattle.mr_world.specs.Lists.{Has}
-use Rattle.mr_world.specs.Steps.{answered}
 use Rattle.mr_world.specs.WorldView.{WorldView}
 use Rattle.mr_world.specs.declared.event.Event.TheVariants as event
-use Rattle.mr_world.specs.declared.message.Delivery.{Delivery}
-use Rattle.mr_world.specs.declared.message.Message.{Message}
 use Rattle.mr_world.specs.declared.note.Note.TheVariants as note
 use Rattle.mr_streams.specs.Entries.{told_by, told_in}
 use Rattle.mr_streams.specs.Fleet.{FleetEvent}
-use Rattle.mr_streams.specs.Flows.{AreReplies, AreRequests, AreOf}
-use Rattle.mr_streams.specs.OneLink.{Awaits, BytesTaken}
+use Rattle.mr_streams.specs.Flows.{AreReplies, AreOf}
+use Rattle.mr_streams.specs.OneLink.{Awaits}
 use Rattle.mr_streams.specs.OneNode.{IsBusy}
 use Rattle.mr_streams.specs.OneProxy.{AreKnown, KnowsTurns, FrontRuns}
 use Rattle.mr_streams.specs.Refines.{Tells}
 use Rattle.mr_streams.specs.Steps.{LeavesProxy, ReachesProxy, RestartsProxy, Answers, left_if_down, with_loop, with_connection, with_entries, with_visit}
-use Rattle.mr_streams.specs.StreamsView.{StreamsView, Connection, cores_of}
-use Rattle.mr_streams.proofs.Changing.{IsLike, StandsFor, IsSameLink, moved_flow, down_like, like_on, same_like, unless_down}
+use Rattle.mr_streams.specs.StreamsView.{StreamsView, Connection}
+use Rattle.mr_streams.proofs.Changing.{IsLike, IsSameLink, moved_flow, down_like, like_on, unless_down}
 use Rattle.mr_streams.proofs.Fronts.{front_stays}
-use Rattle.mr_streams.proofs.Lists.{at_map, at_mapped, at_set, at_one, at_left, at_right, at_written, at_elsewhere, at_replicate, at_nothing}
+use Rattle.mr_streams.proofs.Lists.{at_map, at_mapped, at_set, at_one, at_left, at_right, at_written, at_replicate, at_nothing}
 use Rattle.mr_streams.proofs.LoopEvents.{front_same, own_set, all_same}
 use Rattle.mr_streams.proofs.LoopMoves.{core_there, own_links, loop_streams, front_streams, moves_to, runs_in, runs_visited}
-use Rattle.mr_streams.proofs.Mirrors.{MirrorsStreams, FlowsOf, IsHere, IsOpen, ReadsOn, RunsTo, lines_of, seats_of, flows_left}
-use Rattle.mr_streams.proofs.Runs.{still_tells, kin_same}
+use Rattle.mr_streams.proofs.Mirrors.{MirrorsStreams, FlowsOf, IsOpen, RunsTo, lines_of, seats_of, flows_left}
+use Rattle.mr_streams.proofs.Runs.{still_tells}
 use Rattle.mr_streams.proofs.Spellings.{ReplyLaws}
 use Rattle.mr_streams.proofs.Taking.{bytes_taken}
 
@@ -66,21 +62,28 @@ restarted w s s' p m h =
     (λ place client there. absurd (at_nothing there)) (λ place inbox there. absurd (at_nothing there)) m.mirrors.tells
     (λ place link there. subst (λ (x : Link). AreOf p x.legs) (sym (at_replicate (nodes_of core.routing) down there)) tt)
     (λ i c k. (let old = at_map (left_if_down p explicit) s.connections k in
-        record { old = old.0; there = old.1; like = subst (λ x. IsLike old.0 x) (sym old.2) (down_like p explicit old.0) }))
+    record { old = old.0; there = old.1; like = subst (λ x. IsLike old.0 x) (sym old.2) (down_like p explicit old.0) }))
     (λ i c k. (let old = at_map (left_if_down p explicit) s.connections k in
-        subst (λ x. FlowsOf w.sent w.replies (slice_set (lines_of s.loops) p explicit.links) (seats_of s.nodes) x) (sym old.2)
-        (moved_flow w.sent w.replies (lines_of s.loops) (seats_of s.nodes) p loop explicit old.0 (at_mapped (λ (l : LoopView). l.links) h.home) (m.mirrors.flows i old.0 old.1)
-        (λ here same. λ link new a b was up. absurd (let no : false ≡ true = ap (λ (x : Link). x.is_up) (sym (at_replicate (nodes_of core.routing) down b)) ∙ up in cc))))) in
+    subst (λ x. FlowsOf w.sent w.replies (slice_set (lines_of s.loops) p explicit.links) (seats_of s.nodes) x) (sym old.2)
+    (moved_flow w.sent w.replies (lines_of s.loops) (seats_of s.nodes) p loop explicit old.0 (at_mapped (λ (l : LoopView). l.links) h.home) (m.mirrors.flows i old.0 old.1)
+    (λ here same. λ link new a b was up. absurd (let no : false ≡ true = ap (λ (x : Link). x.is_up) (sym (at_replicate (nodes_of core.routing) down b)) ∙ up in cc))))) in
     runs_in w [] _ s' h.becomes (runs_visited w [] (with_loop p explicit s) _ (record {
       world = world;
       happened = FleetEvent.Happens (event.ProxyRestart p) ∷ [];
-      run = (world, (note.Nothing, record {
-        proxy = loop.front.core;
-        home = core_there w s p loop m h.home;
-        not_last = h.not_last;
-        tells = refl;
-        becomes = refl;
-      }), refl);
+      run = (
+        world,
+        (
+          note.Nothing,
+          record {
+            proxy = loop.front.core;
+            home = core_there w s p loop m h.home;
+            not_last = h.not_last;
+            tells = refl;
+            becomes = refl;
+          },
+        ),
+        refl,
+      );
       ticks_are = refl;
       mirrors = is;
     }))
@@ -115,9 +118,9 @@ answers w s s' p client m h =
     let first : KnowsTurns w.history h.told = λ place answer k wants. all place answer (at_left l.later k) wants in
     let later : KnowsTurns w.history l.later = λ place answer k wants. all (length h.told + place) answer (at_right h.told k) wants in
     let known : AreKnown w.history loop.front.clients → AreKnown w.history explicit.front.clients = λ known n other there. elim (at_set loop.front.clients client new there) [
-        | inl e ↦ subst (λ (c : Client). KnowsTurns w.history c.turns) (sym e.1) later
-        | inr e ↦ known n other e.1
-      ] in
+      | inl e ↦ subst (λ (c : Client). KnowsTurns w.history c.turns) (sym e.1) later
+      | inr e ↦ known n other e.1
+    ] in
     let front = front_same w p loop.front explicit.front (core_there w s p loop m h.home) refl known in
     let told : Tells front.so.world.history (s.history ++ told_in h.told) = tells_turns w.history s.history h.told first m.mirrors.tells in
     let is = moves_to w s p loop explicit (s.history ++ told_in h.told) front m h.home (m.legal p loop h.home) told (own_links w s p loop m h.home) (λ place. all_same loop.links place) in
@@ -138,21 +141,21 @@ module _ (w : WorldView) (s : StreamsView) (number : ℕ) (c c' : Connection) (l
       (still_tells w.history front.so.world.history s.history front.so.gains m.mirrors.tells)
       (own_set p loop.links c.link link' (own_links w s p loop m home) own)
       (λ i d k. (let old = at_map (left_if_down p loop') changed k in
-          elim (at_set s.connections number c' old.1) [
-            | inl e ↦ record {
-                old = c;
-                there = subst (λ n. At s.connections n c) (sym e.0) there;
-                like = subst (λ x. IsLike c x) (sym old.2) (subst (λ x. IsLike c (left_if_down p loop' x)) (sym e.1) (like_on c c' (left_if_down p loop' c') like (down_like p loop' c')));
-              }
-            | inr e ↦ record { old = old.0; there = e.1; like = subst (λ x. IsLike old.0 x) (sym old.2) (down_like p loop' old.0) }
-          ]))
+      elim (at_set s.connections number c' old.1) [
+        | inl e ↦ record {
+          old = c;
+          there = subst (λ n. At s.connections n c) (sym e.0) there;
+          like = subst (λ x. IsLike c x) (sym old.2) (subst (λ x. IsLike c (left_if_down p loop' x)) (sym e.1) (like_on c c' (left_if_down p loop' c') like (down_like p loop' c')));
+        }
+        | inr e ↦ record { old = old.0; there = e.1; like = subst (λ x. IsLike old.0 x) (sym old.2) (down_like p loop' old.0) }
+      ]))
       (λ i d k. (let old = at_map (left_if_down p loop') changed k in
-          subst (λ x. FlowsOf w.sent w.replies (slice_set (lines_of s.loops) p loop'.links) (seats_of s.nodes) x) (sym old.2)
-          (elim (at_set s.connections number c' old.1) [
-            | inl e ↦ subst (λ x. FlowsOf w.sent w.replies (slice_set (lines_of s.loops) p loop'.links) (seats_of s.nodes) (left_if_down p loop' x)) (sym e.1) flow
-            | inr e ↦ moved_flow w.sent w.replies (lines_of s.loops) (seats_of s.nodes) p loop loop' old.0 (at_mapped (λ (l : LoopView). l.links) home) (m.mirrors.flows i old.0 e.1)
-                (λ other_here same. elsewhere_same loop.links c.link old.0.link link' (λ same_link. e.0 (m.mirrors.one_link i number old.0 c e.1 there other_here here same same_link)))
-          ])))
+      subst (λ x. FlowsOf w.sent w.replies (slice_set (lines_of s.loops) p loop'.links) (seats_of s.nodes) x) (sym old.2)
+      (elim (at_set s.connections number c' old.1) [
+        | inl e ↦ subst (λ x. FlowsOf w.sent w.replies (slice_set (lines_of s.loops) p loop'.links) (seats_of s.nodes) (left_if_down p loop' x)) (sym e.1) flow
+        | inr e ↦ moved_flow w.sent w.replies (lines_of s.loops) (seats_of s.nodes) p loop loop' old.0 (at_mapped (λ (l : LoopView). l.links) home) (m.mirrors.flows i old.0 e.1)
+            (λ other_here same. elsewhere_same loop.links c.link old.0.link link' (λ same_link. e.0 (m.mirrors.one_link i number old.0 c e.1 there other_here here same same_link)))
+      ])))
 
 opens_back : (seats : List (List NodeClient)) (c : Connection) (place : ℕ) (kept tail : List ℕ) (is_deaf : Bool) (back : List ℕ) → IsOpen seats c place kept tail is_deaf
     → IsOpen seats (record c { back = back }) place kept tail is_deaf
@@ -198,28 +201,28 @@ leaves w s s' number m h =
       is_deaf = f.is_deaf;
       busy = subst (λ x. IsBusy w.sent w.replies c.node f.is_deaf f.returning f.going (f.front ++ (c.back ++ f.tail)) x) texts f.busy;
       here = λ _. record {
-          links = slice_set loop.links c.link link';
-          link = link';
-          home = at_written (slice_set loop.links c.link link') lines_there;
-          there = at_written link' there;
-          is_up = ap (λ (x : Link). x.is_up) one ∙ old.is_up;
-          legs_are = ap (λ (x : Link). x.legs) one ∙ old.legs_are;
-          kept = ap (λ (x : Link). x.reader.kept) one ∙ old.kept;
-          out_is = rest;
-        };
+        links = slice_set loop.links c.link link';
+        link = link';
+        home = at_written (slice_set loop.links c.link link') lines_there;
+        there = at_written link' there;
+        is_up = ap (λ (x : Link). x.is_up) one ∙ old.is_up;
+        legs_are = ap (λ (x : Link). x.legs) one ∙ old.legs_are;
+        kept = ap (λ (x : Link). x.reader.kept) one ∙ old.kept;
+        out_is = rest;
+      };
       opens = λ place e. (let o = f.opens place e in record {
-          clients = o.clients;
-          client = o.client;
-          home = o.home;
-          there = o.there;
-          deaf = o.deaf;
-          kept_is = o.kept_is;
-          tail_is = o.tail_is;
-          reads_on = λ hears. (let r = o.reads_on hears in record {
-              not_closed = r.not_closed;
-              ended = λ ends. absurd (let no : false ≡ true = sym h.is_here ∙ (r.ended ends).0 in cc);
-            });
+        clients = o.clients;
+        client = o.client;
+        home = o.home;
+        there = o.there;
+        deaf = o.deaf;
+        kept_is = o.kept_is;
+        tail_is = o.tail_is;
+        reads_on = λ hears. (let r = o.reads_on hears in record {
+          not_closed = r.not_closed;
+          ended = λ ends. absurd (let no : false ≡ true = sym h.is_here ∙ (r.ended ends).0 in cc);
         });
+      });
     } in
     let loop' : LoopView = with_link loop loop.front c.link link' in
     let is = changed_streams w s number c c' loop loop.front l.link link' m h.there h.is_here h.home there (front_stays w p loop.front (core_there w s p loop m h.home))
@@ -270,15 +273,15 @@ reaches laws w s s' number now m h =
       busy = record { replies = replies; requests = f.busy.requests };
       here = λ e. absurd (let no : true ≡ false = e in cc);
       opens = λ place e. (let o = f.opens place e in record {
-          clients = o.clients;
-          client = o.client;
-          home = o.home;
-          there = o.there;
-          deaf = o.deaf;
-          kept_is = o.kept_is;
-          tail_is = o.tail_is;
-          reads_on = λ hears. (let r = o.reads_on hears in record { not_closed = r.not_closed; ended = λ ends. (refl, (r.ended ends).1) });
-        });
+        clients = o.clients;
+        client = o.client;
+        home = o.home;
+        there = o.there;
+        deaf = o.deaf;
+        kept_is = o.kept_is;
+        tail_is = o.tail_is;
+        reads_on = λ hears. (let r = o.reads_on hears in record { not_closed = r.not_closed; ended = λ ends. (refl, (r.ended ends).1) });
+      });
     } in
     let like : IsLike c c' = record { proxy = refl; link = refl; node = refl; place = λ place e. e; here = λ e. e } in
     runs_in w [] (with_loop p loop' (with_connection number c' s)) s' (h.becomes ∙ ap (λ x. with_loop p x (with_connection number c' s)) l.becomes)
@@ -296,15 +299,15 @@ reaches laws w s s' number now m h =
             is_deaf = f.is_deaf;
             busy = record { replies = a.replies; requests = f.busy.requests };
             here = λ _. record {
-                links = slice_set loop.links c.link l.link';
-                link = l.link';
-                home = at_written (slice_set loop.links c.link l.link') lines_there;
-                there = new_there;
-                is_up = goes.0 ∙ ap (λ (x : Link). x.is_up) one ∙ old.is_up;
-                legs_are = a.splits;
-                kept = refl;
-                out_is = goes.1 ∙ ap (λ (x : Link). x.out) one ∙ old.out_is;
-              };
+              links = slice_set loop.links c.link l.link';
+              link = l.link';
+              home = at_written (slice_set loop.links c.link l.link') lines_there;
+              there = new_there;
+              is_up = goes.0 ∙ ap (λ (x : Link). x.is_up) one ∙ old.is_up;
+              legs_are = a.splits;
+              kept = refl;
+              out_is = goes.1 ∙ ap (λ (x : Link). x.out) one ∙ old.out_is;
+            };
             opens = λ place e. opens_back (seats_of s.nodes) c place f.kept f.tail f.is_deaf h.rest (f.opens place e);
           })))
       | inr down ↦ (

@@ -1,39 +1,30 @@
 -- What happens to a proxy's loop beside its clients: a dial, a break, a tick, a restart, a place, and what a client hears.
-use Rattle.std.proofs.Common.{◌≡◌, ◌≢◌, ℕ, zero, suc, ◌⊎◌, inl, inr, Bool, true, false, List, [], ◌∷◌, ◌++◌, map, slice_get, slice_set, drop, length, replicate, Option, Some, None, if◌then◌else◌, refl, sym, ap, ◌∙◌, subst}
-use Rattle.std.specs.List.{flat_map}
-use Rattle.std.proofs.lemmas.List.{append-nil}
+use Rattle.std.proofs.Common.{◌≡◌, ◌≢◌, ℕ, suc, inl, inr, Bool, true, false, List, [], ◌∷◌, ◌++◌, slice_get, slice_set, drop, length, Option, Some, None, if◌then◌else◌, refl, sym, ap, ◌∙◌, subst}
 use Rattle.mr_history.specs.Places.{At}
 use Rattle.mr_history.specs.declared.entry.Entry.{Entry}
-use Rattle.mr_proxy.specs.Transitions.{after_restart}
-use Rattle.mr_loop.specs.Counts.{no_link_counts, dial_counted}
+use Rattle.mr_loop.specs.Counts.{dial_counted}
 use Rattle.mr_loop.specs.Events.{FrontView, Event, after_all, after_event}
 use Rattle.mr_loop.specs.Inboxes.{fresh_inbox}
 use Rattle.mr_loop.specs.Links.{down_link}
-use Rattle.mr_loop.specs.LoopView.{LoopView, with_link, LinkBreaks, LinkDialed, IsAsked, ClientRead, after_tick, after_coming, after_leaving, with_place, fresh_loop, nodes_of}
+use Rattle.mr_loop.specs.LoopView.{LoopView, with_link, LinkBreaks, LinkDialed, IsAsked, after_tick, after_coming, after_leaving, with_place}
 use Rattle.mr_loop.specs.Returning.{after_break, give_ups}
 use Rattle.mr_loop.specs.Ticking.{ticked, ticks, is_late, given_up_at}
 use Rattle.mr_loop.specs.Turns.{fresh_client}
 use Rattle.mr_loop.specs.declared.client.Client.{Client}
 use Rattle.mr_loop.specs.declared.inbox.Inbox.{Inbox}
 use Rattle.mr_loop.specs.declared.link.Link.{Link}
-use Rattle.mr_loop.specs.declared.sent_legs.SentLeg.{SentLeg}
-use Rattle.mr_loop.specs.declared.turns.Turn.{Turn}
 use Rattle.mr_loop.specs.declared.turns.Turn.TheVariants.{Answered}
 use Rattle.mr_world.specs.WorldView.{WorldView}
-use Rattle.mr_world.specs.declared.event.Event.TheVariants as event
-use Rattle.mr_world.specs.declared.note.Note.TheVariants as note
-use Rattle.mr_streams.specs.Fleet.{FleetEvent}
 use Rattle.mr_streams.specs.Flows.{AreOf}
 use Rattle.mr_streams.specs.OneProxy.{AreKnown, KnowsTurns, FrontRuns}
-use Rattle.mr_streams.specs.Refines.{Tells}
-use Rattle.mr_streams.specs.Steps.{Moves, RestartsProxy, Changes, AddsPlace, ClientHears, left_if_down, with_loop}
-use Rattle.mr_streams.specs.StreamsView.{StreamsView, Connection, cores_of}
-use Rattle.mr_streams.proofs.Changing.{IsSameLink, StandsFor, IsLike, moved_flow, down_like}
-use Rattle.mr_streams.proofs.Fronts.{front_stays, front_to, front_on, known_still}
-use Rattle.mr_streams.proofs.Lists.{at_map, at_mapped, at_set, at_last, at_one, at_written}
-use Rattle.mr_streams.proofs.LoopMoves.{core_there, own_links, loop_streams, moves_quietly, runs_in, runs_visited}
-use Rattle.mr_streams.proofs.Mirrors.{MirrorsStreams, FlowsOf, AreLegal, IsLegalInput, RunsTo, lines_of, seats_of}
-use Rattle.mr_streams.proofs.Runs.{stays, stands, still_tells}
+use Rattle.mr_streams.specs.Steps.{Moves, Changes, AddsPlace, ClientHears, with_loop}
+use Rattle.mr_streams.specs.StreamsView.{StreamsView}
+use Rattle.mr_streams.proofs.Changing.{IsSameLink}
+use Rattle.mr_streams.proofs.Fronts.{front_stays, front_to, front_on}
+use Rattle.mr_streams.proofs.Lists.{at_map, at_set, at_last, at_one}
+use Rattle.mr_streams.proofs.LoopMoves.{core_there, own_links, moves_quietly, runs_in, runs_visited}
+use Rattle.mr_streams.proofs.Mirrors.{MirrorsStreams, AreLegal, IsLegalInput, RunsTo}
+use Rattle.mr_streams.proofs.Runs.{stays, stands}
 use Rattle.mr_streams.proofs.Taking.{breaks_run, give_ups_run}
 
 -- a step that changes one link alone leaves the others
@@ -154,25 +145,25 @@ tick w s s' p now m h =
     to_loop w s s' p h.loop' explicit h.becomes h.step
     (moves_quietly w s p loop explicit m h.home (tick_run bound now loop.links w p loop.front (core_there w s p loop m h.home) own) (m.legal p loop h.home)
     (λ place link k. (let old = at_map (ticked bound now) loop.links k in
-        subst (λ (x : Link). AreOf p x.legs) (sym old.2) (ticked_own (is_late bound now old.0) p old.0 (down_link (after_break now old.0)) refl (own place old.0 old.1))))
+    subst (λ (x : Link). AreOf p x.legs) (sym old.2) (ticked_own (is_late bound now old.0) p old.0 (down_link (after_break now old.0)) refl (own place old.0 old.1))))
     (λ place old new a k was is. (
-        let from = at_map (ticked bound now) loop.links k in
-        let one : from.0 ≡ old = at_one from.1 a in
-        let up : (ticked bound now from.0).is_up ≡ true = ap (λ (x : Link). x.is_up) (sym from.2) ∙ is in
-        let same : new ≡ old = from.2 ∙ ticked_same (is_late bound now from.0) bound now from.0 (down_link (after_break now from.0)) refl up ∙ one in
-        (ap (λ (x : Link). x.legs) same, ap (λ (x : Link). x.reader.kept) same, ap (λ (x : Link). x.out) same))))
+    let from = at_map (ticked bound now) loop.links k in
+    let one : from.0 ≡ old = at_one from.1 a in
+    let up : (ticked bound now from.0).is_up ≡ true = ap (λ (x : Link). x.is_up) (sym from.2) ∙ is in
+    let same : new ≡ old = from.2 ∙ ticked_same (is_late bound now from.0) bound now from.0 (down_link (after_break now from.0)) refl up ∙ one in
+    (ap (λ (x : Link). x.legs) same, ap (λ (x : Link). x.reader.kept) same, ap (λ (x : Link). x.out) same))))
 
 legal_set : (inboxes : List Inbox) (place : ℕ) → AreLegal inboxes → AreLegal (slice_set inboxes place fresh_inbox)
 legal_set inboxes place legal = λ n inbox h. elim (at_set inboxes place fresh_inbox h) [
-      | inl e ↦ subst (λ (x : Inbox). IsLegalInput x.held) (sym e.1) tt
-      | inr e ↦ legal n inbox e.1
-    ]
+  | inl e ↦ subst (λ (x : Inbox). IsLegalInput x.held) (sym e.1) tt
+  | inr e ↦ legal n inbox e.1
+]
 
 legal_more : (inboxes : List Inbox) → AreLegal inboxes → AreLegal (inboxes ++ fresh_inbox ∷ [])
 legal_more inboxes legal = λ n inbox h. elim (at_last inboxes fresh_inbox h) [
-      | inl e ↦ legal n inbox e
-      | inr e ↦ subst (λ (x : Inbox). IsLegalInput x.held) (sym e.1) tt
-    ]
+  | inl e ↦ legal n inbox e
+  | inr e ↦ subst (λ (x : Inbox). IsLegalInput x.held) (sym e.1) tt
+]
 
 none_some : {X : Type 0} (place : ℕ) (x : X) → slice_get [] place ≢ Some x
 none_some place x e = cc
@@ -182,15 +173,15 @@ no_turns history client e = λ place answer h wants. absurd (let none : slice_ge
 
 known_fresh : (history : List Entry) (clients : List Client) (place : ℕ) → AreKnown history clients → AreKnown history (slice_set clients place fresh_client)
 known_fresh history clients place known = λ n client there. elim (at_set clients place fresh_client there) [
-      | inl e ↦ no_turns history client (ap (λ (c : Client). c.turns) e.1)
-      | inr e ↦ known n client e.1
-    ]
+  | inl e ↦ no_turns history client (ap (λ (c : Client). c.turns) e.1)
+  | inr e ↦ known n client e.1
+]
 
 known_place : (history : List Entry) (clients : List Client) → AreKnown history clients → AreKnown history (clients ++ fresh_client ∷ [])
 known_place history clients known = λ n client there. elim (at_last clients fresh_client there) [
-      | inl e ↦ known n client e
-      | inr e ↦ no_turns history client (ap (λ (c : Client). c.turns) e.1)
-    ]
+  | inl e ↦ known n client e
+  | inr e ↦ no_turns history client (ap (λ (c : Client). c.turns) e.1)
+]
 
 pub came : (w : WorldView) (s s' : StreamsView) (p client : ℕ) → MirrorsStreams w s → Changes after_coming s p client s' → RunsTo w [] s'
 came w s s' p client m h =
@@ -226,9 +217,9 @@ hears w s s' p client m h =
     let new : Client = record l.was { out = drop (length h.piece) l.was.out } in
     let explicit : LoopView = record loop { front = record loop.front { clients = slice_set loop.front.clients client new } } in
     let known : AreKnown w.history loop.front.clients → AreKnown w.history explicit.front.clients = λ known n other there. elim (at_set loop.front.clients client new there) [
-        | inl e ↦ subst (λ (c : Client). KnowsTurns w.history c.turns) (sym e.1) (known client l.was (record { gets = l.there }))
-        | inr e ↦ known n other e.1
-      ] in
+      | inl e ↦ subst (λ (c : Client). KnowsTurns w.history c.turns) (sym e.1) (known client l.was (record { gets = l.there }))
+      | inr e ↦ known n other e.1
+    ] in
     runs_in w [] _ s' h.becomes (runs_visited w [] (with_loop p h.loop' s) _
     (to_loop w s (with_loop p h.loop' s) p h.loop' explicit refl l.becomes
     (moves_quietly w s p loop explicit m h.home (front_same w p loop.front explicit.front (core_there w s p loop m h.home) refl known)

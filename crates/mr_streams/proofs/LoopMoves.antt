@@ -1,18 +1,15 @@
 -- A loop makes a step: what the streams stand for then.
-use Rattle.std.proofs.Common.{◌≡◌, ◌≢◌, ℕ, ◌⊎◌, inl, inr, Bool, true, false, List, [], ◌∷◌, ◌++◌, map, slice_set, Option, Some, None, refl, sym, ap, ◌∙◌, subst}
-use Rattle.std.proofs.lemmas.List.{map-set, append-nil}
+use Rattle.std.proofs.Common.{◌≡◌, ℕ, inl, inr, List, [], map, slice_set, sym, subst}
+use Rattle.std.proofs.lemmas.List.{map-set}
 use Rattle.mr_clock.specs.Readings.{Tick}
 use Rattle.mr_history.specs.Places.{At}
 use Rattle.mr_history.specs.declared.entry.Entry.{Entry}
-use Rattle.mr_proxy.specs.ProxyView.{ProxyView}
-use Rattle.mr_loop.specs.Events.{FrontView}
 use Rattle.mr_loop.specs.LoopView.{LoopView}
 use Rattle.mr_loop.specs.declared.link.Link.{Link}
 use Rattle.mr_loop.specs.declared.node.client.NodeClient.{NodeClient}
 use Rattle.mr_world.specs.WorldView.{WorldView}
 use Rattle.mr_world.specs.declared.message.Delivery.{Delivery}
 use Rattle.mr_world.specs.declared.message.Message.{Message}
-use Rattle.mr_streams.specs.Fleet.{FleetEvent, FleetRun, ticks_of}
 use Rattle.mr_streams.specs.Flows.{AreOf}
 use Rattle.mr_streams.specs.OneProxy.{AreKnown, FrontRuns, RunsSo, IsKin}
 use Rattle.mr_streams.specs.Refines.{Tells}
@@ -62,13 +59,13 @@ loop_streams w w' s p loop loop' connections' history' m home kin clocks proxies
       mirrors = subst (λ c. Mirrors w' s.readings c (lines_of (slice_set s.loops p loop')) (world_nodes s.nodes) (seats_of s.nodes) connections' history') (sym cores)
           (subst (λ l. Mirrors w' s.readings (slice_set (cores_of s.loops) p loop'.front.core) l (world_nodes s.nodes) (seats_of s.nodes) connections' history') (sym lines) is);
       known = λ number other h. elim (at_set s.loops p loop' h) [
-          | inl e ↦ subst (λ (l : LoopView). AreKnown w'.history l.front.clients) (sym e.1) known
-          | inr e ↦ others number other e.1
-        ];
+        | inl e ↦ subst (λ (l : LoopView). AreKnown w'.history l.front.clients) (sym e.1) known
+        | inr e ↦ others number other e.1
+      ];
       legal = λ number other h. elim (at_set s.loops p loop' h) [
-          | inl e ↦ subst (λ (l : LoopView). AreLegal l.inboxes) (sym e.1) legal
-          | inr e ↦ m.legal number other e.1
-        ];
+        | inl e ↦ subst (λ (l : LoopView). AreLegal l.inboxes) (sym e.1) legal
+        | inr e ↦ m.legal number other e.1
+      ];
     }
 
 -- the same by a run of its core
@@ -100,11 +97,11 @@ pub moves_to : (w : WorldView) (s : StreamsView) (p : ℕ) (loop loop' : LoopVie
 moves_to w s p loop loop' history' front m home legal tells own still =
     front_streams w s p loop loop' (map (left_if_down p loop') s.connections) history' front m home legal tells own
     (λ i c h. (let old = at_map (left_if_down p loop') s.connections h in
-        record { old = old.0; there = old.1; like = subst (λ x. IsLike old.0 x) (sym old.2) (down_like p loop' old.0) }))
+    record { old = old.0; there = old.1; like = subst (λ x. IsLike old.0 x) (sym old.2) (down_like p loop' old.0) }))
     (λ i c h. (let old = at_map (left_if_down p loop') s.connections h in
-        subst (λ x. FlowsOf w.sent w.replies (slice_set (lines_of s.loops) p loop'.links) (seats_of s.nodes) x) (sym old.2)
-        (moved_flow w.sent w.replies (lines_of s.loops) (seats_of s.nodes) p loop loop' old.0 (at_mapped (λ (l : LoopView). l.links) home) (m.mirrors.flows i old.0 old.1)
-        (λ here same. still old.0.link))))
+    subst (λ x. FlowsOf w.sent w.replies (slice_set (lines_of s.loops) p loop'.links) (seats_of s.nodes) x) (sym old.2)
+    (moved_flow w.sent w.replies (lines_of s.loops) (seats_of s.nodes) p loop loop' old.0 (at_mapped (λ (l : LoopView). l.links) home) (m.mirrors.flows i old.0 old.1)
+    (λ here same. still old.0.link))))
 
 -- and the history is as it was
 pub moves_quietly : (w : WorldView) (s : StreamsView) (p : ℕ) (loop loop' : LoopView) → MirrorsStreams w s → At s.loops p loop → FrontRuns w p loop.front loop'.front

@@ -1,5 +1,5 @@
 -- A fleet that streams stand for: the same cores and the same nodes, and on each connection its legs, delivered or on their way.
-use Rattle.std.proofs.Common.{◌≡◌, ◌≢◌, ℕ, ◌⊎◌, inl, inr, Bool, true, false, List, [], ◌∷◌, ◌++◌, map, Option, Some, None, refl, sym, ap, ◌∙◌, subst}
+use Rattle.std.proofs.Common.{◌≡◌, ℕ, inl, inr, Bool, true, false, List, [], ◌∷◌, ◌++◌, map, Option, Some, None, refl}
 use Rattle.std.specs.List.{AllByRecursion}
 use Rattle.mr_clock.specs.Readings.{ReadingsView, Tick}
 use Rattle.mr_history.specs.Places.{At}
@@ -28,7 +28,6 @@ use Rattle.mr_world.specs.declared.message.Message.{Message}
 use Rattle.mr_world.specs.declared.node.Node.{Node}
 use Rattle.mr_streams.specs.Fleet.{FleetEvent, FleetRun, ticks_of}
 use Rattle.mr_streams.specs.Flows.{AreReplies, AreRequests, IsGoing, AreOf}
-use Rattle.mr_streams.specs.Headline.{ticks_in as streams_ticks_in}
 use Rattle.mr_streams.specs.Kept.{AreTellable}
 use Rattle.mr_streams.specs.OneNode.{IsBusy}
 use Rattle.mr_streams.specs.OneProxy.{AreKnown}
@@ -147,21 +146,24 @@ answered_later : (messages more : List Message) (deliveries : List Delivery) (le
     → AreReplies (messages ++ more) deliveries legs bytes
 answered_later messages more deliveries [] bytes h = h
 answered_later messages more deliveries (sent ∷ legs) bytes h = (
-  h.0, h.1,
+  h.0,
+  h.1,
   elim h.2 [
     | inl d ↦ inl (record {
-        message = d.message;
-        number = d.number;
-        from = d.from;
-        said = d.said;
-        there = at_left more d.there;
-        of_leg = d.of_leg;
-        replied = d.replied;
-        answers = d.answers;
-      })
+      message = d.message;
+      number = d.number;
+      from = d.from;
+      said = d.said;
+      there = at_left more d.there;
+      of_leg = d.of_leg;
+      replied = d.replied;
+      answers = d.answers;
+    })
     | inr e ↦ inr e
   ],
-  h.3, h.4, answered_later messages more deliveries legs h.1 h.5
+  h.3,
+  h.4,
+  answered_later messages more deliveries legs h.1 h.5,
 )
 
 -- messages and deliveries come behind the others
@@ -235,15 +237,15 @@ flows_left messages deliveries lines lines' seats c h = record {
   busy = h.busy;
   here = λ e. absurd (let no : true ≡ false = e in cc);
   opens = λ place e. (let o = h.opens place e in record {
-      clients = o.clients;
-      client = o.client;
-      home = o.home;
-      there = o.there;
-      deaf = o.deaf;
-      kept_is = o.kept_is;
-      tail_is = o.tail_is;
-      reads_on = λ hears. record { not_closed = (o.reads_on hears).not_closed; ended = λ ends. (refl, ((o.reads_on hears).ended ends).1) };
-    });
+    clients = o.clients;
+    client = o.client;
+    home = o.home;
+    there = o.there;
+    deaf = o.deaf;
+    kept_is = o.kept_is;
+    tail_is = o.tail_is;
+    reads_on = λ hears. record { not_closed = (o.reads_on hears).not_closed; ended = λ ends. (refl, ((o.reads_on hears).ended ends).1) };
+  });
 }
 
 -- the fleet runs on until it mirrors these streams

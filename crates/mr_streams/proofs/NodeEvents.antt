@@ -1,5 +1,5 @@
 -- What happens on the node's side of connections, and to clocks.
-use Rattle.std.proofs.Common.{◌≡◌, ◌≢◌, ℕ, ◌<◌, ◌==◌, ◌⊎◌, inl, inr, Bool, true, false, ◌||◌, IsTrue, cond, List, [], ◌∷◌, ◌++◌, map, slice_get, slice_set, drop, length, Option, Some, None, if◌then◌else◌, refl, sym, ap, ◌∙◌, subst, append_assoc, eqb-true, eq-eqb}
+use Rattle.std.proofs.Common.{◌≡◌, ◌≢◌, ℕ, ◌<◌, ◌==◌, ◌⊎◌, inl, inr, Bool, true, false, ◌||◌, IsTrue, List, [], ◌∷◌, ◌++◌, map, slice_set, drop, length, Some, None, if◌then◌else◌, refl, sym, ap, ◌∙◌, subst, append_assoc, eqb-true}
 use Rattle.std.proofs.lemmas.Bool.{eqb-false}
 use Rattle.std.proofs.lemmas.List.{append-nil, drop_at, map-set, length-map}
 use Rattle.mr_clock.specs.Readings.{readings_after}
@@ -7,34 +7,29 @@ use Rattle.mr_history.specs.Places.{At}
 use Rattle.mr_history.specs.declared.entry.Entry.{Entry}
 use Rattle.mr_node.specs.Output.{text_of_answer}
 use Rattle.mr_node.specs.Recency.{CacheView}
-use Rattle.mr_proxy.specs.ProxyView.{ProxyView}
-use Rattle.mr_loop.specs.LoopView.{LoopView, TakesPiece, EndsInput}
+use Rattle.mr_loop.specs.LoopView.{LoopView, TakesPiece}
 use Rattle.mr_loop.specs.declared.inbox.Inbox.{Inbox}
 use Rattle.mr_loop.specs.declared.link.Link.{Link}
 use Rattle.mr_loop.specs.declared.node.client.NodeClient.{NodeClient}
-use Rattle.mr_loop.specs.declared.node.counts.ServedCounts.{ServedCounts}
-use Rattle.mr_loop.specs.declared.sent_legs.SentLeg.{SentLeg}
-use Rattle.mr_loop.specs.node.NodeView.{NodeView, NodeBytes, NodeEnds, NodeWrote, with_seat, with_node_place, after_node_leaving, fresh_node, fresh_node_client, out_in}
-use Rattle.mr_loop.specs.node.Serving.{Seat, ServesOn, ServesSome, IsOver, seat, to_tell}
+use Rattle.mr_loop.specs.node.NodeView.{NodeView, with_seat, with_node_place, after_node_leaving, fresh_node, fresh_node_client, out_in}
+use Rattle.mr_loop.specs.node.Serving.{Seat, ServesSome, IsOver, seat, to_tell}
 use Rattle.mr_world.specs.Lists.{Has}
 use Rattle.mr_world.specs.Positions.{node_number}
 use Rattle.mr_world.specs.WorldView.{WorldView}
 use Rattle.mr_world.specs.declared.event.Event.TheVariants as event
 use Rattle.mr_world.specs.declared.message.Delivery.{Delivery}
 use Rattle.mr_world.specs.declared.message.Message.{Message}
-use Rattle.mr_world.specs.declared.node.Node.{Node}
 use Rattle.mr_world.specs.declared.note.Note.TheVariants as note
 use Rattle.mr_streams.specs.Fleet.{FleetEvent}
 use Rattle.mr_streams.specs.Flows.{AreReplies, AreRequests}
 use Rattle.mr_streams.specs.Kept.{AreTellable}
-use Rattle.mr_streams.specs.OneNode.{ServesSo, IsBusy, HasServed, holding}
-use Rattle.mr_streams.specs.OneProxy.{AreKnown}
+use Rattle.mr_streams.specs.OneNode.{IsBusy, holding}
 use Rattle.mr_streams.specs.Refines.{Tells}
 use Rattle.mr_streams.specs.Steps.{Stores, ClockShows, ReachesNode, EndsAtNode, LeavesNode, LosesNode, GainsPlace, RestartsNode, without_node, without_node_of, with_node, with_connection, with_entries}
 use Rattle.mr_streams.specs.StreamsView.{StreamsView, NodeEnd, Connection, node_does, cores_of, world_nodes}
 use Rattle.mr_streams.proofs.Changing.{IsLike, StandsFor, node_mirrors, same_like}
 use Rattle.mr_streams.proofs.Exchanges.{RequestLaws}
-use Rattle.mr_streams.proofs.Lists.{at_map, at_mapped, at_set, at_one, at_left, at_last, at_written, at_elsewhere, at_nothing, same_or_not, written_back}
+use Rattle.mr_streams.proofs.Lists.{at_map, at_mapped, at_set, at_one, at_left, at_written, at_elsewhere, same_or_not, written_back}
 use Rattle.mr_streams.proofs.LoopMoves.{flows_in, runs_in}
 use Rattle.mr_streams.proofs.Mirrors.{Mirrors, MirrorsStreams, FlowsOf, IsOpen, ReadsOn, RunsTo, lines_of, seats_of, flows_on_seats, flows_still}
 use Rattle.mr_streams.proofs.Serving.{served}
@@ -173,9 +168,9 @@ quiet_node w s n end loop' connections' m home same stands flows =
 module _ (s : StreamsView) (number place : ℕ) (c c' : Connection) (end : NodeEnd) (client' : NodeClient) where
   stands_changed : At s.connections number c → IsLike c c' → (i : ℕ) (d : Connection) → At (slice_set s.connections number c') i d → StandsFor s.connections i d
   stands_changed there like i d k = elim (at_set s.connections number c' k) [
-      | inl e ↦ record { old = c; there = subst (λ n. At s.connections n c) (sym e.0) there; like = subst (λ x. IsLike c x) (sym e.1) like }
-      | inr e ↦ record { old = d; there = e.1; like = same_like d }
-    ]
+    | inl e ↦ record { old = c; there = subst (λ n. At s.connections n c) (sym e.0) there; like = subst (λ x. IsLike c x) (sym e.1) like }
+    | inr e ↦ record { old = d; there = e.1; like = same_like d }
+  ]
 
   flows_changed : (w : WorldView) → MirrorsStreams w s → At s.connections number c → c.place ≡ Some place → At s.nodes c.node end → (messages : List Message) (deliveries : List Delivery)
       → ((i : ℕ) (d : Connection) → At s.connections i d → FlowsOf messages deliveries (lines_of s.loops) (seats_of s.nodes) d)
@@ -183,12 +178,12 @@ module _ (s : StreamsView) (number place : ℕ) (c c' : Connection) (end : NodeE
       → (i : ℕ) (d : Connection) → At (slice_set s.connections number c') i d
       → FlowsOf messages deliveries (lines_of s.loops) (slice_set (seats_of s.nodes) c.node (slice_set end.loop.clients place client')) d
   flows_changed w m there is_open home messages deliveries others flow i d k = elim (at_set s.connections number c' k) [
-      | inl e ↦ subst (λ x. FlowsOf messages deliveries (lines_of s.loops) (slice_set (seats_of s.nodes) c.node (slice_set end.loop.clients place client')) x) (sym e.1) flow
-      | inr e ↦ seated_flow messages deliveries (lines_of s.loops) (seats_of s.nodes) c.node end.loop.clients (slice_set end.loop.clients place client') d
-          (at_mapped (λ (x : NodeEnd). x.loop.clients) home)
-          (λ same other is. still_but end.loop.clients place other client' (λ same_place. e.0 (m.mirrors.one_place i number place d c e.1 there (is ∙ ap (λ x. Some x) same_place) is_open same)))
-          (others i d e.1)
-    ]
+    | inl e ↦ subst (λ x. FlowsOf messages deliveries (lines_of s.loops) (slice_set (seats_of s.nodes) c.node (slice_set end.loop.clients place client')) x) (sym e.1) flow
+    | inr e ↦ seated_flow messages deliveries (lines_of s.loops) (seats_of s.nodes) c.node end.loop.clients (slice_set end.loop.clients place client') d
+        (at_mapped (λ (x : NodeEnd). x.loop.clients) home)
+        (λ same other is. still_but end.loop.clients place other client' (λ same_place. e.0 (m.mirrors.one_place i number place d c e.1 there (is ∙ ap (λ x. Some x) same_place) is_open same)))
+        (others i d e.1)
+  ]
 
 -- bytes leave a node
 pub leaves_node : (w : WorldView) (s s' : StreamsView) (number : ℕ) → MirrorsStreams w s → LeavesNode s number s' → RunsTo w [] s'
@@ -223,8 +218,15 @@ leaves_node w s s' number m h =
       is_deaf = f.is_deaf;
       busy = subst (λ x. IsBusy w.sent w.replies c.node f.is_deaf f.returning f.going x (f.kept ++ (c.forth ++ f.out))) texts f.busy;
       here = λ e. (let g = f.here e in record {
-          links = g.links; link = g.link; home = g.home; there = g.there; is_up = g.is_up; legs_are = g.legs_are; kept = g.kept; out_is = g.out_is;
-        });
+        links = g.links;
+        link = g.link;
+        home = g.home;
+        there = g.there;
+        is_up = g.is_up;
+        legs_are = g.legs_are;
+        kept = g.kept;
+        out_is = g.out_is;
+      });
       opens = λ k e. (
           let same : place ≡ k = (let both : Some place ≡ Some k = sym h.is_open ∙ e in cc) in
           record {
@@ -236,9 +238,9 @@ leaves_node w s s' number m h =
             kept_is = ap (λ (x : NodeClient). x.inbox.reader.kept) one ∙ o.kept_is;
             tail_is = ap (λ x. x ++ due) rest;
             reads_on = λ hears. (let r = o.reads_on hears in record {
-                not_closed = ap (λ (x : NodeClient). x.inbox.reader.closed) one ∙ r.not_closed;
-                ended = λ ends. r.ended (ap (λ (x : NodeClient). x.inbox.reader.ended) (sym one) ∙ ends);
-              });
+              not_closed = ap (λ (x : NodeClient). x.inbox.reader.closed) one ∙ r.not_closed;
+              ended = λ ends. r.ended (ap (λ (x : NodeClient). x.inbox.reader.ended) (sym one) ∙ ends);
+            });
           });
     } in
     let like : IsLike c c' = record { proxy = refl; link = refl; node = refl; place = λ k e. e; here = λ e. e } in
@@ -326,8 +328,15 @@ module _ (laws : RequestLaws) (w : WorldView) (s : StreamsView) (number place no
           requests = is.busy.requests;
         };
         here = λ e. (let g = f.here e in record {
-            links = g.links; link = g.link; home = g.home; there = g.there; is_up = g.is_up; legs_are = g.legs_are ∙ legs; kept = g.kept; out_is = g.out_is;
-          });
+          links = g.links;
+          link = g.link;
+          home = g.home;
+          there = g.there;
+          is_up = g.is_up;
+          legs_are = g.legs_are ∙ legs;
+          kept = g.kept;
+          out_is = g.out_is;
+        });
         opens = λ k e. (
             let same : place ≡ k = (let both : Some place ≡ Some k = sym is_open ∙ e in cc) in
             record {
@@ -375,12 +384,12 @@ takes_all : (piece rest : List ℕ) (was : NodeClient) (fed : Inbox) (c : Connec
 takes_all piece rest was fed c (inl takes) splits r = (takes.0.stands, takes.0.is_ended ∙ sym takes.2)
 takes_all piece rest was fed c (inr takes) splits r =
     let none : piece ≡ [] = elim takes.0 [
-        | inl over ↦ elim (or_cases was.inbox.reader.closed was.inbox.reader.ended over) [
-            | inl closed ↦ absurd (let no : false ≡ true = sym r.not_closed ∙ closed in cc)
-            | inr ended ↦ (empty_both piece rest (sym splits ∙ (r.ended ended).1)).0
-          ]
-        | inr empty ↦ empty
-      ] in
+      | inl over ↦ elim (or_cases was.inbox.reader.closed was.inbox.reader.ended over) [
+        | inl closed ↦ absurd (let no : false ≡ true = sym r.not_closed ∙ closed in cc)
+        | inr ended ↦ (empty_both piece rest (sym splits ∙ (r.ended ended).1)).0
+      ]
+      | inr empty ↦ empty
+    ] in
     (takes.1.stands ∙ sym (append-nil was.inbox.reader.kept) ∙ ap (λ x. was.inbox.reader.kept ++ x) (sym none), takes.1.is_ended)
 
 -- bytes reach a node
@@ -393,13 +402,13 @@ reaches_node laws w s s' number now m h =
     (node_served laws w s number h.place now c h.rest end l.was l.fed l.after h.gains m h.there h.is_open h.home (record { gets = l.there })
     (takes_done h.piece l.was.inbox l.fed l.takes)
     (λ kept out hears e r. (
-        let all = takes_all h.piece h.rest l.was l.fed c l.takes h.splits r in
-        ap (λ x. x ++ (c.forth ++ out)) (sym e) ∙ ap (λ x. l.was.inbox.reader.kept ++ x) (ap (λ x. x ++ out) h.splits ∙ append_assoc h.piece h.rest out)
-        ∙ sym (append_assoc l.was.inbox.reader.kept h.piece (h.rest ++ out)) ∙ ap (λ x. x ++ (h.rest ++ out)) (sym all.0)))
+    let all = takes_all h.piece h.rest l.was l.fed c l.takes h.splits r in
+    ap (λ x. x ++ (c.forth ++ out)) (sym e) ∙ ap (λ x. l.was.inbox.reader.kept ++ x) (ap (λ x. x ++ out) h.splits ∙ append_assoc h.piece h.rest out)
+    ∙ sym (append_assoc l.was.inbox.reader.kept h.piece (h.rest ++ out)) ∙ ap (λ x. x ++ (h.rest ++ out)) (sym all.0)))
     (λ hears r ends. (
-        let all = takes_all h.piece h.rest l.was l.fed c l.takes h.splits r in
-        let over = r.ended (sym all.1 ∙ ends) in
-        (over.0, (empty_both h.piece h.rest (sym h.splits ∙ over.1)).1)))
+    let all = takes_all h.piece h.rest l.was l.fed c l.takes h.splits r in
+    let over = r.ended (sym all.1 ∙ ends) in
+    (over.0, (empty_both h.piece h.rest (sym h.splits ∙ over.1)).1)))
     l.serves.serves h.stores)
 
 -- a node reads that a connection ends
@@ -438,8 +447,15 @@ without_flow messages deliveries lines seats seats' c f = record {
   is_deaf = true;
   busy = record { replies = f.busy.replies; requests = λ e. absurd (let no : true ≡ false = e in cc) };
   here = λ e. (let g = f.here e in record {
-      links = g.links; link = g.link; home = g.home; there = g.there; is_up = g.is_up; legs_are = g.legs_are; kept = g.kept; out_is = g.out_is;
-    });
+    links = g.links;
+    link = g.link;
+    home = g.home;
+    there = g.there;
+    is_up = g.is_up;
+    legs_are = g.legs_are;
+    kept = g.kept;
+    out_is = g.out_is;
+  });
   opens = λ k e. absurd (let no : None ≡ Some k = e in cc);
 }
 
@@ -482,25 +498,32 @@ restarts_node w s s' n m h =
     runs_in w [] _ s' h.becomes (record {
       world = world;
       happened = FleetEvent.Happens (event.NodeRestart end.name) ∷ [];
-      run = (world, (note.Nothing, record {
-        node = holding end.name end.loop.cache;
-        there = subst (λ k. At w.nodes k (holding end.name end.loop.cache)) (sym number) at;
-        tells = refl;
-        becomes = becomes;
-      }), refl);
+      run = (
+        world,
+        (
+          note.Nothing,
+          record {
+            node = holding end.name end.loop.cache;
+            there = subst (λ k. At w.nodes k (holding end.name end.loop.cache)) (sym number) at;
+            tells = refl;
+            becomes = becomes;
+          },
+        ),
+        refl,
+      );
       ticks_are = refl;
       mirrors = node_streams w world s n end loop' connections' s.history m h.home tt refl refl refl (λ entry has. has) m.mirrors.tells
           (λ i c k. (let old = at_map (without_node_of n) s.connections k in
-              record {
-                old = old.0;
-                there = old.1;
-                like = subst (λ x. IsLike old.0 x) (sym old.2) (gone_or_not (λ x. IsLike old.0 x) n old.0 (λ _. without_like old.0) (λ _. same_like old.0));
-              }))
+          record {
+            old = old.0;
+            there = old.1;
+            like = subst (λ x. IsLike old.0 x) (sym old.2) (gone_or_not (λ x. IsLike old.0 x) n old.0 (λ _. without_like old.0) (λ _. same_like old.0));
+          }))
           (λ i c k. (let old = at_map (without_node_of n) s.connections k in
-              let f = m.mirrors.flows i old.0 old.1 in
-              subst (λ x. FlowsOf w.sent w.replies (lines_of s.loops) seats' x) (sym old.2)
-              (gone_or_not (λ x. FlowsOf w.sent w.replies (lines_of s.loops) seats' x) n old.0
-              (λ _. without_flow w.sent w.replies (lines_of s.loops) (seats_of s.nodes) seats' old.0 f)
-              (λ other. seated_flow w.sent w.replies (lines_of s.loops) (seats_of s.nodes) n end.loop.clients loop'.clients old.0 (at_mapped (λ (x : NodeEnd). x.loop.clients) h.home)
-              (λ same. absurd (other same)) f))));
+          let f = m.mirrors.flows i old.0 old.1 in
+          subst (λ x. FlowsOf w.sent w.replies (lines_of s.loops) seats' x) (sym old.2)
+          (gone_or_not (λ x. FlowsOf w.sent w.replies (lines_of s.loops) seats' x) n old.0
+          (λ _. without_flow w.sent w.replies (lines_of s.loops) (seats_of s.nodes) seats' old.0 f)
+          (λ other. seated_flow w.sent w.replies (lines_of s.loops) (seats_of s.nodes) n end.loop.clients loop'.clients old.0 (at_mapped (λ (x : NodeEnd). x.loop.clients) h.home)
+          (λ same. absurd (other same)) f))));
     })

@@ -10,15 +10,15 @@ use Rattle.mr_text.specs.declared.cause.Cause.{Cause}
 use Rattle.mr_text.specs.declared.cause.Cause.TheVariants.{OutOfMemory}
 use Rattle.mr_text.specs.declared.item.Item.{Item}
 use Rattle.mr_text.specs.declared.reply.Reply.{Reply}
-use Rattle.mr_text.specs.declared.reply.Reply.TheVariants.{Items, Stored, Deleted, NotFound, Error, ClientError, ServerError}
+use Rattle.mr_text.specs.declared.reply.Reply.TheVariants.{Items, Stored, Deleted, NotFound, ServerError}
 use Rattle.mr_join.specs.declared.leg_reply.LegReply.{LegReply}
 use Rattle.mr_join.specs.declared.leg_reply.LegReply.TheVariants as leg
 use Rattle.mr_node.specs.Items.{NamedItem}
-use Rattle.mr_node.specs.Outcome.{Gets, LooksUp, StopsAtKey, FailsToLookUp, OutcomeAt, IsAnswerOf}
+use Rattle.mr_node.specs.Outcome.{Gets, LooksUp, StopsAtKey, IsAnswerOf}
 use Rattle.mr_node.specs.Recency.{CacheView, RecencyStep, live_item, hit_or_miss}
 use Rattle.mr_node.specs.declared.command.NodeCommand.{NodeCommand}
 use Rattle.mr_node.specs.declared.command.NodeCommand.TheVariants.{Get, Set, Delete}
-use Rattle.mr_proxy.specs.NodeReplies.{IsAnswer, FindsItemOf}
+use Rattle.mr_proxy.specs.NodeReplies.{IsAnswer}
 use Rattle.mr_proxy.specs.NodeRequests.{request_for}
 use Rattle.mr_loop.specs.node.Serving.{IsTold}
 use Rattle.mr_streams.specs.Flows.{IsError}

@@ -1,6 +1,6 @@
 -- A leg goes over the link to the node that its sheet names.
-use Rattle.std.proofs.Common.{◌≡◌, ℕ, zero, suc, ◌+◌, ◌<◌, ◌≤◌, ◌%◌, List, [], ◌∷◌, ◌++◌, length, slice_get, get_or, Some, refl, sym, ap, ◌∙◌, subst, arith}
-use Rattle.std.specs.Prelude.{slice_index_or, sum_by, take}
+use Rattle.std.proofs.Common.{◌≡◌, ℕ, zero, suc, ◌+◌, ◌<◌, List, [], ◌∷◌, ◌++◌, length, slice_get, get_or, Some, sym, ap, ◌∙◌, subst, arith}
+use Rattle.std.specs.Prelude.{slice_index_or, take}
 use Rattle.std.specs.List.{flat_map}
 use Rattle.std.proofs.lemmas.List.Sums.{sum_by-cons}
 use Rattle.std.proofs.lemmas.Nat.{mod_below}
@@ -15,10 +15,10 @@ use Rattle.mr_phases.specs.declared.side.Side.{Side}
 use Rattle.mr_phases.specs.declared.side.Side.TheVariants.{Old, New}
 use Rattle.mr_pools.specs.Hash.{spot_by}
 use Rattle.mr_pools.specs.Names.{HasNode, name_at}
-use Rattle.mr_pools.specs.Routing.{RoutingView, IsRouting, pool_of, place_of}
-use Rattle.mr_proxy.specs.Sheets.{sheets_by, IsSheetOf, pool_at, node_by_key, HaveAsManyHops}
+use Rattle.mr_pools.specs.Routing.{RoutingView, pool_of}
+use Rattle.mr_proxy.specs.Sheets.{sheets_by, IsSheetOf, pool_at}
 use Rattle.mr_proxy.specs.declared.sheet.LegSheet.{LegSheet}
-use Rattle.mr_loop.specs.Links.{link_of, link_to, nodes_before}
+use Rattle.mr_loop.specs.Links.{link_of, nodes_before}
 use Rattle.mr_world.specs.Headline.{IsPlan}
 use Rattle.mr_streams.specs.Steps.{names_of}
 use Rattle.mr_streams.proofs.Lists.{at_left, at_right}

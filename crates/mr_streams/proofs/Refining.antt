@@ -1,7 +1,5 @@
 -- Whatever happens to streams is some events of the world, in which legs may fail.
-use Rattle.std.proofs.Common.{◌≡◌, ℕ, All, List, [], ◌∷◌, ◌++◌, Option, refl, sym, ap, ◌∙◌, subst}
-use Rattle.mr_clock.specs.Readings.{Tick}
-use Rattle.mr_loop.specs.LoopView.{after_coming, after_leaving}
+use Rattle.std.proofs.Common.{All, List, [], ◌∷◌, refl, sym, subst}
 use Rattle.mr_world.specs.Headline.{IsPlan}
 use Rattle.mr_world.specs.Setup.{SetupView, Begins}
 use Rattle.mr_world.specs.WorldView.{WorldView}

@@ -1,5 +1,5 @@
 -- Bytes that come over a link are replies that come back, each to its leg.
-use Rattle.std.proofs.Common.{◌≡◌, ℕ, ◌⊎◌, inl, inr, List, [], ◌∷◌, ◌++◌, slice_set, refl, sym, ap, ◌∙◌, subst, append_assoc}
+use Rattle.std.proofs.Common.{◌≡◌, ℕ, inl, inr, List, [], ◌∷◌, ◌++◌, slice_set, refl, sym, ap, ◌∙◌, subst, append_assoc}
 use Rattle.mr_text.specs.Canonical.{canonical_reply}
 use Rattle.mr_text.specs.Replies.{SpellsReply}
 use Rattle.mr_text.specs.declared.cause.Cause.{Cause}
@@ -28,7 +28,7 @@ use Rattle.mr_world.specs.declared.event.Event.TheVariants.{Return}
 use Rattle.mr_world.specs.declared.message.Message.{Message}
 use Rattle.mr_world.specs.declared.message.Delivery.{Delivery}
 use Rattle.mr_streams.specs.Fleet.{FleetEvent}
-use Rattle.mr_streams.specs.Flows.{AreReplies, WasAnswered, WasDelivered, IsError, AreOf}
+use Rattle.mr_streams.specs.Flows.{AreReplies, WasAnswered, IsError, AreOf}
 use Rattle.mr_streams.specs.OneProxy.{StepsSo, FrontRuns}
 use Rattle.mr_streams.proofs.Fronts.{front_stays, front_to, front_on, front_does}
 use Rattle.mr_streams.proofs.Runs.{stands, one_event, gains_taken, told_taken, kin_there, kin_taken}
@@ -109,20 +109,22 @@ returns_one w number core message reply_number from said there own sent came =
     let id : LegId = message.sheet.id in
     let gains = answered_by (taken_of core id said) in
     record {
-      run = one_event w number (after_take core id said) gains (FleetEvent.Happens (Return reply_number))
-          (note_of (taken_of core id said), record {
-            message = message;
-            proxy = core;
-            sender = number;
-            from = from;
-            reply = said;
-            came = came;
-            sent = sent;
-            sends = sym own;
-            home = there;
-            tells = refl;
-            becomes = refl;
-          })
+      run = one_event w number (after_take core id said) gains (FleetEvent.Happens (Return reply_number)) (
+        note_of (taken_of core id said),
+        record {
+          message = message;
+          proxy = core;
+          sender = number;
+          from = from;
+          reply = said;
+          came = came;
+          sent = sent;
+          sends = sym own;
+          home = there;
+          tells = refl;
+          becomes = refl;
+        },
+      )
           refl (gains_taken w.history (taken_of core id said)) (kin_there w number core (after_take core id said) there (kin_taken core id said));
       gives = λ answer given wants. told_taken w.history (taken_of core id said) answer given wants;
     }

@@ -1,8 +1,6 @@
 -- Runs of a fleet in which one proxy takes replies and gives requests up: nothing changes but that proxy and the answers.
-use Rattle.std.proofs.Common.{◌≡◌, ℕ, Bool, true, false, List, [], ◌∷◌, ◌++◌, length, slice_set, remove, Option, Some, None, if◌then◌else◌, refl, sym, ap, ◌∙◌, subst, append_assoc, inl, inr}
+use Rattle.std.proofs.Common.{◌≡◌, ℕ, Bool, true, false, List, [], ◌∷◌, ◌++◌, length, slice_set, remove, Option, Some, None, if◌then◌else◌, refl, sym, ap, ◌∙◌, subst, append_assoc}
 use Rattle.std.proofs.lemmas.List.{append-nil, set-set}
-use Rattle.mr_clock.specs.Readings.{Tick}
-use Rattle.mr_text.specs.declared.reply.Reply.{Reply}
 use Rattle.mr_history.specs.Places.{At}
 use Rattle.mr_history.specs.declared.entry.Entry.{Entry}
 use Rattle.mr_history.specs.declared.entry.Entry.TheVariants as entry
@@ -195,15 +193,17 @@ give_up_by w number core op (Some pending) there own e =
     let same : slice_set w.proxies number (after_give_up core op) ≡ slice_set w.proxies op.proxy (after_give_up core op) =
     ap (λ n. slice_set w.proxies n (after_give_up core op)) (sym own) in
     record {
-      run = one_event w number (after_give_up core op) (answered answer) (FleetEvent.Happens (event.GiveUp op))
-          (note.Answered op, record {
-            proxy = core;
-            answer = answer;
-            home = home;
-            gives = gives;
-            tells = refl;
-            becomes = ap (λ p. record w { proxies = p; history = w.history ++ answered answer }) same;
-          })
+      run = one_event w number (after_give_up core op) (answered answer) (FleetEvent.Happens (event.GiveUp op)) (
+        note.Answered op,
+        record {
+          proxy = core;
+          answer = answer;
+          home = home;
+          gives = gives;
+          tells = refl;
+          becomes = ap (λ p. record w { proxies = p; history = w.history ++ answered answer }) same;
+        },
+      )
           refl (gains_answer w.history answer) (kin_there w number core (after_give_up core op) there (kin_given_up core op));
       gives = λ other given wants. (
           let is : other ≡ answer = (let both : Some answer ≡ Some other = sym gives ∙ given in cc) in

@@ -1,19 +1,17 @@
 -- Where the premises hold, the history of streams is safe.
-use Rattle.std.proofs.Common.{◌≡◌, ℕ, ◌+◌, true, IsTrue, All, List, [], ◌∷◌, ◌++◌, map, refl, sym, ap, ◌∙◌, subst}
-use Rattle.std.specs.Prelude.{◌↔◌}
+use Rattle.std.proofs.Common.{◌≡◌, ℕ, ◌+◌, true, All, List, [], ◌∷◌, map, refl, sym, ap, ◌∙◌, subst}
 use Rattle.mr_clock.specs.Clocks.{NeverGoesBack, StayWithin}
-use Rattle.mr_clock.specs.Readings.{Tick, readings_at_first}
+use Rattle.mr_clock.specs.Readings.{readings_at_first}
 use Rattle.mr_history.specs.History.{IsSafe}
 use Rattle.mr_history.specs.Places.{At}
 use Rattle.mr_proxy.specs.ProxyView.{fresh_proxy}
-use Rattle.mr_world.specs.Headline.{Headline, IsPlan, PremisesHold as WorldPremises}
-use Rattle.mr_world.specs.Premises.{ticks_of as world_ticks_of}
+use Rattle.mr_world.specs.Headline.{Headline, IsPlan}
 use Rattle.mr_world.specs.Setup.{SetupView, Begins, AllAlike, IsNewPoolEmpty, least_interval_of, proxies_from, nodes_at_first, held_entry}
 use Rattle.mr_world.specs.Steps.{WorldRun}
 use Rattle.mr_world.specs.WorldView.{WorldView}
 use Rattle.mr_world.specs.declared.setup.ProxySetup.{ProxySetup}
 use Rattle.mr_streams.specs.Fleet.{FleetEvent, FleetRun, ticks_of as fleet_ticks_of}
-use Rattle.mr_streams.specs.Headline.{Starts, HasText, PremisesHold, ticks_of}
+use Rattle.mr_streams.specs.Headline.{Starts, HasText, PremisesHold}
 use Rattle.mr_streams.specs.Refines.{Tells, RefinesWorld}
 use Rattle.mr_streams.specs.Steps.{StreamsEvent, StreamsRun}
 use Rattle.mr_streams.specs.StreamsView.{StreamsView}

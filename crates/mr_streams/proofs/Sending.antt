@@ -1,5 +1,5 @@
 -- Legs that go over links are messages that are sent.
-use Rattle.std.proofs.Common.{◌≡◌, ◌≢◌, ℕ, zero, suc, ◌+◌, ◌⊎◌, inl, inr, Bool, true, false, List, [], ◌∷◌, ◌++◌, length, map, slice_get, slice_set, Option, Some, None, if◌then◌else◌, refl, sym, ap, ◌∙◌, subst, append_assoc}
+use Rattle.std.proofs.Common.{◌≡◌, ℕ, inl, inr, Bool, true, false, List, [], ◌∷◌, ◌++◌, slice_get, slice_set, Option, Some, None, if◌then◌else◌, refl, sym, ap, ◌∙◌, subst, append_assoc}
 use Rattle.std.specs.List.{flat_map, AllByRecursion}
 use Rattle.std.proofs.lemmas.Grind.{flat_map-append}
 use Rattle.std.proofs.lemmas.List.{append-nil, set-set}
@@ -15,11 +15,10 @@ use Rattle.mr_loop.specs.declared.sent_legs.SentLeg.{SentLeg}
 use Rattle.mr_world.specs.declared.message.Delivery.{Delivery}
 use Rattle.mr_world.specs.declared.message.Message.{Message}
 use Rattle.mr_streams.specs.Flows.{AreOf, AreRequests, IsGoing, text_of_leg}
-use Rattle.mr_streams.specs.OneNode.{IsBusy}
 use Rattle.mr_streams.specs.StreamsView.{Connection}
 use Rattle.mr_streams.proofs.Changing.{here_elsewhere}
 use Rattle.mr_streams.proofs.Connecting.{here_kept}
-use Rattle.mr_streams.proofs.Lists.{at_one, at_written, at_elsewhere, same_or_not, written_back}
+use Rattle.mr_streams.proofs.Lists.{at_one, at_written, same_or_not, written_back}
 use Rattle.mr_streams.proofs.LoopEvents.{own_set}
 use Rattle.mr_streams.proofs.Mirrors.{FlowsOf, IsHere}
 use Rattle.mr_streams.proofs.Taking.{own_both}
@@ -83,15 +82,15 @@ module _ (messages : List Message) (deliveries : List Delivery) (lines : List (L
               (requests_more messages c.node h.going sent (h.kept ++ (c.forth ++ h.out)) (h.busy.requests hears) going);
         };
         here = λ _. record {
-            links = links';
-            link = new;
-            home = subst (λ n. At (slice_set lines p links') n links') (sym same) (at_written links' there);
-            there = at_written new link_there;
-            is_up = up;
-            legs_are = ap (λ x. x ++ sent ∷ []) (ap (λ (x : Link). x.legs) one ∙ old.legs_are) ∙ append_assoc h.returning h.going (sent ∷ []);
-            kept = ap (λ (x : Link). x.reader.kept) one ∙ old.kept;
-            out_is = ap (λ x. x ++ text) (ap (λ (x : Link). x.out) one ∙ old.out_is);
-          };
+          links = links';
+          link = new;
+          home = subst (λ n. At (slice_set lines p links') n links') (sym same) (at_written links' there);
+          there = at_written new link_there;
+          is_up = up;
+          legs_are = ap (λ x. x ++ sent ∷ []) (ap (λ (x : Link). x.legs) one ∙ old.legs_are) ∙ append_assoc h.returning h.going (sent ∷ []);
+          kept = ap (λ (x : Link). x.reader.kept) one ∙ old.kept;
+          out_is = ap (λ x. x ++ text) (ap (λ (x : Link). x.out) one ∙ old.out_is);
+        };
         opens = h.opens;
       }
 
@@ -130,10 +129,10 @@ module _ (messages : List Message) (deliveries : List Delivery) (lines : List (L
       let new : Link = after_sending sent link in
       elim (same_or_not c.proxy p) [
         | inl same ↦ elim (same_or_not c.link number) [
-            | inl own ↦ subst (λ n. FlowsBy (slice_set links n new)) own
-                (own_leg link.is_up link sent refl there (subst (λ n. At links n link) (sym own) link_there) same left (goes left same own) h)
-            | inr other ↦ other_link (slice_set links number new) h (λ legs front out old. here_kept lines p number links new c legs front out there same other old)
-          ]
+          | inl own ↦ subst (λ n. FlowsBy (slice_set links n new)) own
+              (own_leg link.is_up link sent refl there (subst (λ n. At links n link) (sym own) link_there) same left (goes left same own) h)
+          | inr other ↦ other_link (slice_set links number new) h (λ legs front out old. here_kept lines p number links new c legs front out there same other old)
+        ]
         | inr other ↦ other_link (slice_set links number new) h (λ legs front out old. here_elsewhere lines p (slice_set links number new) c legs front out other old)
       ]
 

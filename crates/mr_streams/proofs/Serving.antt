@@ -1,5 +1,5 @@
 -- What a node serves of a connection, whichever way it ends.
-use Rattle.std.proofs.Common.{◌≡◌, ◌≢◌, ℕ, ◌⊎◌, inl, inr, Bool, true, false, List, [], ◌∷◌, ◌++◌, Option, Some, None, refl, sym, ap, ◌∙◌, subst, append_assoc}
+use Rattle.std.proofs.Common.{◌≡◌, ◌≢◌, ℕ, ◌⊎◌, inl, inr, true, false, List, [], ◌∷◌, ◌++◌, Option, None, refl, sym, ap, ◌∙◌, subst, append_assoc}
 use Rattle.std.proofs.lemmas.List.{append-nil}
 use Rattle.mr_text.specs.Canonical.{canonical_reply}
 use Rattle.mr_text.specs.Valid.{IsValidReply}
@@ -14,9 +14,9 @@ use Rattle.mr_world.specs.WorldView.{WorldView}
 use Rattle.mr_world.specs.declared.message.Delivery.{Delivery}
 use Rattle.mr_world.specs.declared.message.Message.{Message}
 use Rattle.mr_streams.specs.Entries.{StoresAll}
-use Rattle.mr_streams.specs.Flows.{AreReplies, AreRequests, WasAnswered, text_of_leg}
+use Rattle.mr_streams.specs.Flows.{AreReplies, AreRequests, WasAnswered}
 use Rattle.mr_streams.specs.Kept.{AreTellable}
-use Rattle.mr_streams.specs.OneNode.{ServesSo, IsBusy, HasServed, holding}
+use Rattle.mr_streams.specs.OneNode.{IsBusy, HasServed, holding}
 use Rattle.mr_streams.specs.Steps.{Stores}
 use Rattle.mr_streams.specs.StreamsView.{node_does}
 use Rattle.mr_streams.proofs.Delivering.{ServedAll, serve_all, serves_nothing, replies_still, replies_both}
@@ -114,10 +114,10 @@ some_served laws messages deliveries w number reading most name back later old n
       | inl stays ↦ quiet_end messages deliveries w number name back later new returning going heard (heard ++ gains) out told some.rest some.answer stays.2 busy.replies some.tells all
           (λ hears. subst (λ k. AreRequests messages number all.left (k ++ later)) (sym stays.1.stands) all.requests)
       | inr over ↦ elim (last_word laws old.client.inbox.has_ended some.rest over.1.0 some.answer over.1.1) [
-          | inl none ↦ quiet_end messages deliveries w number name back later new returning going heard (heard ++ gains) out told some.rest some.answer none busy.replies some.tells all
-              (λ hears. absurd (let no : true ≡ false = sym over.0 ∙ hears in cc))
-          | inr word ↦ last_end messages deliveries w number name back later new returning going heard (heard ++ gains) out told some.rest some.answer word over.0 busy.replies some.tells all
-        ]
+        | inl none ↦ quiet_end messages deliveries w number name back later new returning going heard (heard ++ gains) out told some.rest some.answer none busy.replies some.tells all
+            (λ hears. absurd (let no : true ≡ false = sym over.0 ∙ hears in cc))
+        | inr word ↦ last_end messages deliveries w number name back later new returning going heard (heard ++ gains) out told some.rest some.answer word over.0 busy.replies some.tells all
+      ]
     ]
 
 over_served : (messages : List Message) (deliveries : List Delivery) (w : WorldView) (number : ℕ) (name back later : List ℕ) (old new : Seat CacheView)

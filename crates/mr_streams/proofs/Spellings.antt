@@ -1,13 +1,10 @@
 -- Of two spellings that the same bytes begin with both are of one item, where no spelling is a proper prefix of another.
-use Rattle.std.proofs.Common.{◌≡◌, ◌≢◌, ℕ, ◌⊎◌, inl, inr, List, [], ◌∷◌, ◌++◌, refl, sym, ap, ◌∙◌, subst, append_assoc}
-use Rattle.std.proofs.lemmas.List.{append-nil}
+use Rattle.std.proofs.Common.{◌≡◌, ◌≢◌, ℕ, inl, inr, List, [], ◌∷◌, ◌++◌, sym, ap, ◌∙◌, subst}
 use Rattle.mr_text.specs.Canonical.{canonical_reply}
 use Rattle.mr_text.specs.Replies.{SpellsReply}
-use Rattle.mr_text.specs.Requests.{SpellsRequest}
-use Rattle.mr_text.specs.Valid.{IsValidReply, IsValidRequest}
+use Rattle.mr_text.specs.Valid.{IsValidReply}
 use Rattle.mr_text.specs.declared.reply.Reply.{Reply}
 use Rattle.mr_text.specs.declared.reply.Reply.TheVariants.{Stored}
-use Rattle.mr_text.specs.declared.request.Request.{Request}
 use Rattle.mr_streams.proofs.Lists.{IsEarlierCut, two_cuts}
 
 -- no spelling is a proper prefix of another, and no bytes spell two items

@@ -1,7 +1,7 @@
 -- Streams to which nothing happened yet mirror a world to which nothing happened yet.
-use Rattle.std.proofs.Common.{◌≡◌, ◌≢◌, ℕ, zero, suc, ◌+◌, ◌<◌, ◌≤◌, ◌==◌, ◌⊎◌, inl, inr, Bool, true, false, cond, not, All, List, [], ◌∷◌, ◌++◌, length, map, slice_get, slice_set, replicate, Option, Some, None, if◌then◌else◌, refl, sym, ap, ◌∙◌, subst, arith, nat_lt, ltb-true, ltb-false, eq-eqb, ne_eqb, eqb}
+use Rattle.std.proofs.Common.{◌≡◌, ℕ, zero, suc, ◌+◌, ◌<◌, ◌≤◌, inl, inr, Bool, true, false, cond, not, All, List, [], ◌∷◌, ◌++◌, length, slice_get, slice_set, replicate, Option, Some, None, if◌then◌else◌, refl, sym, ap, ◌∙◌, subst, arith, nat_lt, ltb-false, eq-eqb, ne_eqb, eqb}
 use Rattle.std.specs.Prelude.{pos, bytes_eq, fold}
-use Rattle.std.specs.List.{AllByRecursion, position_or_len}
+use Rattle.std.specs.List.{AllByRecursion}
 use Rattle.std.proofs.lemmas.List.Elements.{recursion_from_All}
 use Rattle.std.proofs.lemmas.List.Folds.{position_or_len_push}
 use Rattle.std.proofs.lemmas.List.Sums.{prefix_len-le-length}
@@ -12,13 +12,11 @@ use Rattle.mr_pools.specs.Routing.{RoutingView}
 use Rattle.mr_proxy.specs.ProxyView.{ProxyView, fresh_proxy}
 use Rattle.mr_loop.specs.Counts.{no_link_counts}
 use Rattle.mr_loop.specs.Links.{down_link}
-use Rattle.mr_loop.specs.LoopView.{LoopView, fresh_loop, nodes_of as links_of}
-use Rattle.mr_loop.specs.declared.client.Client.{Client}
-use Rattle.mr_loop.specs.declared.inbox.Inbox.{Inbox}
+use Rattle.mr_loop.specs.LoopView.{LoopView, nodes_of as links_of}
 use Rattle.mr_loop.specs.declared.link.Link.{Link}
 use Rattle.mr_world.specs.Headline.{IsPlan}
 use Rattle.mr_world.specs.Positions.{node_number}
-use Rattle.mr_world.specs.Setup.{SetupView, Begins, proxies_from, nodes_at_first, nodes_of, with_name, with_pool, with_routing, empty_node, hold, hold_at, with_item, held_entry}
+use Rattle.mr_world.specs.Setup.{SetupView, Begins, proxies_from, nodes_of, with_name, with_pool, with_routing, empty_node, hold, hold_at, with_item}
 use Rattle.mr_world.specs.WorldView.{WorldView}
 use Rattle.mr_world.specs.declared.node.Node.{Node}
 use Rattle.mr_world.specs.declared.setup.HeldItem.{HeldItem}
@@ -31,7 +29,7 @@ use Rattle.mr_streams.specs.StreamsView.{StreamsView, Connection, cores_of, worl
 use Rattle.mr_streams.proofs.Caches.{put_kept}
 use Rattle.mr_streams.proofs.Changing.{numbered_still}
 use Rattle.mr_streams.proofs.Lists.{at_last, at_map, at_nothing, at_replicate, at_set}
-use Rattle.mr_streams.proofs.Mirrors.{Mirrors, MirrorsStreams, lines_of}
+use Rattle.mr_streams.proofs.Mirrors.{MirrorsStreams}
 
 -- each node's number is the one that its name has, and what it holds can be told of
 record IsFleet (nodes : List Node) : Type 0 where
@@ -55,27 +53,27 @@ fleet_push capacity nodes name f none =
     let new : Node = empty_node capacity name in
     record {
       named = λ n node h. elim (at_last nodes new h) [
-          | inl old ↦ (
-              let was = f.named n node old in
-              let within : n < length nodes = slice_get_within nodes n node old.gets in
-              let other : eqb (node_number nodes node.name) (length nodes) ≡ false = ne_eqb (node_number nodes node.name) (length nodes) (λ e. omega arith) in
-              named_push nodes new node.name
-              ∙ cond_no (eqb (node_number nodes node.name) (length nodes)) (length nodes + cond (bytes_eq new.name node.name) 0 1) (node_number nodes node.name) other ∙ was)
-          | inr last ↦ (
-              let is : node.name ≡ name = ap (λ (x : Node). x.name) last.1 in
-              let most : node_number nodes name ≤ length nodes = prefix_len-le-length (λ (x : Node). not (bytes_eq x.name name)) nodes in
-              let same : node_number nodes name ≡ length nodes = omega arith in
-              let yes : eqb (node_number nodes name) (length nodes) ≡ true = eq-eqb (node_number nodes name) (length nodes) same in
-              let own : cond (bytes_eq name name) 0 1 ≡ 0 = cond_yes (bytes_eq name name) 0 1 ((bytes_eq-Decides name name).1 refl) in
-              let zero_more : length nodes + 0 ≡ length nodes = omega arith in
-              let there : length nodes + cond (bytes_eq name name) 0 1 ≡ length nodes = ap (λ k. length nodes + k) own ∙ zero_more in
-              ap (λ x. node_number (nodes ++ new ∷ []) x) is ∙ named_push nodes new name
-              ∙ cond_yes (eqb (node_number nodes name) (length nodes)) (length nodes + cond (bytes_eq name name) 0 1) (node_number nodes name) yes ∙ there ∙ sym last.0)
-        ];
+        | inl old ↦ (
+            let was = f.named n node old in
+            let within : n < length nodes = slice_get_within nodes n node old.gets in
+            let other : eqb (node_number nodes node.name) (length nodes) ≡ false = ne_eqb (node_number nodes node.name) (length nodes) (λ e. omega arith) in
+            named_push nodes new node.name
+            ∙ cond_no (eqb (node_number nodes node.name) (length nodes)) (length nodes + cond (bytes_eq new.name node.name) 0 1) (node_number nodes node.name) other ∙ was)
+        | inr last ↦ (
+            let is : node.name ≡ name = ap (λ (x : Node). x.name) last.1 in
+            let most : node_number nodes name ≤ length nodes = prefix_len-le-length (λ (x : Node). not (bytes_eq x.name name)) nodes in
+            let same : node_number nodes name ≡ length nodes = omega arith in
+            let yes : eqb (node_number nodes name) (length nodes) ≡ true = eq-eqb (node_number nodes name) (length nodes) same in
+            let zero_more : length nodes + 0 ≡ length nodes = omega arith in
+            let itself : cond (bytes_eq name name) 0 1 ≡ 0 = cond_yes (bytes_eq name name) 0 1 ((bytes_eq-Decides name name).1 refl) in
+            let there : length nodes + cond (bytes_eq name name) 0 1 ≡ length nodes = ap (λ k. length nodes + k) itself ∙ zero_more in
+            ap (λ x. node_number (nodes ++ new ∷ []) x) is ∙ named_push nodes new name
+            ∙ cond_yes (eqb (node_number nodes name) (length nodes)) (length nodes + cond (bytes_eq name name) 0 1) (node_number nodes name) yes ∙ there ∙ sym last.0)
+      ];
       tellable = λ n node h. elim (at_last nodes new h) [
-          | inl old ↦ f.tellable n node old
-          | inr last ↦ subst (λ (x : Node). AreTellable x.cache.items) (sym last.1) tt
-        ];
+        | inl old ↦ f.tellable n node old
+        | inr last ↦ subst (λ (x : Node). AreTellable x.cache.items) (sym last.1) tt
+      ];
     }
 
 fleet_name_if : (capacity : ℕ) (nodes : List Node) (name : List ℕ) (b : Bool) → nat_lt (node_number nodes name) (length nodes) ≡ b → IsFleet nodes
@@ -107,15 +105,15 @@ fleet_hold_at nodes number item (Some node) e text f =
     let new : Node = with_item item node in
     record {
       named = λ n other h. elim (at_set nodes number new h) [
-          | inl is ↦ ap (λ (x : Node). node_number (slice_set nodes number new) x.name) is.1 ∙ numbered_still nodes number node new node.name e refl
-              ∙ f.named number node (record { gets = e }) ∙ sym is.0
-          | inr is ↦ numbered_still nodes number node new other.name e refl ∙ f.named n other is.1
-        ];
+        | inl is ↦ ap (λ (x : Node). node_number (slice_set nodes number new) x.name) is.1 ∙ numbered_still nodes number node new node.name e refl
+            ∙ f.named number node (record { gets = e }) ∙ sym is.0
+        | inr is ↦ numbered_still nodes number node new other.name e refl ∙ f.named n other is.1
+      ];
       tellable = λ n other h. elim (at_set nodes number new h) [
-          | inl is ↦ subst (λ (x : Node). AreTellable x.cache.items) (sym is.1)
-              (put_kept node.cache.capacity 0 item.key item.flags (pos 0) item.block node.cache.items text.flags_fit text.is_block (f.tellable number node (record { gets = e })))
-          | inr is ↦ f.tellable n other is.1
-        ];
+        | inl is ↦ subst (λ (x : Node). AreTellable x.cache.items) (sym is.1)
+            (put_kept node.cache.capacity 0 item.key item.flags (pos 0) item.block node.cache.items text.flags_fit text.is_block (f.tellable number node (record { gets = e })))
+        | inr is ↦ f.tellable n other is.1
+      ];
     }
 
 fleet_hold : (nodes : List Node) (item : HeldItem) → HasText item → IsFleet nodes → IsFleet (hold nodes item)
@@ -151,7 +149,7 @@ proxy_at number (x ∷ proxies) (suc place) p e =
     record { proxy = later.proxy; there = later.there; number_is = later.number_is ∙ same; routing_is = later.routing_is; schedule_is = later.schedule_is }
 
 -- a loop that is fresh, wherever it stands
-fresh_at : (loops : List LoopView) (number : ℕ) (loop : LoopView) → AllByRecursion IsFreshLoop loops → slice_get loops number ≡ Some loop → IsFreshLoop loop
+pub fresh_at : (loops : List LoopView) (number : ℕ) (loop : LoopView) → AllByRecursion IsFreshLoop loops → slice_get loops number ≡ Some loop → IsFreshLoop loop
 fresh_at [] number loop all e = cc
 fresh_at (x ∷ loops) zero loop all e = let same : x ≡ loop = cc in subst IsFreshLoop same all.0
 fresh_at (x ∷ loops) (suc number) loop all e = fresh_at loops number loop all.1 e

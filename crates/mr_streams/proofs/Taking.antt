@@ -1,28 +1,22 @@
 -- What bytes that come over a link do, whichever way they end.
-use Rattle.std.proofs.Common.{◌≡◌, ℕ, ◌⊎◌, inl, inr, Bool, true, false, List, [], ◌∷◌, ◌++◌, refl, sym, ap, ◌∙◌, subst, append_assoc}
-use Rattle.mr_text.specs.Replies.{SpellsReply}
+use Rattle.std.proofs.Common.{◌≡◌, ℕ, inl, inr, false, List, [], ◌∷◌, ◌++◌, refl, sym, ap, ◌∙◌, subst}
 use Rattle.mr_text.specs.declared.error.TextError.{TextError}
-use Rattle.mr_text.specs.declared.reply.Reply.{Reply}
 use Rattle.mr_history.specs.Places.{At}
-use Rattle.mr_join.specs.declared.leg_reply.LegReply.{LegReply}
-use Rattle.mr_proxy.specs.NodeReplies.{IsAnswer}
-use Rattle.mr_proxy.specs.ProxyView.{ProxyView}
 use Rattle.mr_proxy.specs.declared.step.Step.TheVariants.{GiveUp}
-use Rattle.mr_loop.specs.Events.{FrontView, Event, after_all, after_event}
-use Rattle.mr_loop.specs.Returning.{Reads, TakesAll, HasTaken, TakesWhole, TakesSome, TakesComplaint, BreaksAtComplaint, BreaksAtOnce, TakesBytes, Breaks, IsSurplus, IsMismatch, IsRefused, give_ups, giving_up, taking, standing}
+use Rattle.mr_loop.specs.Events.{FrontView, after_all, after_event}
+use Rattle.mr_loop.specs.Returning.{TakesAll, HasTaken, TakesWhole, TakesSome, BreaksAtComplaint, BreaksAtOnce, TakesBytes, Breaks, IsSurplus, IsMismatch, IsRefused, give_ups, giving_up, taking, standing}
 use Rattle.mr_loop.specs.declared.link.Link.{Link}
 use Rattle.mr_loop.specs.declared.link.LinkEnd.{LinkEnd}
 use Rattle.mr_loop.specs.declared.link.LinkEnd.TheVariants.{Whole, Surplus, Mismatch, Complaint, Refused, Down}
-use Rattle.mr_loop.specs.declared.link_counts.LinkCounts.{LinkCounts}
 use Rattle.mr_loop.specs.declared.sent_legs.SentLeg.{SentLeg}
 use Rattle.mr_world.specs.WorldView.{WorldView}
 use Rattle.mr_world.specs.declared.message.Message.{Message}
 use Rattle.mr_world.specs.declared.message.Delivery.{Delivery}
-use Rattle.mr_streams.specs.Flows.{AreReplies, AreOf}
+use Rattle.mr_streams.specs.Flows.{AreOf}
 use Rattle.mr_streams.specs.OneLink.{Awaits, BytesTaken}
 use Rattle.mr_streams.specs.OneProxy.{FrontRuns}
 use Rattle.mr_streams.proofs.Fronts.{front_stays, front_to, front_on, front_does}
-use Rattle.mr_streams.proofs.Returning.{IsLeft, returns_run}
+use Rattle.mr_streams.proofs.Returning.{returns_run}
 use Rattle.mr_streams.proofs.Runs.{stands, gives_up}
 use Rattle.mr_streams.proofs.Spellings.{ReplyLaws}
 

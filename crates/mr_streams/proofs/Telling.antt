@@ -1,12 +1,11 @@
 -- A history that is told of by a safe one is safe.
-use Rattle.std.proofs.Common.{◌≡◌, ◌≢◌, ℕ, ◌+◌, ◌<◌, ◌≤◌, ◌==◌, ◌⊎◌, inl, inr, Bool, true, false, List, [], ◌∷◌, ◌++◌, length, Some, if◌then◌else◌, refl, sym, ap, ◌∙◌, subst, arith, eq-eqb, ne_eqb}
+use Rattle.std.proofs.Common.{◌≡◌, ◌≢◌, ℕ, ◌<◌, ◌==◌, inl, inr, Bool, true, false, List, [], ◌∷◌, ◌++◌, length, if◌then◌else◌, refl, sym, subst, arith, eq-eqb, ne_eqb}
 use Rattle.std.proofs.lemmas.Option.{slice_get_within}
 use Rattle.mr_text.specs.declared.cause.Cause.{Cause}
-use Rattle.mr_text.specs.declared.item.Item.{Item}
 use Rattle.mr_text.specs.declared.reply.Reply.{Reply}
 use Rattle.mr_text.specs.declared.reply.Reply.TheVariants.{Items, Stored as StoredReply, Deleted, NotFound, Error, ClientError, ServerError}
 use Rattle.mr_text.specs.declared.request.Request.{Request}
-use Rattle.mr_history.specs.History.{IsSafe, IsHit, IsFreshHit, IsAcknowledged}
+use Rattle.mr_history.specs.History.{IsSafe}
 use Rattle.mr_history.specs.Places.{At}
 use Rattle.mr_history.specs.declared.entry.Author.{Author}
 use Rattle.mr_history.specs.declared.entry.Entry.{Entry}
@@ -123,48 +122,50 @@ follows_issue told heard op proxy request f =
     record {
       to = to;
       issued = λ place o n r h. elim (at_last heard new h) [
-          | inl was ↦ subst (λ k. At (told ++ new ∷ []) k (Issued o n r)) (sym (old place (within was))) (at_left (new ∷ []) (f.issued place o n r was))
-          | inr is ↦ subst (λ x. At (told ++ new ∷ []) (to place) x) (sym is.1)
-              (subst (λ k. At (told ++ new ∷ []) k new) (sym (extended_new f.to last (length told) place is.0)) (at_new told new))
-        ];
+        | inl was ↦ subst (λ k. At (told ++ new ∷ []) k (Issued o n r)) (sym (old place (within was))) (at_left (new ∷ []) (f.issued place o n r was))
+        | inr is ↦ subst (λ x. At (told ++ new ∷ []) (to place) x) (sym is.1)
+            (subst (λ k. At (told ++ new ∷ []) k new) (sym (extended_new f.to last (length told) place is.0)) (at_new told new))
+      ];
       answered = λ place o r h fine. elim (at_last heard new h) [
-          | inl was ↦ subst (λ k. At (told ++ new ∷ []) k (Answered o r)) (sym (old place (within was))) (at_left (new ∷ []) (f.answered place o r was fine))
-          | inr is ↦ absurd (let no : Answered o r ≡ Issued op proxy request = is.1 in cc)
-        ];
+        | inl was ↦ subst (λ k. At (told ++ new ∷ []) k (Answered o r)) (sym (old place (within was))) (at_left (new ∷ []) (f.answered place o r was fine))
+        | inr is ↦ absurd (let no : Answered o r ≡ Issued op proxy request = is.1 in cc)
+      ];
       in_order = λ answer issue a i l. elim (at_last heard new a.2) [
-          | inl was ↦ (
-              let a_old : to answer ≡ f.to answer = old answer (within was) in
-              let a_below : f.to answer < length told = within (f.answered answer a.0 a.1 was a.3) in
-              elim (at_last heard new i.3) [
-                | inl was_issue ↦ (
-                    let i_old : to issue ≡ f.to issue = old issue (within was_issue) in
-                    let order = f.in_order answer issue (a.0, a.1, was, a.3) (i.0, i.1, i.2, was_issue) l in
-                    omega arith)
-                | inr is ↦ (let i_new : to issue ≡ length told = extended_new f.to last (length told) issue is.0 in omega arith)
-              ])
-          | inr is ↦ absurd (let no : Answered a.0 a.1 ≡ Issued op proxy request = is.1 in cc)
-        ];
+        | inl was ↦ (
+            let a_old : to answer ≡ f.to answer = old answer (within was) in
+            let a_below : f.to answer < length told = within (f.answered answer a.0 a.1 was a.3) in
+            elim (at_last heard new i.3) [
+              | inl was_issue ↦ (
+                  let i_old : to issue ≡ f.to issue = old issue (within was_issue) in
+                  let order = f.in_order answer issue (a.0, a.1, was, a.3) (i.0, i.1, i.2, was_issue) l in
+                  omega arith)
+              | inr is ↦ (let i_new : to issue ≡ length told = extended_new f.to last (length told) issue is.0 in omega arith)
+            ])
+        | inr is ↦ absurd (let no : Answered a.0 a.1 ≡ Issued op proxy request = is.1 in cc)
+      ];
       stored = λ place by key flags block h. elim (at_last told new h) [
-          | inl was ↦ (
-              let s = f.stored place by key flags block was in
-              let below : s.0 < last = within s.1.there in
-              (s.0, record {
+        | inl was ↦ (
+            let s = f.stored place by key flags block was in
+            let below : s.0 < last = within s.1.there in (
+              s.0,
+              record {
                 by = s.1.by;
                 there = at_left (new ∷ []) s.1.there;
                 before = λ answer a l. elim (at_last heard new a.2) [
-                    | inl was_answer ↦ s.1.before answer (a.0, a.1, was_answer, a.3) (let a_old : to answer ≡ f.to answer = old answer (within was_answer) in omega arith)
-                    | inr is ↦ absurd (let no : Answered a.0 a.1 ≡ Issued op proxy request = is.1 in cc)
-                  ];
+                  | inl was_answer ↦ s.1.before answer (a.0, a.1, was_answer, a.3) (let a_old : to answer ≡ f.to answer = old answer (within was_answer) in omega arith)
+                  | inr is ↦ absurd (let no : Answered a.0 a.1 ≡ Issued op proxy request = is.1 in cc)
+                ];
                 after = λ issue i l. elim (at_last heard new i.3) [
-                    | inl was_issue ↦ s.1.after issue (i.0, i.1, i.2, was_issue) (let i_old : to issue ≡ f.to issue = old issue (within was_issue) in omega arith)
-                    | inr is ↦ absurd (
-                        let i_new : to issue ≡ length told = extended_new f.to last (length told) issue is.0 in
-                        let place_below : place < length told = within was in
-                        omega arith)
-                  ];
-              }))
-          | inr is ↦ absurd (let no : Stored by key flags block ≡ Issued op proxy request = is.1 in cc)
-        ];
+                  | inl was_issue ↦ s.1.after issue (i.0, i.1, i.2, was_issue) (let i_old : to issue ≡ f.to issue = old issue (within was_issue) in omega arith)
+                  | inr is ↦ absurd (
+                      let i_new : to issue ≡ length told = extended_new f.to last (length told) issue is.0 in
+                      let place_below : place < length told = within was in
+                      omega arith)
+                ];
+              },
+            ))
+        | inr is ↦ absurd (let no : Stored by key flags block ≡ Issued op proxy request = is.1 in cc)
+      ];
     }
 
 follows_stored : (told heard : List Entry) (by other : Author) (key : List ℕ) (flags : ℕ) (block : List ℕ) → Follows told heard
@@ -175,57 +176,61 @@ follows_stored told heard by other key flags block f =
     record {
       to = f.to;
       issued = λ place o n r h. elim (at_last heard heard_new h) [
-          | inl was ↦ at_left (new ∷ []) (f.issued place o n r was)
-          | inr is ↦ absurd (let no : Issued o n r ≡ Stored other key flags block = is.1 in cc)
-        ];
+        | inl was ↦ at_left (new ∷ []) (f.issued place o n r was)
+        | inr is ↦ absurd (let no : Issued o n r ≡ Stored other key flags block = is.1 in cc)
+      ];
       answered = λ place o r h fine. elim (at_last heard heard_new h) [
-          | inl was ↦ at_left (new ∷ []) (f.answered place o r was fine)
-          | inr is ↦ absurd (let no : Answered o r ≡ Stored other key flags block = is.1 in cc)
-        ];
+        | inl was ↦ at_left (new ∷ []) (f.answered place o r was fine)
+        | inr is ↦ absurd (let no : Answered o r ≡ Stored other key flags block = is.1 in cc)
+      ];
       in_order = λ answer issue a i l. elim (at_last heard heard_new a.2) [
-          | inl was ↦ elim (at_last heard heard_new i.3) [
-              | inl was_issue ↦ f.in_order answer issue (a.0, a.1, was, a.3) (i.0, i.1, i.2, was_issue) l
-              | inr is ↦ absurd (let no : Issued i.0 i.1 i.2 ≡ Stored other key flags block = is.1 in cc)
-            ]
-          | inr is ↦ absurd (let no : Answered a.0 a.1 ≡ Stored other key flags block = is.1 in cc)
-        ];
+        | inl was ↦ elim (at_last heard heard_new i.3) [
+          | inl was_issue ↦ f.in_order answer issue (a.0, a.1, was, a.3) (i.0, i.1, i.2, was_issue) l
+          | inr is ↦ absurd (let no : Issued i.0 i.1 i.2 ≡ Stored other key flags block = is.1 in cc)
+        ]
+        | inr is ↦ absurd (let no : Answered a.0 a.1 ≡ Stored other key flags block = is.1 in cc)
+      ];
       stored = λ place b k g d h. elim (at_last told new h) [
-          | inl was ↦ (
-              let s = f.stored place b k g d was in
-              (s.0, record {
+        | inl was ↦ (
+            let s = f.stored place b k g d was in (
+              s.0,
+              record {
                 by = s.1.by;
                 there = at_left (heard_new ∷ []) s.1.there;
                 before = λ answer a l. elim (at_last heard heard_new a.2) [
-                    | inl was_answer ↦ s.1.before answer (a.0, a.1, was_answer, a.3) l
-                    | inr is ↦ absurd (let no : Answered a.0 a.1 ≡ Stored other key flags block = is.1 in cc)
-                  ];
+                  | inl was_answer ↦ s.1.before answer (a.0, a.1, was_answer, a.3) l
+                  | inr is ↦ absurd (let no : Answered a.0 a.1 ≡ Stored other key flags block = is.1 in cc)
+                ];
                 after = λ issue i l. elim (at_last heard heard_new i.3) [
-                    | inl was_issue ↦ s.1.after issue (i.0, i.1, i.2, was_issue) l
-                    | inr is ↦ absurd (let no : Issued i.0 i.1 i.2 ≡ Stored other key flags block = is.1 in cc)
-                  ];
-              }))
-          | inr is ↦ (
-              let same : Stored b k g d ≡ Stored by key flags block = is.1 in
-              let same_key : k ≡ key = cc in
-              let same_flags : g ≡ flags = cc in
-              let same_block : d ≡ block = cc in
-              let there : At (heard ++ heard_new ∷ []) (length heard) (Stored other k g d) =
-              subst (λ x. At (heard ++ heard_new ∷ []) (length heard) (Stored other x g d)) (sym same_key)
-              (subst (λ x. At (heard ++ heard_new ∷ []) (length heard) (Stored other key x d)) (sym same_flags)
-              (subst (λ x. At (heard ++ heard_new ∷ []) (length heard) (Stored other key flags x)) (sym same_block) (at_new heard heard_new))) in
-              (length heard, record {
+                  | inl was_issue ↦ s.1.after issue (i.0, i.1, i.2, was_issue) l
+                  | inr is ↦ absurd (let no : Issued i.0 i.1 i.2 ≡ Stored other key flags block = is.1 in cc)
+                ];
+              },
+            ))
+        | inr is ↦ (
+            let same : Stored b k g d ≡ Stored by key flags block = is.1 in
+            let same_key : k ≡ key = cc in
+            let same_flags : g ≡ flags = cc in
+            let same_block : d ≡ block = cc in
+            let there : At (heard ++ heard_new ∷ []) (length heard) (Stored other k g d) =
+            subst (λ x. At (heard ++ heard_new ∷ []) (length heard) (Stored other x g d)) (sym same_key)
+            (subst (λ x. At (heard ++ heard_new ∷ []) (length heard) (Stored other key x d)) (sym same_flags)
+            (subst (λ x. At (heard ++ heard_new ∷ []) (length heard) (Stored other key flags x)) (sym same_block) (at_new heard heard_new))) in (
+              length heard,
+              record {
                 by = other;
                 there = there;
                 before = λ answer a l. elim (at_last heard heard_new a.2) [
-                    | inl was_answer ↦ absurd (let below : f.to answer < length told = within (f.answered answer a.0 a.1 was_answer a.3) in let last = is.0 in omega arith)
-                    | inr wrong ↦ absurd (let never : Answered a.0 a.1 ≡ Stored other key flags block = wrong.1 in cc)
-                  ];
+                  | inl was_answer ↦ absurd (let below : f.to answer < length told = within (f.answered answer a.0 a.1 was_answer a.3) in let last = is.0 in omega arith)
+                  | inr wrong ↦ absurd (let never : Answered a.0 a.1 ≡ Stored other key flags block = wrong.1 in cc)
+                ];
                 after = λ issue i l. elim (at_last heard heard_new i.3) [
-                    | inl was_issue ↦ within was_issue
-                    | inr wrong ↦ absurd (let never : Issued i.0 i.1 i.2 ≡ Stored other key flags block = wrong.1 in cc)
-                  ];
-              }))
-        ];
+                  | inl was_issue ↦ within was_issue
+                  | inr wrong ↦ absurd (let never : Issued i.0 i.1 i.2 ≡ Stored other key flags block = wrong.1 in cc)
+                ];
+              },
+            ))
+      ];
     }
 
 -- one more that the other doesn't tell
@@ -237,9 +242,9 @@ follows_more told heard new other f = record {
   answered = λ place o r h fine. at_left (new ∷ []) (f.answered place o r h fine);
   in_order = f.in_order;
   stored = λ place b k g d h. elim (at_last told new h) [
-      | inl was ↦ f.stored place b k g d was
-      | inr is ↦ absurd (other b k g d is.1)
-    ];
+    | inl was ↦ f.stored place b k g d was
+    | inr is ↦ absurd (other b k g d is.1)
+  ];
 }
 
 follows_answer : (told heard : List Entry) (op : OpId) (reply : Reply) (from : ℕ) → At told from (Answered op reply) → Follows told heard → Follows told (heard ++ Answered op reply ∷ [])
@@ -251,41 +256,43 @@ follows_answer told heard op reply from there f =
     record {
       to = to;
       issued = λ place o n r h. elim (at_last heard new h) [
-          | inl was ↦ subst (λ k. At told k (Issued o n r)) (sym (old place (within was))) (f.issued place o n r was)
-          | inr is ↦ absurd (let no : Issued o n r ≡ Answered op reply = is.1 in cc)
-        ];
+        | inl was ↦ subst (λ k. At told k (Issued o n r)) (sym (old place (within was))) (f.issued place o n r was)
+        | inr is ↦ absurd (let no : Issued o n r ≡ Answered op reply = is.1 in cc)
+      ];
       answered = λ place o r h fine. elim (at_last heard new h) [
-          | inl was ↦ subst (λ k. At told k (Answered o r)) (sym (old place (within was))) (f.answered place o r was fine)
-          | inr is ↦ subst (λ x. At told (to place) x) (sym is.1) (subst (λ k. At told k new) (sym (extended_new f.to last from place is.0)) there)
-        ];
+        | inl was ↦ subst (λ k. At told k (Answered o r)) (sym (old place (within was))) (f.answered place o r was fine)
+        | inr is ↦ subst (λ x. At told (to place) x) (sym is.1) (subst (λ k. At told k new) (sym (extended_new f.to last from place is.0)) there)
+      ];
       in_order = λ answer issue a i l. elim (at_last heard new i.3) [
-          | inl was_issue ↦ (
-              let i_below : issue < last = within was_issue in
-              let i_old : to issue ≡ f.to issue = old issue i_below in
-              elim (at_last heard new a.2) [
-                | inl was ↦ (
-                    let a_old : to answer ≡ f.to answer = old answer (within was) in
-                    let order = f.in_order answer issue (a.0, a.1, was, a.3) (i.0, i.1, i.2, was_issue) l in
-                    omega arith)
-                | inr is ↦ absurd (let late = is.0 in omega arith)
-              ])
-          | inr is ↦ absurd (let no : Issued i.0 i.1 i.2 ≡ Answered op reply = is.1 in cc)
-        ];
+        | inl was_issue ↦ (
+            let i_below : issue < last = within was_issue in
+            let i_old : to issue ≡ f.to issue = old issue i_below in
+            elim (at_last heard new a.2) [
+              | inl was ↦ (
+                  let a_old : to answer ≡ f.to answer = old answer (within was) in
+                  let order = f.in_order answer issue (a.0, a.1, was, a.3) (i.0, i.1, i.2, was_issue) l in
+                  omega arith)
+              | inr is ↦ absurd (let late = is.0 in omega arith)
+            ])
+        | inr is ↦ absurd (let no : Issued i.0 i.1 i.2 ≡ Answered op reply = is.1 in cc)
+      ];
       stored = λ place b k g d h. (
           let s = f.stored place b k g d h in
-          let below : s.0 < last = within s.1.there in
-          (s.0, record {
-            by = s.1.by;
-            there = at_left (new ∷ []) s.1.there;
-            before = λ answer a l. elim (at_last heard new a.2) [
+          let below : s.0 < last = within s.1.there in (
+            s.0,
+            record {
+              by = s.1.by;
+              there = at_left (new ∷ []) s.1.there;
+              before = λ answer a l. elim (at_last heard new a.2) [
                 | inl was_answer ↦ s.1.before answer (a.0, a.1, was_answer, a.3) (let a_old : to answer ≡ f.to answer = old answer (within was_answer) in omega arith)
                 | inr is ↦ (let late = is.0 in omega arith)
               ];
-            after = λ issue i l. elim (at_last heard new i.3) [
+              after = λ issue i l. elim (at_last heard new i.3) [
                 | inl was_issue ↦ s.1.after issue (i.0, i.1, i.2, was_issue) (let i_old : to issue ≡ f.to issue = old issue (within was_issue) in omega arith)
                 | inr is ↦ absurd (let no : Issued i.0 i.1 i.2 ≡ Answered op reply = is.1 in cc)
               ];
-          }));
+            },
+          ));
     }
 
 -- an answer that is an error is told of nowhere
@@ -296,34 +303,36 @@ follows_error told heard op cause f =
     record {
       to = f.to;
       issued = λ place o n r h. elim (at_last heard new h) [
-          | inl was ↦ f.issued place o n r was
-          | inr is ↦ absurd (let no : Issued o n r ≡ Answered op (ServerError cause) = is.1 in cc)
-        ];
+        | inl was ↦ f.issued place o n r was
+        | inr is ↦ absurd (let no : Issued o n r ≡ Answered op (ServerError cause) = is.1 in cc)
+      ];
       answered = λ place o r h fine. elim (at_last heard new h) [
-          | inl was ↦ f.answered place o r was fine
-          | inr is ↦ absurd (never o r is.1 fine)
-        ];
+        | inl was ↦ f.answered place o r was fine
+        | inr is ↦ absurd (never o r is.1 fine)
+      ];
       in_order = λ answer issue a i l. elim (at_last heard new a.2) [
-          | inl was ↦ elim (at_last heard new i.3) [
-              | inl was_issue ↦ f.in_order answer issue (a.0, a.1, was, a.3) (i.0, i.1, i.2, was_issue) l
-              | inr is ↦ absurd (let no : Issued i.0 i.1 i.2 ≡ Answered op (ServerError cause) = is.1 in cc)
-            ]
-          | inr is ↦ absurd (never a.0 a.1 is.1 a.3)
-        ];
+        | inl was ↦ elim (at_last heard new i.3) [
+          | inl was_issue ↦ f.in_order answer issue (a.0, a.1, was, a.3) (i.0, i.1, i.2, was_issue) l
+          | inr is ↦ absurd (let no : Issued i.0 i.1 i.2 ≡ Answered op (ServerError cause) = is.1 in cc)
+        ]
+        | inr is ↦ absurd (never a.0 a.1 is.1 a.3)
+      ];
       stored = λ place b k g d h. (
-          let s = f.stored place b k g d h in
-          (s.0, record {
-            by = s.1.by;
-            there = at_left (new ∷ []) s.1.there;
-            before = λ answer a l. elim (at_last heard new a.2) [
+          let s = f.stored place b k g d h in (
+            s.0,
+            record {
+              by = s.1.by;
+              there = at_left (new ∷ []) s.1.there;
+              before = λ answer a l. elim (at_last heard new a.2) [
                 | inl was_answer ↦ s.1.before answer (a.0, a.1, was_answer, a.3) l
                 | inr is ↦ absurd (never a.0 a.1 is.1 a.3)
               ];
-            after = λ issue i l. elim (at_last heard new i.3) [
+              after = λ issue i l. elim (at_last heard new i.3) [
                 | inl was_issue ↦ s.1.after issue (i.0, i.1, i.2, was_issue) l
                 | inr is ↦ absurd (let no : Issued i.0 i.1 i.2 ≡ Answered op (ServerError cause) = is.1 in cc)
               ];
-          }));
+            },
+          ));
     }
 
 -- the other tells of a removal, which nothing rests on
@@ -333,34 +342,36 @@ follows_removed told heard op side key f =
     record {
       to = f.to;
       issued = λ place o n r h. elim (at_last heard new h) [
-          | inl was ↦ f.issued place o n r was
-          | inr is ↦ absurd (let never : Issued o n r ≡ Removed op side key = is.1 in cc)
-        ];
+        | inl was ↦ f.issued place o n r was
+        | inr is ↦ absurd (let never : Issued o n r ≡ Removed op side key = is.1 in cc)
+      ];
       answered = λ place o r h fine. elim (at_last heard new h) [
-          | inl was ↦ f.answered place o r was fine
-          | inr is ↦ absurd (let never : Answered o r ≡ Removed op side key = is.1 in cc)
-        ];
+        | inl was ↦ f.answered place o r was fine
+        | inr is ↦ absurd (let never : Answered o r ≡ Removed op side key = is.1 in cc)
+      ];
       in_order = λ answer issue a i l. elim (at_last heard new a.2) [
-          | inl was ↦ elim (at_last heard new i.3) [
-              | inl was_issue ↦ f.in_order answer issue (a.0, a.1, was, a.3) (i.0, i.1, i.2, was_issue) l
-              | inr is ↦ absurd (let never : Issued i.0 i.1 i.2 ≡ Removed op side key = is.1 in cc)
-            ]
-          | inr is ↦ absurd (let never : Answered a.0 a.1 ≡ Removed op side key = is.1 in cc)
-        ];
+        | inl was ↦ elim (at_last heard new i.3) [
+          | inl was_issue ↦ f.in_order answer issue (a.0, a.1, was, a.3) (i.0, i.1, i.2, was_issue) l
+          | inr is ↦ absurd (let never : Issued i.0 i.1 i.2 ≡ Removed op side key = is.1 in cc)
+        ]
+        | inr is ↦ absurd (let never : Answered a.0 a.1 ≡ Removed op side key = is.1 in cc)
+      ];
       stored = λ place b k g d h. (
-          let s = f.stored place b k g d h in
-          (s.0, record {
-            by = s.1.by;
-            there = at_left (new ∷ []) s.1.there;
-            before = λ answer a l. elim (at_last heard new a.2) [
+          let s = f.stored place b k g d h in (
+            s.0,
+            record {
+              by = s.1.by;
+              there = at_left (new ∷ []) s.1.there;
+              before = λ answer a l. elim (at_last heard new a.2) [
                 | inl was_answer ↦ s.1.before answer (a.0, a.1, was_answer, a.3) l
                 | inr is ↦ absurd (let never : Answered a.0 a.1 ≡ Removed op side key = is.1 in cc)
               ];
-            after = λ issue i l. elim (at_last heard new i.3) [
+              after = λ issue i l. elim (at_last heard new i.3) [
                 | inl was_issue ↦ s.1.after issue (i.0, i.1, i.2, was_issue) l
                 | inr is ↦ absurd (let never : Issued i.0 i.1 i.2 ≡ Removed op side key = is.1 in cc)
               ];
-          }));
+            },
+          ));
     }
 
 follows_told : (told heard : List Entry) → Tells told heard → Follows told heard

@@ -1,6 +1,6 @@
 -- A fleet in which legs fail, beside the world: it gives a request up at the first leg of it that fails, and tells of no error.
-use Rattle.std.proofs.Common.{◌≡◌, ◌≢◌, ℕ, ◌+◌, ◌^◌, ◌-◌, ◌<◌, ◌≤◌, ◌==◌, ◌⊎◌, inl, inr, Bool, true, false, not, cond, List, [], ◌∷◌, ◌++◌, length, map, slice_get, slice_set, remove, is_some, Option, Some, None, if◌then◌else◌, refl, sym, ap, ◌∙◌, subst, arith, append_assoc, nat_le, leb-true, leb-false, le-leb}
-use Rattle.std.specs.List.{filter, position_or_len}
+use Rattle.std.proofs.Common.{◌≡◌, ℕ, ◌^◌, ◌-◌, ◌<◌, ◌≤◌, ◌==◌, inl, inr, Bool, true, false, not, List, [], ◌∷◌, ◌++◌, length, map, slice_set, remove, is_some, Option, Some, None, if◌then◌else◌, refl, sym, ap, ◌∙◌, subst, arith, append_assoc, nat_le, leb-true, le-leb}
+use Rattle.std.specs.List.{filter}
 use Rattle.std.specs.Option.{option_and_then}
 use Rattle.std.proofs.lemmas.List.{append-nil, map-set, length-map}
 use Rattle.mr_clock.specs.Readings.{Tick, readings_after}
@@ -25,8 +25,7 @@ use Rattle.mr_proxy.specs.Issue.{next_op, sheets_of, pending_of, refusal_of, aft
 use Rattle.mr_proxy.specs.Pending.{PendingView, is_complete, with_reply}
 use Rattle.mr_proxy.specs.ProxyView.{ProxyView}
 use Rattle.mr_proxy.specs.Slots.{is_failed}
-use Rattle.mr_proxy.specs.Transitions.{place_of_op, pending_with, noted_by, settled, after_take, taken_by, taken_of, left_by, after_give_up, given_up_in, given_up_of, after_restart}
-use Rattle.mr_proxy.specs.declared.error.ProxyError.{ProxyError}
+use Rattle.mr_proxy.specs.Transitions.{place_of_op, pending_with, noted_by, settled, after_take, taken_by, taken_of, left_by, after_give_up, given_up_in, after_restart}
 use Rattle.mr_proxy.specs.declared.error.ProxyError.TheVariants.{NoRoom, NumbersSpent}
 use Rattle.mr_proxy.specs.declared.sheet.LegId.{LegId}
 use Rattle.mr_proxy.specs.declared.sheet.LegSheet.{LegSheet}
@@ -164,7 +163,7 @@ settled_alive_if : (b : Bool) (p : ProxyView) (k k' : ℕ) (noted : PendingView)
     → filter is_alive (remove p.outstanding k) ≡ remove (filter is_alive p.outstanding) k'
     → filter is_alive (slice_set p.outstanding k noted) ≡ slice_set (filter is_alive p.outstanding) k' noted
     → thin (if b then record p { outstanding = remove p.outstanding k } else record p { outstanding = slice_set p.outstanding k noted })
-      ≡ (if b then record (thin p) { outstanding = remove (filter is_alive p.outstanding) k' } else record (thin p) { outstanding = slice_set (filter is_alive p.outstanding) k' noted })
+    ≡ (if b then record (thin p) { outstanding = remove (filter is_alive p.outstanding) k' } else record (thin p) { outstanding = slice_set (filter is_alive p.outstanding) k' noted })
 settled_alive_if true p k k' noted removes sets = ap (λ x. record p { outstanding = x }) removes
 settled_alive_if false p k k' noted removes sets = ap (λ x. record p { outstanding = x }) sets
 
@@ -348,9 +347,9 @@ accepted_thin : (p : ProxyView) → refusal_of p ≡ None → refusal_of (thin p
 accepted_thin p e =
     accepted_if (p.next == 2 ^ 64 - 1) (nat_le p.room (length p.outstanding)) (nat_le p.room (length (filter is_alive p.outstanding)))
     (λ less. (
-        let below : p.room ≤ length (filter is_alive p.outstanding) = leb-true p.room (length (filter is_alive p.outstanding)) less in
-        let fewer_kept = fewer is_alive p.outstanding in
-        le-leb p.room (length p.outstanding) (omega arith))) e
+    let below : p.room ≤ length (filter is_alive p.outstanding) = leb-true p.room (length (filter is_alive p.outstanding)) less in
+    let fewer_kept = fewer is_alive p.outstanding in
+    le-leb p.room (length p.outstanding) (omega arith))) e
 
 issued_thin : (p : ProxyView) (reading : ℕ) (asked : Request) → thin (after_issue p reading asked) ≡ after_issue (thin p) reading asked
 issued_thin p reading asked =

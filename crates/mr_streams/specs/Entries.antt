@@ -1,6 +1,6 @@
 -- What the history of streams gains: a request when it is issued, an item when a node stores it, an answer when its text is put to
 -- the bytes that its client is told.
-use Rattle.std.specs.Prelude.{◌≡◌, ◌==◌, ℕ, List, [], ◌∷◌, ◌++◌, if◌then◌else◌}
+use Rattle.std.specs.Prelude.{◌≡◌, ◌==◌, List, [], ◌∷◌, ◌++◌, if◌then◌else◌}
 use Rattle.std.specs.List.{flat_map}
 use Rattle.mr_text.specs.declared.reply.Reply.TheVariants.{Stored}
 use Rattle.mr_text.specs.declared.request.Request.TheVariants.{Set}
@@ -8,12 +8,11 @@ use Rattle.mr_history.specs.declared.entry.Author.{Author}
 use Rattle.mr_history.specs.declared.entry.Entry.{Entry}
 use Rattle.mr_history.specs.declared.entry.Entry.TheVariants as entry
 use Rattle.mr_node.specs.Output.{Exchange}
-use Rattle.mr_node.specs.Output.Exchange.{Asked, Unknown}
+use Rattle.mr_node.specs.Output.Exchange.{Asked}
 use Rattle.mr_proxy.specs.Issue.{next_op}
 use Rattle.mr_proxy.specs.ProxyView.{ProxyView}
-use Rattle.mr_loop.specs.Asking.{Asking, AsksOn, DoesAll}
+use Rattle.mr_loop.specs.Asking.{Asking, DoesAll}
 use Rattle.mr_loop.specs.declared.asker.Asker.{Asker}
-use Rattle.mr_loop.specs.declared.asking.Pause.{Pause}
 use Rattle.mr_loop.specs.declared.inbox.Input.{Input}
 use Rattle.mr_loop.specs.declared.inbox.Input.TheVariants as input
 use Rattle.mr_loop.specs.declared.turns.Turn.{Turn}

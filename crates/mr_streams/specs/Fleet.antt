@@ -1,5 +1,5 @@
 -- The world with one more kind of step: a node answers a leg with an error, or its reply is lost to one. What streams refine.
-use Rattle.std.specs.Prelude.{◌≡◌, ℕ, List, [], ◌∷◌, ◌++◌, slice_set, flat_map}
+use Rattle.std.specs.Prelude.{◌≡◌, List, [], ◌∷◌, ◌++◌, slice_set, flat_map}
 use Rattle.mr_text.specs.declared.cause.Cause.{Cause}
 use Rattle.mr_history.specs.Places.{At}
 use Rattle.mr_clock.specs.Readings.{Tick}

@@ -1,11 +1,10 @@
 -- The headline over bytes, and what it says of the premises.
-use Rattle.std.specs.Prelude.{◌≡◌, ℕ, All, List, [], ◌∷◌, map, flat_map}
+use Rattle.std.specs.Prelude.{◌≡◌, All, List, [], ◌∷◌, map, flat_map}
 use Rattle.std.specs.List.{AllByRecursion}
 use Rattle.mr_clock.specs.Clocks.{NeverGoesBack, StayWithin}
 use Rattle.mr_clock.specs.Readings.{Tick, readings_at_first}
 use Rattle.mr_history.specs.History.{IsSafe}
 use Rattle.mr_text.specs.Valid.{IsValidItem}
-use Rattle.mr_proxy.specs.ProxyView.{ProxyView}
 use Rattle.mr_loop.specs.LoopView.{LoopView, fresh_loop}
 use Rattle.mr_loop.specs.node.NodeView.{fresh_node}
 use Rattle.mr_world.specs.Headline.{IsPlan}
@@ -60,6 +59,10 @@ BytesAreSafe =
     (setup : SetupView) (first last : StreamsView) (events : List StreamsEvent)
     → All (λ proxy. IsPlan proxy.routing proxy.schedule) setup.proxies → All HasText setup.held
     → Starts setup first → StreamsRun first events last → PremisesHold setup events → IsSafe last.history
+
+-- Whatever happens, each client was told the answers of the history to its requests, in their order.
+abbrev pub ClientsAreServed : Type 0
+ClientsAreServed = (setup : SetupView) (first last : StreamsView) (events : List StreamsEvent) → Starts setup first → StreamsRun first events last → AreServed last
 
 -- Whatever pieces bytes travel in, whenever connections break, nodes and proxies restart and memory is refused: each hit is fresh, and
 -- each client was told the answers of the history to its requests, in their order.

@@ -10,3 +10,4 @@ pub mod Kept
 pub mod OneProxy
 pub mod OneLink
 pub mod OneNode
+pub mod Flushing

@@ -1,10 +1,9 @@
 -- What ties the bytes of a client and the history: what it sent, what was issued of it, and what it was told.
-use Rattle.std.specs.Prelude.{◌≡◌, ℕ, false, List, [], ◌∷◌, ◌++◌, map, flat_map, slice_get, Option, Some, None, option_to_list, Contains}
+use Rattle.std.specs.Prelude.{◌≡◌, ℕ, false, List, [], ◌∷◌, ◌++◌, map, flat_map, slice_get, Some, option_to_list}
 use Rattle.mr_text.specs.Requests.{SpellsRequest, RefusesRequest, SkipsLine}
 use Rattle.mr_text.specs.declared.cause.Cause.{Cause}
 use Rattle.mr_text.specs.declared.error.TextError.{TextError}
 use Rattle.mr_text.specs.declared.error.TextError.TheVariants.{UnknownCommand}
-use Rattle.mr_text.specs.declared.reply.Reply.{Reply}
 use Rattle.mr_text.specs.declared.request.Request.{Request}
 use Rattle.mr_history.specs.History.{IsIssued}
 use Rattle.mr_history.specs.Places.{At}
@@ -19,8 +18,7 @@ use Rattle.mr_loop.specs.Runs.{Due, due_of_turn, told_text}
 use Rattle.mr_loop.specs.declared.client.Client.{Client}
 use Rattle.mr_loop.specs.declared.inbox.Input.{Input}
 use Rattle.mr_loop.specs.declared.inbox.Input.TheVariants as input
-use Rattle.mr_loop.specs.declared.turns.Turn.{Turn}
-use Rattle.mr_loop.specs.declared.turns.Turn.TheVariants.{Waits, Answered, Says}
+use Rattle.mr_loop.specs.declared.turns.Turn.TheVariants.{Answered}
 use Rattle.mr_world.specs.Lists.{Has}
 use Rattle.mr_streams.specs.Steps.{IsVisit}
 use Rattle.mr_streams.specs.StreamsView.{StreamsView, Visit}

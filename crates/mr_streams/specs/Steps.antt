@@ -1,5 +1,5 @@
 -- What each thing that happens does to streams: the machines' own steps, and where the bytes go.
-use Rattle.std.specs.Prelude.{◌≡◌, ◌≢◌, ◌==◌, ◌&&◌, not, ◌⊎◌, ℕ, ◌^◌, ◌-◌, ◌<◌, Bool, true, false, List, [], ◌∷◌, ◌++◌, length, map, slice_get, slice_set, Option, Some, None, is_some, IsTrue, if◌then◌else◌}
+use Rattle.std.specs.Prelude.{◌≡◌, ◌≢◌, ◌==◌, ◌&&◌, not, ◌⊎◌, ℕ, ◌^◌, ◌-◌, ◌<◌, true, false, List, [], ◌∷◌, ◌++◌, length, map, slice_get, slice_set, Option, Some, None, is_some, IsTrue, if◌then◌else◌}
 use mathlib.Core.Logic.{inl, inr}
 use Rattle.std.specs.List.{flat_map, AllByRecursion}
 use Rattle.mr_clock.specs.Readings.{readings_after}

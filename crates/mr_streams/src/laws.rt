@@ -1,5 +1,6 @@
 //! What holds of a fleet as streams of bytes.
-ghost use Rattle.mr_streams.specs.Headline.{BytesAreSafe};
+ghost use Rattle.mr_streams.specs.Flushing.{FlushesPutTexts};
+ghost use Rattle.mr_streams.specs.Headline.{BytesAreSafe, ClientsAreServed, HeadlineOverBytes};
 ghost use Rattle.mr_streams.specs.OneLink.{RepliesComeBack, LinksGiveUp};
 ghost use Rattle.mr_streams.specs.OneNode.{RequestsAreDelivered};
 ghost use Rattle.mr_streams.specs.Refines.{RefinesWorld};
@@ -66,3 +67,24 @@ pub fn bytes_are_safe()
     headline();
     streams_refine_the_world();
 }
+
+/// Whatever happens: the bytes that a client was told, and those that it is to be told next, are the texts of the answers to the
+/// first of the requests that its bytes spell, in their order, and each of these answers stands in the history.
+pub fn clients_are_served()
+    ensures { ClientsAreServed }
+{}
+
+/// The headline over bytes. Whatever pieces bytes travel in, whenever connections are made, break or are left with bytes on their
+/// way, whichever nodes and proxies restart, and wherever memory is refused: where the four premises hold, each hit in the bytes that
+/// any client is told is fresh, and what each client is told are the answers of the history to its requests, in their order.
+pub fn headline_over_bytes()
+    ensures { HeadlineOverBytes }
+{
+    bytes_are_safe();
+    clients_are_served();
+}
+
+/// What a loop does at a flush is what streams do where requests are answered.
+pub fn flushes_put_texts()
+    ensures { FlushesPutTexts }
+{}

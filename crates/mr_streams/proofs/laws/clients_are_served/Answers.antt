@@ -1,0 +1,5 @@
+use Rattle.mr_streams.proofs.HearingEvents.{all_served}
+use Rattle.mr_streams.proofs.laws.clients_are_served.Goals as goal
+
+pub returns : goal.returns
+returns c = λ setup first last events starts run. all_served setup first last events starts run
