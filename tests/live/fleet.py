@@ -20,16 +20,15 @@ from wanted import Wrong, check
 FOREVER = str(2**64 - 1)  # clients of a service that its case ends
 YEAR_2100 = 4102444800  # the start of a migration that no case sees begin
 TRIES = 5  # ports that are tried for a service before it is given up
-LOOPS = 2  # of a proxy that runs on loops, where its case doesn't say how many
+LOOPS = 2  # of a service that runs on loops, where its case doesn't say how many
 
 HOME = tempfile.mkdtemp(prefix="migctl-live-")  # of the files of all cases, until the run ends
 
 
-class Telling:
-    """Whether each service of the run tells its metrics, those too whose case doesn't ask for it. A proxy runs on loops then, unless
-    its case wants one by threads."""
+class Form:
+    """Whether services of the run whose case leaves it open run on loops, and tell their metrics, and not by threads."""
 
-    always = False
+    on_loops = False
 
 
 @functools.lru_cache(maxsize=None)
@@ -225,14 +224,13 @@ class Fleet:
         """A clock for services, which is so many seconds ahead of the machine's."""
         return MovedClock(self.new_file(), seconds)
 
-    def serve(self, *words, hosts=("127.0.0.1",), host=None, clock=None, before=(), told=True):
+    def serve(self, *words, hosts=("127.0.0.1",), host=None, clock=None, before=(), left_open=True):
         """A service at a port that is free at each of these hosts, at the first of them or at this one, by the machine's time or
         by another clock, started by the words of a command that stand before its own. Where another program took the port
-        meanwhile, it is started at another one. One that isn't told tells no metrics unless its words say so, even where each
-        service does."""
+        meanwhile, it is started at another one. Where it isn't left open how it runs, it runs as its words say."""
         before = [*before, *(clock.words() if clock else [])]
         for _ in range(TRIES):
-            whole = self.on_loops([*words, *(self.telling(words) if told else [])])
+            whole = self.with_loops([*words, *(self.form_of(words) if left_open else [])])
             service = Service(self, [*before, program(), *whole], self.keep(place_at(*hosts)), host)
             self.services.append(service)
             if service.listens():
@@ -241,16 +239,16 @@ class Fleet:
             check(f"why {service.name()} ended", (1, b"", taken), (service.wait(), *service.printed()))
         raise Wrong(f"{words}", f"a free port among {TRIES}", "none")
 
-    def telling(self, words):
-        """The words by which a service tells its metrics where all do, unless these say it already, or bound the turns of a proxy,
-        which it has by threads alone."""
-        if not Telling.always or "--metrics" in words or (words[0] == "proxy" and "--turns" in words):
+    def form_of(self, words):
+        """The words by which a service runs on loops where this run's do, unless these say how it runs: on loops, or with a bound of
+        turns, which there is by threads alone."""
+        if not Form.on_loops or not {"--metrics", "--forever", "--turns"}.isdisjoint(words):
             return []
         return ["--metrics", self.keep(place_at("127.0.0.1")).address()]
 
-    def on_loops(self, words):
-        """These words, which say how many loops there are where it is a proxy that tells its metrics."""
-        if words[0] != "proxy" or "--loops" in words or "--metrics" not in words:
+    def with_loops(self, words):
+        """These words, which say how many loops there are where it is a service that tells its metrics."""
+        if "--loops" in words or "--metrics" not in words:
             return words
         return [*words, "--loops", str(LOOPS)]
 
@@ -258,9 +256,14 @@ class Fleet:
         """A node, which serves clients until the case ends unless a number of them is said."""
         return self.serve("node", "--clients", str(clients), *words, **where)
 
+    def node_by_threads(self, *words, **how):
+        """A node that runs by threads, however the others of this run do."""
+        return self.node(*words, left_open=False, **how)
+
     def second_node(self, first, host):
         """A node at the port of another one, which is kept at this host too."""
-        service = Service(self, [program(), "node", "--clients", FOREVER, *self.telling(["node"])], first.place, host)
+        words = ["node", "--clients", FOREVER]
+        service = Service(self, [program(), *self.with_loops([*words, *self.form_of(words)])], first.place, host)
         self.services.append(service)
         if not service.listens():
             raise Wrong(f"the start of {service.name()}", "something that listens", service.printed())
@@ -271,15 +274,15 @@ class Fleet:
         return [self.node() for _ in range(count)]
 
     def proxy(self, config, *words, clients=FOREVER, **where):
-        """A proxy by this configuration: by threads, or on loops where it tells its metrics."""
+        """A proxy by this configuration: by threads, or on loops where this run's services are or its words say so."""
         return self.serve("proxy", "--config", str(config), "--clients", str(clients), *words, **where)
 
     def proxy_by_threads(self, config, *words, **how):
-        """A proxy by this configuration that runs by threads, whether services tell their metrics or not."""
-        return self.proxy(config, *words, told=False, **how)
+        """A proxy by this configuration that runs by threads, however the others of this run do."""
+        return self.proxy(config, *words, left_open=False, **how)
 
     def proxy_on_loops(self, config, *words, loops=LOOPS, **how):
-        """A proxy by this configuration that runs on so many loops, whether services tell their metrics or not."""
+        """A proxy by this configuration that runs on so many loops, however the others of this run do."""
         metrics = self.keep(place_at("127.0.0.1")).address()
         return self.proxy(config, "--metrics", metrics, "--loops", str(loops), *words, **how)
 
@@ -326,7 +329,7 @@ class Fleet:
     def start_command(self, *words, stdin=subprocess.PIPE, stdout=subprocess.PIPE, memory=None):
         """Starts a command, which is ended with the case at the latest."""
         if words[:1] in (("node",), ("proxy",)):
-            words = self.on_loops([*words, *self.telling(words)])
+            words = self.with_loops([*words, *self.form_of(words)])
         words = [program(), *(os.fspath(word) for word in words)]
         if memory is not None:
             words = ["sh", "-c", f'ulimit -v {memory // 1024}; exec "$@"', "sh", *words]

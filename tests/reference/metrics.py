@@ -81,6 +81,7 @@ def of_node(known):
             [("deleted", known["deleted"]), ("not found", known["not_found"])],
         )
         + one("migctl_node_evictions_total", "Items that went since a new one took their room.", "counter", known["evicted"])
+        + one("migctl_node_loops", "Loops that serve clients.", "gauge", known["loops"])
     )
 
 

@@ -1,7 +1,6 @@
--- What a running proxy tells of what its loops count, and of its place in the schedule; and what a node tells.
+-- What a running proxy tells of what its loops count, and of its place in the schedule.
 use Rattle.std.specs.List.{find}
 use Rattle.std.specs.Prelude.{◌≡◌, ℕ, ◌+◌, ◌-◌, ◌*◌, Bool, max, nat_lt, List, [], ◌∷◌, ◌++◌, map, drop, length, Option, Some, None}
-use Rattle.mr_metrics.specs.Node.{node_text}
 use Rattle.mr_metrics.specs.Proxy.{proxy_text}
 use Rattle.mr_metrics.specs.declared.counts.AnswerCount.{AnswerCount}
 use Rattle.mr_metrics.specs.declared.counts.AnswerKind.{AnswerKind}
@@ -10,7 +9,6 @@ use Rattle.mr_metrics.specs.declared.counts.Command.{Command}
 use Rattle.mr_metrics.specs.declared.counts.Command.TheVariants.{Get, Set, Delete}
 use Rattle.mr_metrics.specs.declared.counts.RequestCount.{RequestCount}
 use Rattle.mr_metrics.specs.declared.links.LinkCount.{LinkCount}
-use Rattle.mr_metrics.specs.declared.node.NodeSnapshot.{NodeSnapshot}
 use Rattle.mr_metrics.specs.declared.proxy.ProxySnapshot.{ProxySnapshot}
 use Rattle.mr_metrics.specs.declared.service.ServiceSnapshot.{ServiceSnapshot}
 use Rattle.mr_phases.specs.Schedule.{Hop, hop_of, phase_of}
@@ -21,7 +19,6 @@ use Rattle.mr_counting.specs.LegTimes.{bound_texts, bucket_said, bucket_rows}
 use Rattle.mr_counting.specs.LoopTotals.{TotalsView}
 use Rattle.mr_counting.specs.declared.answer_counts.AnswerCounts.{AnswerCounts}
 use Rattle.mr_counting.specs.declared.link_totals.LinkTotals.{LinkTotals}
-use Rattle.mr_counting.specs.declared.node_counts.NodeCounts.{NodeCounts}
 use Rattle.mr_counting.specs.declared.proxy_telling.ProxyIdentity.{ProxyIdentity}
 use Rattle.mr_counting.specs.declared.request_counts.PhaseCounts.{PhaseCounts}
 use Rattle.mr_counting.specs.declared.request_counts.RequestCounts.{RequestCounts}
@@ -185,27 +182,3 @@ pub record TellsProxy (proxy : ProxyIs) (text : List ℕ) : Type 0 where
   pub wait : Bool
   pub is_service : IsServiceOf proxy totals service
   pub tells : TellsTotals proxy service totals wait text
-
--- who a node is: its version, and where its clients connect
-pub record NodeIs : Type 0 where
-  pub version : List ℕ
-  pub address : List ℕ
-
--- the snapshot tells these counts, and who the node is
-pub record IsNodeSnapshotOf (node : NodeIs) (counts : NodeCounts) (snapshot : NodeSnapshot) : Type 0 where
-  pub version : snapshot.service.version.now ≡ node.version
-  pub address : snapshot.address.now ≡ node.address
-  pub hits : snapshot.hits ≡ counts.hits
-  pub misses : snapshot.misses ≡ counts.misses
-  pub stored : snapshot.stored ≡ counts.stored
-  pub deleted : snapshot.deleted ≡ counts.deleted
-  pub not_found : snapshot.not_found ≡ counts.not_found
-  pub evicted : snapshot.evicted ≡ counts.evicted
-
--- the text tells these counts of this node
-abbrev pub TellsNodeCounts : NodeIs → NodeCounts → List ℕ → Type 0
-TellsNodeCounts node counts text = (snapshot : NodeSnapshot) × IsNodeSnapshotOf node counts snapshot × (text ≡ node_text snapshot)
-
--- the text tells some counts of this node
-abbrev pub TellsNode : NodeIs → List ℕ → Type 0
-TellsNode node text = (counts : NodeCounts) × TellsNodeCounts node counts text

@@ -1,5 +1,5 @@
 //! How the clock of a service runs, and when the service began by it.
-ghost use Rattle.std.specs.Prelude.{◌≡◌};
+ghost use Rattle.std.specs.Prelude.{◌≡◌, ◌-◌};
 
 use crate::watched_clock::{ClockWatch, WatchedClock};
 use mr_clock::Clock;
@@ -34,24 +34,24 @@ impl ServiceTime {
         ServiceTime { watch, began }
     }
 
-    /// What is known now of a service with so many connections, of so many that there were, by this clock.
+    /// What is known now of a service to which so many clients came, of whom so many have left, by this clock.
     pub fn snapshot<'a, K: Clock + Clone>(
         &self,
         clock: &K,
         version: &'a str,
-        connected: u64,
-        accepted: u64,
+        came: u64,
+        left: u64,
     ) -> ServiceSnapshot<'a>
         ensures version { result.version.now ≡ version.entry.now }
-        ensures connected { result.connected ≡ connected }
-        ensures accepted { result.accepted ≡ accepted }
+        ensures connected { result.connected ≡ came - left }
+        ensures accepted { result.accepted ≡ came }
     {
         let clock = reading_of(clock, &self.watch);
         ServiceSnapshot {
             version,
             began: self.began,
-            connected,
-            accepted,
+            connected: came.saturating_sub(left),
+            accepted: came,
             clock,
             steps_back: self.watch.steps_back(),
         }

@@ -1,4 +1,5 @@
 -- The texts of lines.
+use Rattle.std.specs.Borrow.{Bor}
 use Rattle.std.specs.Prelude.{◌≡◌, ℕ, ◌==◌, if◌then◌else◌, List, [], ◌++◌, Option, None, Some, slice_get, codes, decimal}
 use Rattle.mr_phases.specs.PhaseText.{phase_text}
 use Rattle.mr_phases.specs.declared.phase_name.PhaseName.{PhaseName}
@@ -28,13 +29,18 @@ named_link number (Some (pool, name)) = codes "link to " ++ (name ++ (codes " of
 abbrev pub link_text : List (List (List ℕ)) → ℕ → List ℕ
 link_text pools number = named_link number (slice_get (nodes_of pools) number)
 
--- a service that listens: where, by how many loops, with which configuration, in which version
+-- the configuration of a service, if it has one
+abbrev pub config_text : Option (Bor (List ℕ)) → List ℕ
+config_text None = []
+config_text (Some config) = codes ", configuration " ++ config.now
+
+-- a service that listens: where, by how many loops, with which configuration if it has one, in which version
 abbrev pub listens_text : Service → ℕ → List ℕ
 listens_text service loops =
     codes "listens at " ++ (service.address.now
     ++ (codes ", loops " ++ (decimal loops
-    ++ (codes ", configuration " ++ (service.config.now
-    ++ (codes ", version " ++ service.version.now))))))
+    ++ (config_text service.config
+    ++ (codes ", version " ++ service.version.now)))))
 
 -- the phase of a migration
 abbrev pub entered_text : ℕ → PhaseName → List ℕ

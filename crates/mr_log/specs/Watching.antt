@@ -7,15 +7,15 @@ use Rattle.mr_log.specs.declared.watcher.Seen.{Seen}
 
 -- a watcher
 pub record WatcherView : Type 0 where
-  -- the migrations by which readings are judged
-  pub hops : List Hop
+  -- the migrations by which readings are judged, if they are by any
+  pub hops : Option (List Hop)
   -- the last reading
   pub last : Option ℕ
   -- the latest one, which is another where the clock went back
   pub greatest : Option ℕ
 
 -- a watcher that has seen no reading
-abbrev pub new_watcher : List Hop → WatcherView
+abbrev pub new_watcher : Option (List Hop) → WatcherView
 new_watcher hops = record { hops = hops; last = None; greatest = None }
 
 -- the phase of a reading is told
@@ -27,11 +27,12 @@ pub record IsSameStanding (hops : List Hop) (reading later : ℕ) : Type 0 where
   pub hop : hop_of hops reading ≡ hop_of hops later
   pub phase : phase_of hops reading ≡ phase_of hops later
 
--- what is told of the phase of a reading: nothing where the reading before stood there too
-abbrev pub PhaseNews : List Hop → Option ℕ → ℕ → Option Happening → Type 0
-PhaseNews hops None now news = news ≡ Some (entered_at hops now)
-PhaseNews hops (Some last) now None = IsSameStanding hops last now
-PhaseNews hops (Some last) now (Some happening) = (¬ IsSameStanding hops last now) × (happening ≡ entered_at hops now)
+-- what is told of the phase of a reading: nothing without migrations, nor where the reading before stood there too
+abbrev pub PhaseNews : Option (List Hop) → Option ℕ → ℕ → Option Happening → Type 0
+PhaseNews None last now news = news ≡ None
+PhaseNews (Some hops) None now news = news ≡ Some (entered_at hops now)
+PhaseNews (Some hops) (Some last) now None = IsSameStanding hops last now
+PhaseNews (Some hops) (Some last) now (Some happening) = (¬ IsSameStanding hops last now) × (happening ≡ entered_at hops now)
 
 -- what is told of a reading beside the latest one before: that the clock went back, where it is earlier
 abbrev pub went_back : Option ℕ → ℕ → Option Happening

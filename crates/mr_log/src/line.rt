@@ -1,6 +1,6 @@
 //! The text of a line.
 ghost use Rattle.std.specs.Prelude.{◌≡◌, ◌++◌, OnOk, IfOk};
-ghost use Rattle.mr_log.specs.Lines.{link_text, listens_text, entered_text, back_text, wait_text, happening_text, more_text, IsLine};
+ghost use Rattle.mr_log.specs.Lines.{link_text, config_text, listens_text, entered_text, back_text, wait_text, happening_text, more_text, IsLine};
 
 use crate::happening::Happening;
 use crate::log::Said;
@@ -18,9 +18,9 @@ pub struct Service<'a> {
     pub version: &'a str,
     /// Where clients connect: a host and a port, with a colon between them.
     pub address: &'a str,
-    /// The digest of its configuration.
-    pub config: &'a str,
-    /// Its pools, whose nodes are counted pool by pool.
+    /// The digest of its configuration, if it has one: a proxy does.
+    pub config: Option<&'a str>,
+    /// Its pools, whose nodes are counted pool by pool. It has none where it has no configuration.
     pub pools: &'a [Pool],
 }
 
@@ -49,6 +49,17 @@ fn push_link(text: &mut Vec<u8>, pools: &[Pool], number: usize) -> Result<(), Al
     }
 }
 
+/// Adds the configuration of a service that has one.
+fn push_config(text: &mut Vec<u8>, config: Option<&str>) -> Result<(), AllocError>
+    ensures { OnOk result (text.new.items ≡ text.old.items ++ config_text config.entry) }
+{
+    let Some(config) = config else {
+        return Ok(());
+    };
+    push_words(text, ", configuration ")?;
+    push_words(text, config)
+}
+
 /// Adds that the service listens.
 fn push_listens(text: &mut Vec<u8>, service: &Service<'_>, loops: u64) -> Result<(), AllocError>
     ensures { OnOk result (text.new.items ≡ text.old.items ++ listens_text service.now loops) }
@@ -57,8 +68,7 @@ fn push_listens(text: &mut Vec<u8>, service: &Service<'_>, loops: u64) -> Result
     push_words(text, service.address)?;
     push_words(text, ", loops ")?;
     push_number(text, loops)?;
-    push_words(text, ", configuration ")?;
-    push_words(text, service.config)?;
+    push_config(text, service.config)?;
     push_words(text, ", version ")?;
     push_words(text, service.version)
 }

@@ -18,7 +18,7 @@ pub struct Seen {
 /// A look at a clock now and then, whose readings are in seconds since the epoch.
 #[derive(Drop)]
 pub struct Watcher {
-    schedule: Schedule,
+    schedule: Option<Schedule>,
     last: Option<u64>,
     greatest: Option<u64>,
 }
@@ -50,10 +50,11 @@ fn stand_alike(schedule: Schedule, reading: u64, later: u64) -> bool
     ours.hop() == theirs.hop() && ours.name() == theirs.name()
 }
 
-/// The phase of a reading, where the one before stood in another, or there was none.
-fn phase_news(schedule: Schedule, last: Option<u64>, now: u64) -> Option<Happening>
+/// The phase of a reading, where the one before stood in another, or there was none. None without a schedule.
+fn phase_news(schedule: Option<Schedule>, last: Option<u64>, now: u64) -> Option<Happening>
     ensures { PhaseNews schedule last now result }
 {
+    let schedule = schedule?;
     if let Some(last) = last
         && stand_alike(schedule, last, now)
     {
@@ -88,8 +89,8 @@ fn later_of(greatest: Option<u64>, now: u64) -> u64
 impl Watcher {
     ghost use Rattle.mr_log.specs.Watching.{new_watcher, IsSeen, watched};
 
-    /// A watcher that has seen no reading, with the schedule by which readings are judged.
-    pub fn new(schedule: Schedule) -> Watcher
+    /// A watcher that has seen no reading, with the schedule by which readings are judged. Without one no phase is told.
+    pub fn new(schedule: Option<Schedule>) -> Watcher
         ensures { result ≡ new_watcher schedule }
     {
         Watcher {

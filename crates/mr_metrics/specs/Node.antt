@@ -37,6 +37,18 @@ abbrev pub evictions_family : ℕ → List ℕ
 evictions_family evicted =
     one_number (codes "migctl_node_evictions_total") (codes "Items that went since a new one took their room.") Counter evicted
 
+-- how many loops serve its clients
+abbrev pub node_loops_family : ℕ → List ℕ
+node_loops_family loops = one_number (codes "migctl_node_loops") (codes "Loops that serve clients.") Gauge loops
+
+-- what it performed
+abbrev pub performed_text : NodeSnapshot → List ℕ
+performed_text snapshot =
+    gets_family snapshot.hits snapshot.misses
+    ++ (sets_family snapshot.stored
+    ++ (deletes_family snapshot.deleted snapshot.not_found
+    ++ evictions_family snapshot.evicted))
+
 -- a node
 abbrev pub node_text : NodeSnapshot → List ℕ
 node_text snapshot =
@@ -44,7 +56,5 @@ node_text snapshot =
     ++ (address_family snapshot.address.now
     ++ (items_family snapshot.items
     ++ (capacity_family snapshot.capacity
-    ++ (gets_family snapshot.hits snapshot.misses
-    ++ (sets_family snapshot.stored
-    ++ (deletes_family snapshot.deleted snapshot.not_found
-    ++ evictions_family snapshot.evicted))))))
+    ++ (performed_text snapshot
+    ++ node_loops_family snapshot.loops))))

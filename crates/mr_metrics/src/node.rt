@@ -1,6 +1,6 @@
 //! What a node tells of itself.
 ghost use Rattle.std.specs.Prelude.{◌≡◌, ◌++◌, IfOk, OnOk};
-ghost use Rattle.mr_metrics.specs.Node.{address_family, items_family, capacity_family, gets_family, sets_family, deletes_family, evictions_family, node_text};
+ghost use Rattle.mr_metrics.specs.Node.{address_family, items_family, capacity_family, gets_family, sets_family, deletes_family, evictions_family, node_loops_family, performed_text, node_text};
 
 use crate::exposition::Kind;
 use crate::families::{Count, push_info, push_one, push_two};
@@ -30,6 +30,8 @@ pub struct NodeSnapshot<'a> {
     pub not_found: u64,
     /// How many items went since a new one took their room.
     pub evicted: u64,
+    /// How many loops serve its clients.
+    pub loops: u64,
 }
 
 /// Adds where clients connect.
@@ -143,6 +145,30 @@ fn push_evicted(text: &mut Vec<u8>, evicted: u64) -> Result<(), AllocError>
     )
 }
 
+/// Adds how many loops there are.
+fn push_node_loops(text: &mut Vec<u8>, loops: u64) -> Result<(), AllocError>
+    ensures { OnOk result (text.new.items ≡ text.old.items ++ node_loops_family loops) }
+{
+    push_one(
+        text,
+        "migctl_node_loops",
+        "Loops that serve clients.",
+        Kind::Gauge,
+        loops,
+    )
+}
+
+/// Adds what it performed.
+fn push_performed(text: &mut Vec<u8>, snapshot: &NodeSnapshot<'_>) -> Result<(), AllocError>
+    ensures { OnOk result (text.new.items ≡ text.old.items ++ performed_text snapshot.now) }
+{
+    push_gets(text, snapshot.hits, snapshot.misses)?;
+    push_stored(text, snapshot.stored)?;
+    push_deletes(text, snapshot.deleted, snapshot.not_found)?;
+    push_evicted(text, snapshot.evicted)?;
+    Ok(())
+}
+
 /// What a node tells of itself, in the text exposition format of version 0.0.4.
 pub fn node_metrics(alloc: Global, snapshot: &NodeSnapshot<'_>) -> Result<Vec<u8>, AllocError>
     ensures { IfOk result (λ text. text.items ≡ node_text snapshot.now) }
@@ -152,9 +178,7 @@ pub fn node_metrics(alloc: Global, snapshot: &NodeSnapshot<'_>) -> Result<Vec<u8
     push_address(&mut text, snapshot.address)?;
     push_items(&mut text, snapshot.items)?;
     push_capacity(&mut text, snapshot.capacity)?;
-    push_gets(&mut text, snapshot.hits, snapshot.misses)?;
-    push_stored(&mut text, snapshot.stored)?;
-    push_deletes(&mut text, snapshot.deleted, snapshot.not_found)?;
-    push_evicted(&mut text, snapshot.evicted)?;
+    push_performed(&mut text, snapshot)?;
+    push_node_loops(&mut text, snapshot.loops)?;
     Ok(text)
 }

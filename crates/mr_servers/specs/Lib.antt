@@ -3,6 +3,7 @@ pub mod Drives
 pub mod DrivesOf
 pub mod Driving
 pub mod Hearing
+pub mod NodeTelling
 pub mod Reports
 pub mod Seeds
 pub mod Servers

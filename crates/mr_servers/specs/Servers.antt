@@ -10,7 +10,8 @@ use Rattle.mr_sockets.specs.Listening.{Listens, ListensNowhere}
 use Rattle.mr_sockets.specs.SeededNode.{SeededView}
 use Rattle.mr_sockets.specs.Serving.{NodeServing, ProxyServing, Run, run}
 use Rattle.mr_sockets.specs.declared.bounds.ServiceBounds.{ServiceBounds}
-use Rattle.mr_servers.specs.Drives.{Drive, drive}
+use Rattle.mr_servers.specs.Drives.{Drive, NodeDrive, ProxyDrive}
+use Rattle.mr_servers.specs.declared.driven_node.NodeLoops.{NodeLoops}
 use Rattle.mr_servers.specs.declared.fault.OpenFault.{OpenFault}
 use Rattle.mr_servers.specs.declared.fault.OpenFault.TheVariants.{Net, Metrics, OutOfMemory}
 use Rattle.mr_servers.specs.declared.fault.SeedFault.{SeedFault}
@@ -25,10 +26,6 @@ pub record Places : Type 0 where
 abbrev pub clients_at : List ℕ → Places
 clients_at listen = record { listen = listen; metrics = None }
 
--- for clients, and for those that scrape its metrics
-abbrev pub told_at : List ℕ → List ℕ → Places
-told_at listen metrics = record { listen = listen; metrics = Some metrics }
-
 -- a service that is asked for, with the addresses that it listens at and its bounds
 pub data Asked : Type 0 where
   -- a node
@@ -37,30 +34,36 @@ pub data Asked : Type 0 where
   ProxyAt : (places : Places) (proxy : ProxyView) (routing : RoutingView) (bounds : ServiceBounds) → Asked
   -- a proxy on these loops
   LoopsAt : (places : Places) (loops : List LoopView) (bounds : DriverBounds) → Asked
+  -- a node that these loops share
+  NodeLoopsAt : (places : Places) (node : SeededView) (loops : NodeLoops) (bounds : DriverBounds) → Asked
 
 -- the addresses that it listens at
 abbrev pub places_of : Asked → Places
 places_of (NodeAt places node bounds) = places
 places_of (ProxyAt places proxy routing bounds) = places
 places_of (LoopsAt places loops bounds) = places
+places_of (NodeLoopsAt places node loops bounds) = places
 
 -- the number of its clients
 abbrev pub clients_of : Asked → ℕ
 clients_of (NodeAt places node bounds) = bounds.clients
 clients_of (ProxyAt places proxy routing bounds) = bounds.clients
 clients_of (LoopsAt places loops bounds) = bounds.clients
+clients_of (NodeLoopsAt places node loops bounds) = bounds.clients
 
 -- the services of threads that ran, with this one behind them where it is one
 abbrev pub runs_after : Asked → List Run → List Run
 runs_after (NodeAt places node bounds) runs = runs ++ run (NodeServing (Some node) bounds.turns) bounds.clients ∷ []
 runs_after (ProxyAt places proxy routing bounds) runs = runs ++ run (ProxyServing (Some proxy) routing bounds.turns) bounds.clients ∷ []
 runs_after (LoopsAt places loops bounds) runs = runs
+runs_after (NodeLoopsAt places node loops bounds) runs = runs
 
 -- the services on loops that ran, with this one behind them where it is one
 abbrev pub drives_after : Asked → List Drive → List Drive
 drives_after (NodeAt places node bounds) drives = drives
 drives_after (ProxyAt places proxy routing bounds) drives = drives
-drives_after (LoopsAt places loops bounds) drives = drives ++ drive loops bounds ∷ []
+drives_after (LoopsAt places loops bounds) drives = drives ++ ProxyDrive loops bounds ∷ []
+drives_after (NodeLoopsAt places node loops bounds) drives = drives ++ NodeDrive node loops bounds ∷ []
 
 -- a place that is no terminal
 abbrev pub no_terminal : Screen
@@ -102,11 +105,6 @@ abbrev pub DrawsSeed : ServersView → Result RandomState SeedFault → ServersV
 DrawsSeed old result new =
     new ≡ record old { seeds = seeds_after old.seeds result; failures = failures_after old.failures result }
 
--- loops were driven within these bounds and are noted, or couldn't be and are counted as a failure
-abbrev pub noted_drive : List LoopView → DriverBounds → Result ℕ OpenFault → ServersView → ServersView
-noted_drive loops bounds (Ok served) s = record s { drives = s.drives ++ drive loops bounds ∷ [] }
-noted_drive loops bounds (Err fault) s = record s { failures = s.failures + 1 }
-
 -- a socket was asked for at the address of clients, and then one at that of metrics, if there is one
 abbrev pub ListensAtBoth : List ℕ → Option (List ℕ) → List SocketAddrV4 → List SocketAddrV4 → Type 0
 ListensAtBoth listen None old new = Listens listen old new
@@ -134,11 +132,20 @@ LacksPlace places Net old new = LacksSocket places.listen old new
 LacksPlace places Metrics old new = LacksMetrics places.listen places.metrics old new
 LacksPlace places OutOfMemory old new = ⊥
 
--- the sockets of a proxy on loops were had, and its loops couldn't be opened: for want of memory, or for anything else
+-- the sockets of a service on loops were had, and its loops couldn't be opened: for want of memory, or for anything else
 abbrev pub LacksLoops : Asked → OpenFault → List SocketAddrV4 → List SocketAddrV4 → Type 0
 LacksLoops (LoopsAt places loops bounds) Net old new = ListensAtBoth places.listen places.metrics old new
 LacksLoops (LoopsAt places loops bounds) OutOfMemory old new = ListensAtBoth places.listen places.metrics old new
+LacksLoops (NodeLoopsAt places node loops bounds) Net old new = ListensAtBoth places.listen places.metrics old new
+LacksLoops (NodeLoopsAt places node loops bounds) OutOfMemory old new = ListensAtBoth places.listen places.metrics old new
 LacksLoops asked fault old new = ⊥
+
+-- both sockets of a service were had, or one wasn't, which is counted; nothing else was done
+abbrev pub OpensBoth : {A : Type 0} → Places → ServersView → Result A OpenFault → ServersView → Type 0
+OpensBoth places old (Ok sockets) new =
+    ListensAtBoth places.listen places.metrics old.listened new.listened × (new ≡ record old { listened = new.listened })
+OpensBoth places old (Err fault) new =
+    LacksPlace places fault old.listened new.listened × (new ≡ record old { listened = new.listened; failures = old.failures + 1 })
 
 -- a service lacked a socket, or what its loops need, and didn't run
 pub record RanNot (asked : Asked) (old : ServersView) (fault : OpenFault) (new : ServersView) : Type 0 where

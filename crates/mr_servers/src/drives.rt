@@ -1,9 +1,11 @@
 //! The loops that were driven, which only contracts see.
 ghost use Rattle.std.specs.Prelude.{◌≡◌, [], ◌∷◌, ◌++◌};
-ghost use Rattle.mr_servers.specs.Drives.{drive};
+ghost use Rattle.mr_servers.specs.Drives.{ProxyDrive, NodeDrive};
 
+use crate::driven_node::NodeLoops;
 use mr_driver::DriverBounds;
 use mr_loop::ProxyLoop;
+use mr_sockets::SeededNode;
 use std::marker::Model;
 use std::snapshot::Snapshot;
 
@@ -12,8 +14,10 @@ use std::snapshot::Snapshot;
 pub(crate) enum Drives {
     /// Nothing yet.
     Nothing,
-    /// One more: its loops as they were at first, and its bounds.
-    And(Snapshot<Drives>, Snapshot<Vec<ProxyLoop>>, Snapshot<DriverBounds>),
+    /// One more, of a proxy: its loops as they were at first, and its bounds.
+    Proxy(Snapshot<Drives>, Snapshot<Vec<ProxyLoop>>, Snapshot<DriverBounds>),
+    /// One more, of a node: the node as it was at first, its loops, and its bounds.
+    Node(Snapshot<Drives>, Snapshot<SeededNode>, Snapshot<NodeLoops>, Snapshot<DriverBounds>),
 }
 
 /// The services on loops that ran, which contracts see as a list and the program doesn't keep.
@@ -42,11 +46,24 @@ impl GhostDrives {
         }
     }
 
-    /// One more, of loops that were so at first, within these bounds.
-    pub(crate) fn add(&mut self, loops: Snapshot<Vec<ProxyLoop>>, bounds: DriverBounds)
-        ensures { self.new ≡ self.old ++ drive loops.value.items bounds ∷ [] }
+    /// One more, of a proxy whose loops were so at first, within these bounds.
+    pub(crate) fn add_proxy(&mut self, loops: Snapshot<Vec<ProxyLoop>>, bounds: DriverBounds)
+        ensures { self.new ≡ self.old ++ ProxyDrive loops.value.items bounds ∷ [] }
     {
         let before = Snapshot::of(&self.drives);
-        self.drives = Drives::And(before, loops, Snapshot::of(&bounds));
+        self.drives = Drives::Proxy(before, loops, Snapshot::of(&bounds));
+    }
+
+    /// One more, of a node that was so at first, on these loops, within these bounds.
+    pub(crate) fn add_node(
+        &mut self,
+        node: Snapshot<SeededNode>,
+        loops: NodeLoops,
+        bounds: DriverBounds,
+    )
+        ensures { self.new ≡ self.old ++ NodeDrive node.value loops bounds ∷ [] }
+    {
+        let before = Snapshot::of(&self.drives);
+        self.drives = Drives::Node(before, node, Snapshot::of(&loops), Snapshot::of(&bounds));
     }
 }

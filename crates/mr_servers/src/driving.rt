@@ -1,25 +1,20 @@
-//! The service of a proxy on loops, with metrics that it tells or without, and with a log that it says or without.
-ghost use Rattle.std.specs.Prelude.{◌≡◌, ◌≢◌, ◌≤◌, IfOk, IfErr};
-ghost use Rattle.mr_servers.specs.Driving.{IsKnownOf, fault_of};
-ghost use Rattle.mr_servers.specs.declared.fault.OpenFault.{OpenFault};
+//! The service of loops, whatever they serve: with metrics that it tells or without, and with a log that it says or without.
+ghost use Rattle.std.specs.Prelude.{◌≡◌, ◌≤◌};
+ghost use Rattle.mr_servers.specs.Driving.{fault_of};
 
 use crate::fault::OpenFault;
 use crate::hearing::Ears;
-use crate::host_servers::{Telling, moment_now};
-use crate::loop_teller::LoopTeller;
-use crate::reports::room_of;
+use crate::host_servers::moment_now;
 use crate::saying::Speaker;
 use crate::scrapes::{ScrapeState, serve_scrapers};
-use mr_clock::SystemClock;
-use mr_counting::{ProxyIdentity, ServiceTime};
-use mr_driver::{Doors, DriverBounds, Hears, Loops, open_loops, serve};
+use mr_counting::ClockWatch;
+use mr_driver::{CacheDesk, Doors, DriverBounds, Hears, LoopReport, Loops, serve};
 use mr_http::Tells;
 use mr_log::{Happening, Log, Service};
-use mr_loop::ProxyLoop;
+use mr_loop::{NodeLoop, ProxyLoop, ServedCounts};
 use mr_phases::Schedule;
-use mr_pools::Routing;
-use mr_sockets::node_addresses;
-use std::alloc::{AllocError, Global};
+use mr_pools::Pool;
+use std::alloc::Global;
 use std::io::Stderr;
 use std::net::{Net, TcpListener, TcpStream};
 use std::sync::{Mutex, Wait};
@@ -27,61 +22,56 @@ use std::thread::{Scope, Threads};
 use std::time::Clock;
 use std::{io, thread};
 
-/// What is told and said of the machines of a proxy that doesn't change.
-#[derive(Drop)]
-pub(crate) struct Known {
-    /// The names of its nodes.
-    pub(crate) routing: Routing,
-    /// When its phases begin.
-    pub(crate) schedule: Schedule,
-    /// How many requests may be under way at once, in all of them together.
-    pub(crate) room: u64,
-    /// How many there are.
+/// Where a service on loops stands.
+#[derive(Clone, Copy)]
+pub(crate) struct Site<'a> {
+    /// The version of the program.
+    pub(crate) version: &'a str,
+    /// Where clients connect, as it was asked for.
+    pub(crate) listen: &'a str,
+    /// The socket there.
+    pub(crate) listener: &'a TcpListener,
+    /// Where it is said what happens, if it is.
+    pub(crate) voice: Option<Stderr>,
+}
+
+/// What is said of a service on loops beside where it stands.
+#[derive(Clone, Copy)]
+pub(crate) struct Nature<'a> {
+    /// The digest of its configuration, if it has one.
+    pub(crate) config: Option<&'a str>,
+    /// Its pools, of which it has none without a configuration.
+    pub(crate) pools: &'a [Pool],
+    /// When its phases begin, if it has some.
+    pub(crate) schedule: Option<Schedule>,
+    /// How many loops it has.
     pub(crate) loops: u64,
 }
 
-/// What is told and said of machines that doesn't change: the nodes and the phases are those of the first. None where there is none.
-fn known_of(machines: &[ProxyLoop]) -> Result<Option<Known>, AllocError>
-    ensures { IfOk result (IsKnownOf machines.now) }
-{
-    let Some(first) = machines.first() else {
-        return Ok(None);
-    };
-    let routing = first.core().routing().copy()?;
-    Ok(Some(Known {
-        routing,
-        schedule: first.core().schedule(),
-        room: room_of(machines),
-        loops: machines.len() as u64,
-    }))
+/// Loops that are to serve clients, with the doors by which they are asked.
+pub(crate) enum Running<'a, R: Wait + Sync> {
+    /// Those of a proxy.
+    Proxy(Loops<ProxyLoop>, &'a Doors<LoopReport>),
+    /// Those of a node.
+    Node(Loops<NodeLoop<CacheDesk<'a, 'a, R>>>, &'a Doors<ServedCounts>),
+}
+
+impl<'a, R: Wait + Sync> Drop for Running<'a, R> {
+    fn drop(self) {
+        match self {
+            Running::Proxy(_, _) => {}
+            Running::Node(_, _) => {}
+        }
+    }
 }
 
 /// Why loops couldn't be opened, by the kind of the machine's error.
-fn fault_of(kind: io::ErrorKind) -> OpenFault
+pub(crate) fn fault_of(kind: io::ErrorKind) -> OpenFault
     ensures { result ≡ fault_of kind }
 {
     match kind {
         io::ErrorKind::OutOfMemory => OpenFault::OutOfMemory,
         _ => OpenFault::Net,
-    }
-}
-
-/// A loop for each machine, with links to the nodes of a routing. OutOfMemory where memory is refused, Net where they can't be opened for
-/// anything else, as for want of descriptors.
-fn open_all<R: Net>(
-    rt: &R,
-    alloc: Global,
-    machines: Vec<ProxyLoop>,
-    routing: &Routing,
-) -> Result<(Loops, Doors), OpenFault>
-    ensures { IfErr result (λ fault. fault ≢ OpenFault.Metrics) }
-{
-    let Ok(nodes) = node_addresses(alloc, routing) else {
-        return Err(OpenFault::OutOfMemory);
-    };
-    match open_loops(rt, alloc, machines, nodes.as_slice()) {
-        Ok(opened) => Ok(opened),
-        Err(error) => Err(fault_of(error.kind())),
     }
 }
 
@@ -120,6 +110,33 @@ fn begin_speaker<
     }
 }
 
+impl<
+    'a,
+    R: Net<Listener = TcpListener, Stream = TcpStream> + Threads + Wait + Clock + Sync,
+> Running<'a, R> {
+    /// Serves clients by these loops as `serve` does.
+    fn serve<E: Hears + Sync>(
+        self,
+        rt: &R,
+        alloc: Global,
+        listener: &TcpListener,
+        bounds: DriverBounds,
+        watch: &ClockWatch,
+        ears: &E,
+    ) -> u64
+        ensures { result ≤ bounds.clients }
+    {
+        match self {
+            Running::Proxy(loops, doors) => {
+                serve(rt, alloc, listener, loops, doors, bounds, watch, ears)
+            }
+            Running::Node(loops, doors) => {
+                serve(rt, alloc, listener, loops, doors, bounds, watch, ears)
+            }
+        }
+    }
+}
+
 /// Serves clients by loops as `serve` does, beside threads of this scope for scrapers, if there is a socket for them, and for what is
 /// said, if there is a voice. Then these are told that it has ended.
 fn serve_in<
@@ -132,23 +149,21 @@ fn serve_in<
     rt: &'s R,
     scope: &'s Scope<'s, &'e ()>,
     alloc: Global,
-    listener: &TcpListener,
+    site: Site<'_>,
     scrapers: Option<TcpListener>,
     teller: &'s T,
-    voice: Option<Stderr>,
     speaker: &'s Speaker<'s, R>,
-    loops: Loops,
-    doors: &Doors,
+    running: Running<'_, R>,
     bounds: DriverBounds,
-    time: &ServiceTime,
+    watch: &ClockWatch,
     ears: &E,
     state: &'s ScrapeState,
 ) -> u64
     ensures { result ≤ bounds.clients }
 {
     begin_scrapers(rt, scope, alloc, scrapers, teller, state);
-    begin_speaker(scope, voice, speaker, state);
-    let served = serve(rt, alloc, listener, loops, doors, bounds, &time.watch, ears);
+    begin_speaker(scope, site.voice, speaker, state);
+    let served = running.serve(rt, alloc, site.listener, bounds, watch, ears);
     state.end();
     served
 }
@@ -162,15 +177,13 @@ fn serve_all<
 >(
     rt: &R,
     alloc: Global,
-    listener: &TcpListener,
+    site: Site<'_>,
     scrapers: Option<TcpListener>,
     teller: &T,
-    voice: Option<Stderr>,
     speaker: &Speaker<'_, R>,
-    loops: Loops,
-    doors: &Doors,
+    running: Running<'_, R>,
     bounds: DriverBounds,
-    time: &ServiceTime,
+    watch: &ClockWatch,
     ears: &E,
 ) -> u64
     ensures { result ≤ bounds.clients }
@@ -179,121 +192,52 @@ fn serve_all<
     let lent = &state;
     let served = thread::scope(thread::scope_env(), rt, move |scope| {
         serve_in(
-            rt, scope, alloc, listener, scrapers, teller, voice, speaker, loops, doors, bounds,
-            time, ears, lent,
+            rt, scope, alloc, site, scrapers, teller, speaker, running, bounds, watch, ears, lent,
         )
     });
     // it is no more already, which isn't known of what a scope gives
     served.min(bounds.clients)
 }
 
-/// Who a proxy of these machines is.
-fn identity_of<'a>(
-    telling: Telling<'a>,
-    known: &'a Known,
-    bounds: DriverBounds,
-) -> ProxyIdentity<'a>
-    ensures version { result.version.now ≡ telling.entry.version.now }
-    ensures config { result.config.now ≡ telling.entry.config.now }
-    ensures routing { result.routing.now ≡ known.entry.now.routing }
-    ensures schedule { result.schedule ≡ known.entry.now.schedule }
-    ensures room { result.room ≡ known.entry.now.room }
-    ensures max_clients { result.max_clients ≡ bounds.most_clients }
-{
-    ProxyIdentity {
-        version: telling.version,
-        config: telling.config,
-        routing: &known.routing,
-        schedule: known.schedule,
-        room: known.room,
-        max_clients: bounds.most_clients,
-    }
-}
-
-/// Serves clients as `serve_all` does: tells what the loops of this proxy report, and says what happens to it.
-fn serve_known<
+/// Serves so many clients that come to a socket by these loops, and gives how many of them ended without a fault, once all have. What
+/// the teller tells is told at the other socket, if there is one, and what happens is noted in this log and said, if there is a voice.
+pub(crate) fn serve_loops<
     'a,
     R: Net<Listener = TcpListener, Stream = TcpStream> + Threads + Wait + Clock + Sync,
+    T: Tells + Sync,
 >(
     rt: &'a R,
     alloc: Global,
-    voice: Option<Stderr>,
-    listen: &'a str,
-    listener: &TcpListener,
+    site: Site<'a>,
+    nature: Nature<'a>,
     scrapers: Option<TcpListener>,
-    telling: Telling<'a>,
-    known: &'a Known,
-    loops: Loops,
-    doors: &'a Doors,
+    teller: &T,
+    running: Running<'_, R>,
     bounds: DriverBounds,
-    time: &'a ServiceTime,
-    clock: &'a SystemClock<'a, R>,
+    watch: &'a ClockWatch,
     log: &'a Mutex<Log>,
 ) -> u64
     ensures { result ≤ bounds.clients }
 {
+    log.lock(rt).note(Happening::Listens {
+        loops: nature.loops,
+    });
     let ears = Ears::new(rt, log, bounds.most_clients);
-    let teller = LoopTeller {
-        rt,
-        identity: identity_of(telling, known, bounds),
-        doors,
-        time,
-        clock,
-    };
     let speaker = Speaker {
         rt,
         alloc,
         service: Service {
-            version: telling.version,
-            address: listen,
-            config: telling.config,
-            pools: known.routing.pools(),
+            version: site.version,
+            address: site.listen,
+            config: nature.config,
+            pools: nature.pools,
         },
-        schedule: known.schedule,
+        schedule: nature.schedule,
         log,
-        watch: &time.watch,
+        watch,
         begun: moment_now(rt),
     };
     serve_all(
-        rt, alloc, listener, scrapers, &teller, voice, &speaker, loops, doors, bounds, time, &ears,
+        rt, alloc, site, scrapers, teller, &speaker, running, bounds, watch, &ears,
     )
-}
-
-/// Serves so many clients that come to a socket by a loop for each machine, and gives how many of them ended without a fault, once all
-/// have. Its metrics are told at the other socket, if there is one, and what happens to it is said, if there is a voice. Without a
-/// machine nobody is served. OutOfMemory where memory is refused before the first client, Net where the loops can't be opened for
-/// anything else.
-pub(crate) fn drive<
-    R: Net<Listener = TcpListener, Stream = TcpStream> + Threads + Wait + Clock + Sync,
->(
-    rt: &R,
-    alloc: Global,
-    voice: Option<Stderr>,
-    listen: &str,
-    listener: &TcpListener,
-    scrapers: Option<TcpListener>,
-    telling: Telling<'_>,
-    machines: Vec<ProxyLoop>,
-    bounds: DriverBounds,
-) -> Result<u64, OpenFault>
-    ensures among { IfOk result (λ served. served ≤ bounds.clients) }
-    ensures fault { IfErr result (λ fault. fault ≢ OpenFault.Metrics) }
-{
-    let known = match known_of(machines.as_slice()) {
-        Ok(Some(known)) => known,
-        Ok(None) => return Ok(0),
-        Err(_) => return Err(OpenFault::OutOfMemory),
-    };
-    let (loops, doors) = match open_all(rt, alloc, machines, &known.routing) {
-        Ok(opened) => opened,
-        Err(fault) => return Err(fault),
-    };
-    let clock = SystemClock::new(rt);
-    let time = ServiceTime::new(&clock);
-    let log = Mutex::new(Log::new());
-    log.lock(rt).note(Happening::Listens { loops: known.loops });
-    Ok(serve_known(
-        rt, alloc, voice, listen, listener, scrapers, telling, &known, loops, &doors, bounds,
-        &time, &clock, &log,
-    ))
 }

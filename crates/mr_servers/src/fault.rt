@@ -5,13 +5,13 @@ use thiserror::Error;
 /// Why a service can't begin. Nothing was accepted then.
 #[derive(Clone, Copy, Debug, PartialEq, Eq, Error)]
 pub enum OpenFault {
-    /// The address is none, or no socket can listen there; or the loops of a proxy can't be opened, as for want of descriptors.
+    /// The address is none, or no socket can listen there; or the loops can't be opened, as for want of descriptors.
     #[error("no socket can be opened")]
     Net,
     /// The address of its metrics is none, or no socket can listen there.
     #[error("no socket can be opened for metrics")]
     Metrics,
-    /// Memory was refused for the loops of a proxy, once its sockets were had.
+    /// Memory was refused for loops, once the sockets were had.
     #[error("out of memory")]
     OutOfMemory,
 }

@@ -1,4 +1,4 @@
-//! What is heard of the loops of a proxy, noted for its log.
+//! What is heard of the loops of a service, noted for its log.
 ghost use Rattle.std.specs.Prelude.{◌≡◌};
 ghost use Rattle.mr_servers.specs.Hearing.{trouble_of, happening_of};
 

@@ -1,17 +1,17 @@
 //! The services of this machine.
 ghost use Rattle.std.specs.Prelude.{◌≡◌, option_map};
 ghost use Rattle.mr_proxy.specs.ProxyView.{IsFresh};
-ghost use Rattle.mr_servers.specs.Servers.{DrawsSeed, IsOneService, NodeAt, ProxyAt, LoopsAt, clients_at, noted_drive, told_at};
+ghost use Rattle.mr_servers.specs.Servers.{DrawsSeed, IsOneService, NodeAt, ProxyAt, LoopsAt, NodeLoopsAt, OpensBoth, clients_at};
 
 use crate::asking::{metrics_at, stats_at};
+use crate::driven_node::{NodeLoops, drive_node};
+use crate::driven_proxy::drive_proxy;
 use crate::drives::GhostDrives;
-use crate::driving::drive;
+use crate::driving::Site;
 use crate::fault::{OpenFault, SeedFault};
 use crate::listening::MachineListens;
 use crate::screen::Screen;
 use crate::seeds::GhostSeeds;
-use crate::told_node::run_told_node;
-use mr_counting::NodeIdentity;
 use mr_driver::DriverBounds;
 use mr_loop::ProxyLoop;
 use mr_pools::Routing;
@@ -24,28 +24,16 @@ use std::io::Stderr;
 use std::marker::Model;
 use std::net::{Net, TcpListener, TcpStream};
 use std::random::RandomSource;
-use std::snapshot::Snapshot;
 use std::sync::Wait;
 use std::thread::Threads;
 use std::time::{Duration, Instant, SystemTime, UNIX_EPOCH};
 use std::{thread, time};
 
-/// Where the metrics of a service are told, and of which version of the program.
-#[derive(Clone, Copy, Debug)]
-pub struct Scraped<'a> {
-    /// Where those that scrape them connect: a host and a port, with a colon between them.
-    pub address: &'a str,
-    /// The version of the program.
-    pub version: &'a str,
-}
-
-/// What a proxy on loops tells of itself, and where.
+/// What a service on loops tells of itself, and where.
 #[derive(Clone, Copy, Debug)]
 pub struct Telling<'a> {
     /// The version of the program.
     pub version: &'a str,
-    /// The SHA-256 of its configuration as transcripts write it, in hexadecimal digits.
-    pub config: &'a str,
     /// Where those that scrape its metrics connect, if they are told: a host and a port, with a colon between them.
     pub metrics: Option<&'a str>,
     /// Whether nothing is said on standard error of what happens to it.
@@ -188,11 +176,6 @@ impl<
         self
     }
 
-    /// Where it is said what happens to a service, unless that is quiet.
-    fn voice_of(&self, telling: Telling<'_>) -> Option<Stderr> {
-        if telling.quiet { None } else { self.voice }
-    }
-
     /// How many threads the machine runs at once, as far as that was said.
     pub fn processors(&self) -> u64
         ensures { result ≡ self.now.processors }
@@ -306,52 +289,73 @@ impl<
         Ok(served)
     }
 
-    /// Serves a node as `serve_node` does, and tells its metrics to those that scrape them. Metrics where their address is none or
-    /// no socket listens there.
-    pub fn tell_node(
+    /// The sockets of a service on loops: for its clients, and for those that scrape its metrics, if it is said where. Net where the
+    /// first address is none or no socket listens there, Metrics the same of the other.
+    fn open_both(
         &mut self,
-        alloc: Global,
         listen: &str,
-        scraped: Scraped<'_>,
-        node: SeededNode,
-        bounds: ServiceBounds,
-    ) -> Result<u64, OpenFault>
-        ensures { IsOneService (NodeAt (told_at listen.now scraped.entry.address.now) node bounds) self.old result self.new }
+        metrics: Option<&str>,
+    ) -> Result<(TcpListener, Option<TcpListener>), OpenFault>
+        ensures { OpensBoth (record { listen = listen.now; metrics = option_map (λ m. m.now) metrics.entry })
+            self.old result self.new }
     {
-        let wait = bounds.patience.for_client();
-        let Some(listener) = open(&mut self.listens, listen, wait) else {
+        let Some(listener) = self.listens.open_queue(listen) else {
             self.failures.add_one();
             return Err(OpenFault::Net);
         };
-        let Some(scrapers) = open(&mut self.listens, scraped.address, None) else {
+        let Some(metrics) = metrics else {
+            return Ok((listener, None));
+        };
+        let Some(scrapers) = self.listens.open_queue(metrics) else {
             self.failures.add_one();
             return Err(OpenFault::Metrics);
         };
-        let identity = NodeIdentity {
-            version: scraped.version,
-            address: listen,
-        };
-        let served = run_told_node(
+        Ok((listener, Some(scrapers)))
+    }
+
+    /// Serves a node at an address by so many loops that share it, by the machine's time, as `drive_proxy` does a proxy, with the same
+    /// faults.
+    pub fn drive_node(
+        &mut self,
+        alloc: Global,
+        listen: &str,
+        telling: Telling<'_>,
+        node: SeededNode,
+        loops: NodeLoops,
+        bounds: DriverBounds,
+    ) -> Result<u64, OpenFault>
+        ensures { IsOneService
+            (NodeLoopsAt (record { listen = listen.now; metrics = option_map (λ m. m.now) telling.entry.metrics }) node loops bounds)
+            self.old result self.new }
+    {
+        let (listener, scrapers) = self.open_both(listen, telling.metrics)?;
+        let site = self.site_of(listen, &listener, telling);
+        let served = drive_node(
             self.rt,
             alloc,
-            listener,
+            site,
             scrapers,
-            identity,
             node,
+            loops,
             bounds,
-            &mut self.runs,
+            &mut self.drives,
         );
-        Ok(served)
+        if served.is_err() {
+            self.failures.add_one();
+        }
+        served
     }
 
     /// Serves a proxy at an address by a loop for each of these machines, by the machine's time, and tells its metrics to those that
-    /// scrape them, if it is said where. Gives how many of the clients ended without a fault, once all have. The first of these faults
-    /// that there is: Net where the address is none or no socket listens there, Metrics the same of the metrics' address, OutOfMemory
-    /// where memory is refused for the loops, Net where they can't be opened for anything else, as for want of descriptors.
+    /// scrape them, if it is said where, with the SHA-256 of its configuration as transcripts write it, in hexadecimal digits. Gives how
+    /// many of the clients ended without a fault, once all have. The first of these faults that there is: Net where the address is none
+    /// or no socket listens there, Metrics the same of the metrics' address, OutOfMemory where memory is refused for the loops, Net
+    /// where they can't be opened for anything else, as for want of descriptors.
     pub fn drive_proxy(
         &mut self,
         alloc: Global,
         listen: &str,
+        config: &str,
         telling: Telling<'_>,
         machines: Vec<ProxyLoop>,
         bounds: DriverBounds,
@@ -360,49 +364,36 @@ impl<
             (LoopsAt (record { listen = listen.now; metrics = option_map (λ m. m.now) telling.entry.metrics }) machines.items bounds)
             self.old result self.new }
     {
-        let Some(listener) = self.listens.open_queue(listen) else {
-            self.failures.add_one();
-            return Err(OpenFault::Net);
-        };
-        let scrapers = match telling.metrics {
-            Some(metrics) => match open(&mut self.listens, metrics, None) {
-                Some(scrapers) => Some(scrapers.into_socket()),
-                None => {
-                    self.failures.add_one();
-                    return Err(OpenFault::Metrics);
-                }
-            },
-            None => None,
-        };
-        let began = Snapshot::of(&machines);
-        let served = drive(
+        let (listener, scrapers) = self.open_both(listen, telling.metrics)?;
+        let site = self.site_of(listen, &listener, telling);
+        let served = drive_proxy(
             self.rt,
             alloc,
-            self.voice_of(telling),
-            listen,
-            &listener,
+            site,
             scrapers,
-            telling,
+            config,
             machines,
             bounds,
+            &mut self.drives,
         );
-        self.note_drive(began, bounds, served)
-    }
-
-    /// Notes that loops were driven, or that they couldn't be.
-    fn note_drive(
-        &mut self,
-        began: Snapshot<Vec<ProxyLoop>>,
-        bounds: DriverBounds,
-        served: Result<u64, OpenFault>,
-    ) -> Result<u64, OpenFault>
-        ensures given { result ≡ served }
-        ensures noted { self.new ≡ noted_drive began.value.items bounds served self.old }
-    {
-        match served {
-            Ok(_) => self.drives.add(began, bounds),
-            Err(_) => self.failures.add_one(),
+        if served.is_err() {
+            self.failures.add_one();
         }
         served
+    }
+
+    /// Where a service on loops stands.
+    fn site_of<'s>(
+        &self,
+        listen: &'s str,
+        listener: &'s TcpListener,
+        telling: Telling<'s>,
+    ) -> Site<'s> {
+        Site {
+            version: telling.version,
+            listen,
+            listener,
+            voice: if telling.quiet { None } else { self.voice },
+        }
     }
 }

@@ -3,22 +3,25 @@
 #![tactic(auto)]
 
 mod asking;
+mod driven_node;
+mod driven_proxy;
 mod drives;
 mod driving;
 mod fault;
 mod hearing;
 mod host_servers;
 mod listening;
-mod loop_teller;
+mod node_reports;
+mod node_teller;
+mod proxy_teller;
 mod reports;
 mod saying;
 mod scrapes;
 mod screen;
 mod seeds;
-mod telling;
-mod told_node;
 mod until;
 
+pub use driven_node::NodeLoops;
 pub use fault::{OpenFault, SeedFault};
-pub use host_servers::{HostServers, Scraped, Telling};
+pub use host_servers::{HostServers, Telling};
 pub use screen::Screen;

@@ -1,4 +1,4 @@
-//! What a proxy on loops says on standard error while it runs. No contract speaks of what it does with time and threads.
+//! What a service on loops says on standard error while it runs. No contract speaks of what it does with time and threads.
 
 use crate::scrapes::ScrapeState;
 use mr_clock::{Clock, SystemClock};
@@ -25,8 +25,8 @@ pub(crate) struct Speaker<'a, R: Wait + time::Clock> {
     pub(crate) alloc: Global,
     /// Whose they are.
     pub(crate) service: Service<'a>,
-    /// When its phases begin.
-    pub(crate) schedule: Schedule,
+    /// When its phases begin, if it has some.
+    pub(crate) schedule: Option<Schedule>,
     /// Where what happens is noted.
     pub(crate) log: &'a Mutex<Log>,
     /// How its clock runs.

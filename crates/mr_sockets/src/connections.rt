@@ -19,7 +19,7 @@ use std::time::{Clock, Duration};
 const PAUSE_MILLIS: u64 = 100;
 
 /// What is done with each connection.
-pub trait Service {
+pub(crate) trait Service {
     /// What each connection is served by.
     ghost serves: { Self → Serving };
 
@@ -125,7 +125,7 @@ fn serve_counted<
 
 /// Accepts so many connections, serves each in a thread of its own, and gives the listener back, with how many connections
 /// ended without a fault, once all have ended. Nothing is kept of a connection that has ended.
-pub fn accept_clients<L: Listener + Drop, S: Service + Sync, R: Threads + Wait + Clock + Sync>(
+fn accept_clients<L: Listener + Drop, S: Service + Sync, R: Threads + Wait + Clock + Sync>(
     rt: &R,
     listener: L,
     service: &S,

@@ -23,7 +23,6 @@ pub use address::{address_of, node_address, node_addresses};
 pub use addresses::GhostAddresses;
 pub use bounds::ServiceBounds;
 pub use carriers::node_carriers;
-pub use connections::{Service, accept_clients};
 pub use listener::{AcceptFault, Listener, OverListener};
 pub use listening::{Listens, open};
 pub use node_service::{run_node, serve_node};

@@ -58,19 +58,6 @@ impl OverListener {
     }
 }
 
-impl OverListener {
-    /// The socket.
-    pub fn into_socket(self) -> TcpListener {
-        let OverListener {
-            inner,
-            wait: _,
-            accepted: _,
-            failures: _,
-        } = self;
-        inner
-    }
-}
-
 impl Listener for OverListener {
     ghost told = { λ l. record { accepted = l.accepted; failures = l.failures } };
 

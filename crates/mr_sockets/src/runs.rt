@@ -62,7 +62,12 @@ impl GhostRuns {
     }
 
     /// One more, of a node.
-    pub fn add_node(&mut self, began: &Option<Snapshot<SeededNode>>, turns: u64, clients: u64)
+    pub(crate) fn add_node(
+        &mut self,
+        began: &Option<Snapshot<SeededNode>>,
+        turns: u64,
+        clients: u64,
+    )
         ensures { self.new ≡ self.old ++ run (NodeServing (option_map (λ s. s.value) began.now) turns) clients ∷ [] }
     {
         let before = Snapshot::of(&self.runs);
@@ -75,7 +80,7 @@ impl GhostRuns {
     }
 
     /// One more, of a proxy.
-    pub fn add_proxy(
+    pub(crate) fn add_proxy(
         &mut self,
         began: &Option<Snapshot<ProxyCore>>,
         routing: &Routing,

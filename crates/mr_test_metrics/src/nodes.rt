@@ -55,6 +55,7 @@ pub fn told_of_node(alloc: Global, words: &mut Words<'_>) -> Result<Vec<u8>, Fai
         deleted: words.number()?,
         not_found: words.number()?,
         evicted: words.number()?,
+        loops: words.number()?,
     };
     Ok(node_metrics(alloc, &snapshot)?)
 }

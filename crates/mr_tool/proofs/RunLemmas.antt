@@ -27,8 +27,8 @@ use Rattle.mr_tool.specs.PlannedConfig.{PlansConfig}
 use Rattle.mr_tool.specs.TimelineCommand.{WritesTimeline}
 use Rattle.mr_tool.specs.Run.{Gives, EndsWith, RunsCommand, RunsNothing, Runs, TellsWrongWords}
 use Rattle.mr_tool.specs.ProxyCommand.{ProxyGives}
-use Rattle.mr_tool.specs.Services.{EndsService, NodeGives, RunsService}
-use Rattle.mr_servers.specs.Servers.{Asked, IsOneService, Places, ServersView, clients_of, places_of}
+use Rattle.mr_tool.specs.Services.{EndsService, NodeGives}
+use Rattle.mr_servers.specs.Servers.{Asked, IsOneService, Places, ServersView}
 use Rattle.mr_servers.specs.declared.screen.Screen.{Screen}
 use Rattle.mr_servers.specs.declared.fault.OpenFault.{OpenFault}
 use Rattle.mr_tool.specs.Fault.{fault_line, fault_of_printing, readings_line}
@@ -99,11 +99,6 @@ ended_service : (asked : Asked) (places : Places) (clients : ℕ) (ended : Ended
 ended_service asked places clients ended (Ok count) old new idle busy serves ends = (serves.counted, ends.0.0.steady)
 ended_service asked places clients ended (Err fault) old new idle busy serves ends = absurd ends
 
-service_steady : (asked : Asked) (ended : Ended) (before between : Devices) (idle busy : ServersView) → RunsService asked before between idle busy (Ok ended)
-    → (busy.failures ≡ idle.failures) × (between.output.failures ≡ before.output.failures)
-service_steady asked ended before between idle busy h =
-    ended_service asked (places_of asked) (clients_of asked) ended h.served before.output between.output idle busy h.serves h.ends
-
 -- no device failed, and no service
 abbrev AllSteady : Devices → Devices → ServersView → ServersView → Type 0
 AllSteady before between idle busy = NoneFailed before between × (busy.failures ≡ idle.failures)
@@ -114,7 +109,7 @@ idle_steady before between idle busy steady same = (steady, ap (λ (s : ServersV
 node_steady : (values : NodeValues) (ended : Ended) (before between : Devices) (idle busy : ServersView) → NodeGives values before between idle busy (Ok ended)
     → between.faults ≡ before.faults → AllSteady before between idle busy
 node_steady values ended before between idle busy h silent =
-    let steady = service_steady _ ended before between h.between busy h.runs in (
+    let steady = ended_service _ _ _ ended h.served before.output between.output h.between busy h.serves h.ends in (
       record {
         sources = ap (λ (s : SourcesView). s.failures) h.unasked;
         input = ap (λ (s : SourceView). s.failures) h.unread;

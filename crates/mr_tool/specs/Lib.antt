@@ -6,6 +6,7 @@ pub mod GivenText
 pub mod Input
 pub mod InputSteps
 pub mod Loaded
+pub mod OnLoops
 pub mod PlanCommand
 pub mod PlanForms
 pub mod PlannedConfig

@@ -2,7 +2,6 @@
 use Rattle.std.specs.Prelude.{◌≡◌, ◌⊎◌, ℕ, ◌-◌, ◌/◌, max, min, zero, suc, List, [], ◌∷◌, ◌++◌, Option, Some, None, Result, Ok, Err}
 use Rattle.mr_configs.specs.Config.{ConfigView}
 use Rattle.mr_driver.specs.Times.{bound_of}
-use Rattle.mr_driver.specs.declared.serving.DriverBounds.{DriverBounds}
 use Rattle.mr_loop.specs.LoopView.{LoopView, fresh_loop}
 use Rattle.mr_loop.specs.declared.asker.Limits.{Limits}
 use Rattle.mr_proxy.specs.ProxyView.{ProxyView, fresh_proxy}
@@ -12,6 +11,7 @@ use Rattle.mr_sockets.specs.declared.bounds.ServiceBounds.{ServiceBounds}
 use Rattle.mr_sockets.specs.declared.patience.Patience.{Patience}
 use Rattle.mr_tool.specs.Devices.{Devices}
 use Rattle.mr_tool.specs.Input.{LoadsConfig}
+use Rattle.mr_tool.specs.OnLoops.{driver_bounds, metrics_of, most_unread}
 use Rattle.mr_tool.specs.PlanCommand.{LacksConfig}
 use Rattle.mr_tool.specs.Services.{EndsService}
 use Rattle.mr_tool.specs.declared.ended.Ended.{Ended}
@@ -38,23 +38,10 @@ patience_of_proxy values = record { client_seconds = values.idle_timeout; leg_mi
 abbrev pub bounds_of_proxy : ProxyValues → ServiceBounds
 bounds_of_proxy values = record { clients = values.clients; turns = values.turns; patience = patience_of_proxy values }
 
--- what they bound where it runs on loops: its clients, how many of them are served at once, and how long it waits
-abbrev pub bounds_of_loops : ProxyValues → LoopValues → DriverBounds
-bounds_of_loops values loops = record {
-  clients = values.clients;
-  most_clients = loops.max_clients;
-  client_seconds = values.idle_timeout;
-  leg_millis = values.leg_timeout;
-}
-
 -- the most legs that wait in the queue of a node, at each loop with room for so many requests: three quarters of them, but one at least,
 -- and 1024 at most
 abbrev pub most_legs : ℕ → ℕ
 most_legs room = max 1 (min (room - room / 4) 1024)
-
--- the most bytes of a client's own answers that it hasn't read, before no further request of it is begun
-abbrev pub most_unread : ℕ
-most_unread = 1048576
 
 -- the most requests of a client that are begun and that it isn't told of
 abbrev pub most_begun : ℕ
@@ -73,11 +60,6 @@ abbrev pub loops_of : ConfigView → ProxyValues → ℕ → List LoopView
 loops_of config values zero = []
 loops_of config values (suc number) = loops_of config values number ++ loop_of config values number ∷ []
 
--- where metrics are told, if they are: by a proxy on loops alone
-abbrev pub metrics_of : Option LoopValues → Option (List ℕ) → Option (List ℕ)
-metrics_of None metrics = None
-metrics_of (Some loops) metrics = metrics
-
 -- where a proxy listens
 abbrev pub places_of_proxy : ProxyValues → Places
 places_of_proxy values = record { listen = values.listen.now; metrics = metrics_of values.on_loops (path_in values.metrics) }
@@ -87,7 +69,8 @@ abbrev pub asked_by : Option LoopValues → ProxyValues → ConfigView → ℕ �
 asked_by None values config processors =
     ProxyAt (places_of_proxy values) (proxy_of config 0 values.room) config.routing (bounds_of_proxy values)
 asked_by (Some loops) values config processors =
-    LoopsAt (places_of_proxy values) (loops_of config values (loop_count loops processors)) (bounds_of_loops values loops)
+    LoopsAt (places_of_proxy values) (loops_of config values (loop_count loops processors))
+    (driver_bounds values.clients loops (patience_of_proxy values))
 
 -- what is asked for by these words, with this configuration, on a machine of so many processors
 abbrev pub asked_of_proxy : ProxyValues → ConfigView → ℕ → Asked

@@ -10,6 +10,7 @@ mod ended;
 mod fault;
 mod input;
 pub mod laws;
+mod on_loops;
 mod planned;
 mod proxies;
 mod run;

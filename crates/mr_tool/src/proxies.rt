@@ -4,22 +4,22 @@ ghost use Rattle.mr_servers.specs.Servers.{IsOneService};
 ghost use Rattle.mr_text.specs.Sink.{SinkView};
 ghost use Rattle.mr_text.specs.Source.{SourceView};
 ghost use Rattle.mr_tool.specs.Devices.{devices};
-ghost use Rattle.mr_tool.specs.ProxyCommand.{ProxyGives, asked_by, asked_of_proxy, limits_of, loop_of, loops_of, patience_of_proxy, places_of_proxy};
-ghost use Rattle.mr_words.specs.Words.{path_in};
+ghost use Rattle.mr_tool.specs.ProxyCommand.{ProxyGives, asked_by, asked_of_proxy, limits_of, loop_of, loops_of, patience_of_proxy};
 
 use crate::ended::Ended;
 use crate::fault::Fault;
 use crate::input::{LoadedConfig, load_whole_config};
+use crate::on_loops::{MOST_UNREAD, driver_bounds, metrics_of, telling_of};
 use crate::services::end_service;
 use crate::sources::Sources;
 use mr_configs::Config;
-use mr_driver::{DriverBounds, bound_of};
+use mr_driver::bound_of;
 use mr_loop::{Limits, ProxyLoop};
 use mr_proxy::ProxyCore;
-use mr_servers::{HostServers, OpenFault, Telling};
+use mr_servers::{HostServers, OpenFault};
 use mr_sockets::{Patience, ServiceBounds};
 use mr_text::Sink;
-use mr_words::{LoopValues, ProxyValues, version_number};
+use mr_words::{LoopValues, ProxyValues};
 use std::alloc::{AllocError, Global};
 use std::net::{Net, TcpListener, TcpStream};
 use std::random::RandomSource;
@@ -30,9 +30,6 @@ use std::time;
 /// The most legs that wait in the queue of a node, at each loop: with as many no request is begun that has one more. Fewer do
 /// where the room is small.
 const MOST_LEGS: u64 = 1024;
-
-/// The most bytes of a client's own answers that it hasn't read: with more no further request of it is begun.
-const MOST_UNREAD: usize = 1_048_576;
 
 /// The most requests of a client that are begun and that it isn't told of. So of one that reads nothing and asks for values of a
 /// megabyte some 65 MiB are kept at most.
@@ -91,16 +88,6 @@ fn patience_of(values: &ProxyValues) -> Patience
     }
 }
 
-/// Where a proxy tells its metrics, if it does: on loops alone.
-fn metrics_of<'a>(values: &ProxyValues<'a>) -> Option<&'a str>
-    ensures { path_in result ≡ (places_of_proxy values.now).metrics }
-{
-    match values.on_loops {
-        Some(_) => values.metrics,
-        None => None,
-    }
-}
-
 /// Serves a fresh proxy by threads. Memory is refused for its routing, and then no service was asked for.
 fn serve_by_threads<
     R: Net<Listener = TcpListener, Stream = TcpStream>
@@ -154,20 +141,10 @@ fn serve_on_loops<
     let count = loops.count(servers.processors());
     let machines = loops_of(alloc, loaded.config(), values, count)?;
     let digest = loaded.digest(alloc)?;
-    let patience = patience_of(values);
-    let bounds = DriverBounds {
-        clients: values.clients,
-        most_clients: loops.max_clients,
-        client_seconds: patience.client_seconds,
-        leg_millis: patience.leg_millis,
-    };
-    let telling = Telling {
-        version: version_number(),
-        config: digest.as_str(),
-        metrics: values.metrics,
-        quiet: loops.quiet,
-    };
-    Ok(servers.drive_proxy(alloc, values.listen, telling, machines, bounds))
+    let bounds = driver_bounds(values.clients, loops, patience_of(values));
+    let telling = telling_of(loops, values.metrics);
+    let config = digest.as_str();
+    Ok(servers.drive_proxy(alloc, values.listen, config, telling, machines, bounds))
 }
 
 /// Serves fresh proxies by this configuration where the values say, by threads or on loops. Where memory is refused, no service
@@ -221,7 +198,7 @@ pub fn run_proxy<
     end_service(
         alloc,
         values.listen,
-        metrics_of(values),
+        metrics_of(&values.on_loops, values.metrics),
         values.clients,
         served,
         output,

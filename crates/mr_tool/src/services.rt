@@ -1,22 +1,24 @@
-//! The commands that serve clients: what is printed once all of them have ended, and the command that serves a node.
+//! The commands that serve clients: what is printed once all of them have ended, and the command that serves a node: by threads, or
+//! on loops that share it.
 ghost use Rattle.std.specs.Prelude.{◌≡◌, Err, IfOk, IsSome};
+ghost use Rattle.mr_servers.specs.Servers.{IsOneService};
 ghost use Rattle.mr_text.specs.Sink.{SinkView};
 ghost use Rattle.mr_text.specs.Source.{SourceView};
 ghost use Rattle.mr_tool.specs.Devices.{devices};
 ghost use Rattle.mr_tool.specs.Fault.{IsNetFault};
-ghost use Rattle.mr_tool.specs.Services.{served_line, EndsService, MakesNode, NodeGives};
+ghost use Rattle.mr_tool.specs.Services.{served_line, EndsService, MakesNode, NodeGives, asked_of_node, patience_of_node};
 ghost use Rattle.mr_tool.specs.Sources.{SourcesView};
-ghost use Rattle.mr_words.specs.Version.{told_number};
 ghost use Rattle.mr_words.specs.Words.{path_in};
 
 use crate::ended::Ended;
 use crate::fault::Fault;
+use crate::on_loops::{MOST_UNREAD, driver_bounds, metrics_of, telling_of};
 use mr_node::NodeError;
 use mr_printing::{push_number, write_at_once};
-use mr_servers::{HostServers, OpenFault, Scraped};
+use mr_servers::{HostServers, NodeLoops, OpenFault};
 use mr_sockets::{Patience, SeededNode, ServiceBounds};
 use mr_text::Sink;
-use mr_words::{NodeValues, version_number};
+use mr_words::NodeValues;
 use std::alloc::{AllocError, Global};
 use std::net::{Net, TcpListener, TcpStream};
 use std::random::RandomSource;
@@ -92,15 +94,48 @@ fn make_node<
     Ok(node)
 }
 
-/// Metrics that are told there, by this version of the program.
-fn scraped_at<'a>(address: &'a str) -> Scraped<'a>
-    ensures address { result.address.now ≡ address.entry.now }
-    ensures version { result.version.now ≡ told_number }
+/// How long a node waits for its clients.
+fn patience_of(values: &NodeValues) -> Patience
+    ensures { result ≡ patience_of_node values.now }
 {
-    Scraped {
-        address,
-        version: version_number(),
+    Patience {
+        client_seconds: values.idle_timeout,
+        leg_millis: 0,
     }
+}
+
+/// Serves a node where the values say, by threads or on loops.
+fn serve_made<
+    R: Net<Listener = TcpListener, Stream = TcpStream>
+        + Threads
+        + Wait
+        + time::Clock
+        + RandomSource
+        + Sync,
+>(
+    alloc: Global,
+    values: &NodeValues,
+    servers: &mut HostServers<'_, R>,
+    node: SeededNode,
+) -> Result<u64, OpenFault>
+    ensures { IsOneService (asked_of_node values.now node servers.old.processors) servers.old result servers.new }
+{
+    let patience = patience_of(values);
+    let Some(loops) = &values.on_loops else {
+        let bounds = ServiceBounds {
+            clients: values.clients,
+            turns: values.turns,
+            patience,
+        };
+        return servers.serve_node(alloc, values.listen, node, bounds);
+    };
+    let machines = NodeLoops {
+        count: loops.count(servers.processors()),
+        most_unread: MOST_UNREAD,
+    };
+    let bounds = driver_bounds(values.clients, loops, patience);
+    let telling = telling_of(loops, values.metrics);
+    servers.drive_node(alloc, values.listen, telling, node, machines, bounds)
 }
 
 /// Serves a node, and writes how many of its clients ended without a fault once all have.
@@ -123,24 +158,11 @@ pub fn run_node<
         (devices sources input (O.told output.new) faults) servers.old servers.new result }
 {
     let node = make_node(alloc, values.capacity, servers)?;
-    let bounds = ServiceBounds {
-        clients: values.clients,
-        turns: values.turns,
-        patience: Patience {
-            client_seconds: values.idle_timeout,
-            leg_millis: 0,
-        },
-    };
-    let served = match values.metrics {
-        None => servers.serve_node(alloc, values.listen, node, bounds),
-        Some(address) => {
-            servers.tell_node(alloc, values.listen, scraped_at(address), node, bounds)
-        }
-    };
+    let served = serve_made(alloc, values, servers, node);
     end_service(
         alloc,
         values.listen,
-        values.metrics,
+        metrics_of(&values.on_loops, values.metrics),
         values.clients,
         served,
         output,

@@ -6,6 +6,7 @@ use Rattle.clap.specs.Kinds.{Kinds, or_else}
 use Rattle.clap.specs.Simple.{Shape, built_leaf, inherited, marked_built, with_leaf_noted}
 use Rattle.clap.specs.Walk.{Held, Walk, walked, nothing_held, finished}
 use Rattle.clap.specs.Words.{Row, Text, fault_of, subcommand_of}
+use Rattle.mr_words.proofs.LoopLemmas.{by_threads, on_loops}
 use Rattle.mr_words.proofs.PlainPlan.{IsTakenNumber, number_is_taken, value_taken}
 use Rattle.mr_words.proofs.PlainWalk.{IsPlainWord, IsWalked, Leads, after_walk, all_walked, asking, flag_before, no_words, option_before, plain_word, standing, with_flag, with_given, with_named}
 use Rattle.mr_words.specs.Command.{forever_rule, node_app, program_app}
@@ -172,7 +173,7 @@ node_said said values (inl says) =
       finds = (
         rows,
         subst (λ (w : List Text). subcommand_of program_app w ≡ Some (codes "node", rows)) (sym says.words_are) (short_found listen listen_plain),
-        record { listen_is = refl; capacity_is = says.capacity_is; clients_is = says.clients_is; turns_is = says.turns_is; idle_is = says.idle_is; metrics_is = sym (ap path_in says.metrics_is) },
+        record { listen_is = refl; capacity_is = says.capacity_is; clients_is = says.clients_is; turns_is = says.turns_is; idle_is = says.idle_is; metrics_is = sym (ap path_in says.metrics_is); loops_are = by_threads rows values.on_loops refl (record { no_loops = refl; no_most = refl; no_quiet = refl }) says.loops_are },
       );
     }
 node_said said values (inr (inl says)) =
@@ -189,7 +190,7 @@ node_said said values (inr (inl says)) =
         rows,
         subst (λ (w : List Text). subcommand_of program_app w ≡ Some (codes "node", rows)) (sym says.words_are)
             (rows_found listen says.capacity says.clients says.turns listen_plain capacity_taken clients_taken turns_taken),
-        record { listen_is = refl; capacity_is = says.capacity_is; clients_is = says.clients_is; turns_is = says.turns_is; idle_is = says.idle_is; metrics_is = sym (ap path_in says.metrics_is) },
+        record { listen_is = refl; capacity_is = says.capacity_is; clients_is = says.clients_is; turns_is = says.turns_is; idle_is = says.idle_is; metrics_is = sym (ap path_in says.metrics_is); loops_are = by_threads rows values.on_loops refl (record { no_loops = refl; no_most = refl; no_quiet = refl }) says.loops_are },
       );
     }
 node_said said values (inr (inr says)) =
@@ -203,6 +204,6 @@ node_said said values (inr (inr says)) =
         rows,
         subst (λ (w : List Text). subcommand_of program_app w ≡ Some (codes "node", rows)) (sym says.words_are)
             (forever_found listen says.capacity listen_plain capacity_taken),
-        record { listen_is = refl; capacity_is = says.capacity_is; clients_is = says.clients_is; turns_is = says.turns_is; idle_is = says.idle_is; metrics_is = sym (ap path_in says.metrics_is) },
+        record { listen_is = refl; capacity_is = says.capacity_is; clients_is = says.clients_is; turns_is = says.turns_is; idle_is = says.idle_is; metrics_is = sym (ap path_in says.metrics_is); loops_are = on_loops rows values.on_loops refl (record { loops_are = tt; most_are = refl; quiet_is = refl }) says.loops_are },
       );
     }

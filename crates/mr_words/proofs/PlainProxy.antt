@@ -1,16 +1,16 @@
 -- That words which plainly say a proxy are read as it.
-use Rattle.std.proofs.Common.{◌≡◌, ap, inl, inr, refl, sym, subst, true, false, List, [], ◌∷◌, Option, Some, None, codes}
+use Rattle.std.proofs.Common.{◌≡◌, ap, inl, inr, refl, sym, subst, List, [], ◌∷◌, Some, codes}
 use Rattle.clap.proofs.OnLiterals.{clap_on_literals}
 use Rattle.clap.specs.Faults.{turn_fault}
 use Rattle.clap.specs.Kinds.{Kinds, or_else}
 use Rattle.clap.specs.Simple.{Shape, built_leaf, inherited, marked_built, with_leaf_noted}
 use Rattle.clap.specs.Walk.{Held, Walk, walked, nothing_held, finished}
 use Rattle.clap.specs.Words.{Row, Text, fault_of, subcommand_of}
+use Rattle.mr_words.proofs.LoopLemmas.{by_threads, on_loops}
 use Rattle.mr_words.proofs.PlainPlan.{IsTakenNumber, number_is_taken, value_taken}
 use Rattle.mr_words.proofs.PlainWalk.{IsPlainWord, IsWalked, Leads, after_walk, all_walked, asking, flag_before, no_words, option_before, plain_word, standing, with_flag, with_given, with_named}
 use Rattle.mr_words.specs.Command.{forever_rule, program_app, proxy_app}
-use Rattle.mr_words.specs.Words.{AreLoopValues, HasLoopValues, LacksLoopValues, Say, SaysPlainly, is_on_loops, path_in, usual_loop_values}
-use Rattle.mr_words.specs.declared.loop_words.LoopValues.{LoopValues}
+use Rattle.mr_words.specs.Words.{Say, SaysPlainly, path_in}
 use Rattle.mr_words.specs.declared.service_words.ProxyValues.{ProxyValues}
 use Rattle.mr_words.specs.declared.words.Wanted.TheVariants.{Proxy}
 
@@ -179,14 +179,6 @@ module _ (config listen room : Text) (config_plain : IsPlainWord config) (listen
   forever_found : subcommand_of program_app (codes "proxy" ∷ forever_words) ≡ Some (codes "proxy", finished leaf.rules held_forever)
   unfolding clap_on_literals
   forever_found = ap (λ (w : Walk). Some (codes "proxy", finished leaf.rules w.held)) forever_walked.ends
-
--- rows of a proxy by threads, and of one on loops of which nothing is said
-by_threads : (rows : List Row) (values : Option LoopValues) → is_on_loops rows ≡ false → LacksLoopValues rows → values ≡ None → AreLoopValues rows values
-by_threads rows values threads lacks none = subst (AreLoopValues rows) (sym none) (threads, lacks)
-
-on_loops : (rows : List Row) (values : Option LoopValues) → is_on_loops rows ≡ true → HasLoopValues rows usual_loop_values → values ≡ Some usual_loop_values
-    → AreLoopValues rows values
-on_loops rows values loops has some = subst (AreLoopValues rows) (sym some) (loops, has)
 
 -- words that plainly say a proxy say it to `clap`
 pub proxy_said : (said : List Text) (values : ProxyValues) → SaysPlainly said (Proxy values) → Say said (Proxy values)

@@ -169,7 +169,7 @@ same_room : (on_loops : Bool) (text : Option Text) (room same : ℕ) → IsRoom 
 same_room false text room same is other_is = same_number_or usual_room text room same is other_is
 same_room true text room same is other_is = same_number_or usual_loop_room text room same is.0 other_is.0
 
--- one proxy on loops
+-- one service on loops
 same_loop_values : (rows : List Row) (values same : LoopValues) → HasLoopValues rows values → HasLoopValues rows same → values ≡ same
 same_loop_values rows values same is also =
     let loops : values.loops ≡ same.loops = same_number_if _ _ _ is.loops_are also.loops_are in
@@ -311,6 +311,7 @@ one_found found (Node read) (Node values) r p =
       same_bound _ _ _ _ _ r.2.turns_is also.turns_is,
       same_number_or _ _ _ _ r.2.idle_is also.idle_is,
       sym r.2.metrics_is ∙ also.metrics_is,
+      same_loops r.0 _ _ r.2.loops_are also.loops_are,
     )
 one_found found (Proxy read) (Proxy values) r p =
     let also : HasProxyValues r.0 values = subst (λ (rows : List Row). HasProxyValues rows values) (same_rows found _ p.0 r.0 p.1 r.1) p.2 in (

@@ -51,7 +51,7 @@ number_rule name = option_rule name (Some numbers) false
 abbrev pub number_between_rule : List ℕ → ℕ → ℕ → Rule
 number_between_rule name least most = option_rule name (Some (parser.Unsigned least most)) false
 
--- how many loops a proxy has, 1 to 64
+-- how many loops a service has, 1 to 64
 abbrev pub loops_rule : Rule
 loops_rule = number_between_rule (codes "loops") 1 64
 
@@ -116,7 +116,10 @@ node_app =
     let with_turns = with_rule with_clients (number_rule (codes "turns")) in
     let with_idle = with_rule with_turns (number_rule (codes "idle-timeout")) in
     let with_metrics = with_rule with_idle metrics_rule in
-    with_rule with_metrics forever_rule
+    let with_forever = with_rule with_metrics forever_rule in
+    let with_loops = with_rule with_forever loops_rule in
+    let with_most = with_rule with_loops max_clients_rule in
+    with_rule with_most (flag_rule (codes "quiet"))
 
 -- the command `proxy`
 abbrev pub proxy_app : App

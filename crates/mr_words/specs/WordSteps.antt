@@ -57,7 +57,7 @@ no_such_fault = codes "no layer of this name has a fault of this number: 'migctl
 abbrev pub both_given : List ℕ
 both_given = codes "'--forever' stands in place of '--clients' and '--turns', and neither goes with it"
 
--- what is said where a proxy by threads is given what says something of loops alone
+-- what is said where a service by threads is given what says something of loops alone
 abbrev pub no_loops : List ℕ
 no_loops = codes "'--loops', '--max-clients' and '--quiet' go with '--forever' or '--metrics'"
 
@@ -65,17 +65,20 @@ no_loops = codes "'--loops', '--max-clients' and '--quiet' go with '--forever' o
 abbrev pub no_room : List ℕ
 no_room = codes "'--room' is at least 1 with '--forever' or '--metrics'"
 
--- what is said where a proxy that tells its metrics is given a number of turns
+-- what is said where a service that tells its metrics is given a number of turns
 abbrev pub no_turns : List ℕ
 no_turns = codes "'--turns' doesn't go with '--metrics'"
 
--- why rows hold no values of a proxy, though each of its words is taken: what says something of loops is given to one by threads, or
--- one on loops has no room, or else it is bounded though it goes on for good
+-- why rows hold no values of a node, though each of its words is taken: what says something of loops is given to one by threads, or
+-- one on loops is bounded though it goes on for good
+abbrev pub why_no_node : List Row → List ℕ
+why_no_node rows = if is_on_loops rows then (if is_forever rows then both_given else no_turns) else no_loops
+
+-- why they hold none of a proxy: one on loops has no room, or else it is as with a node
 pub record SaysWhyNoProxy (rows : List Row) (text : List ℕ) : Type 0 where
-  pub threads : is_on_loops rows ≡ false → text ≡ no_loops
+  pub threads : is_on_loops rows ≡ false → text ≡ why_no_node rows
   pub room : is_on_loops rows ≡ true → ((room : ℕ) → ¬ IsRoom true (one_of (codes "room") rows) room) → text ≡ no_room
-  pub bounds : is_on_loops rows ≡ true → (room : ℕ) → IsRoom true (one_of (codes "room") rows) room
-      → text ≡ (if is_forever rows then both_given else no_turns)
+  pub bounds : is_on_loops rows ≡ true → (room : ℕ) → IsRoom true (one_of (codes "room") rows) room → text ≡ why_no_node rows
 
 -- what is said where `plan` is given neither of its forms, or parts of both
 abbrev pub neither_form : List ℕ

@@ -135,11 +135,11 @@ usual_loop_room = 4096
 abbrev pub usual_max_clients : ℕ
 usual_max_clients = 10000
 
--- the most loops of a proxy
+-- the most loops of a service
 abbrev pub most_loops : ℕ
 most_loops = 64
 
--- the most loops of a proxy whose words don't say how many
+-- the most loops of a service whose words don't say how many
 abbrev pub usual_loops : ℕ
 usual_loops = 4
 
@@ -168,7 +168,7 @@ has_flag id rows = option_map_or (λ word. bytes_eq word (codes "true")) (first_
 abbrev pub is_forever : List Row → Bool
 is_forever rows = has_flag (codes "forever") rows
 
--- a proxy runs on loops: with `--forever`, and with `--metrics`
+-- a service runs on loops: with `--forever`, and with `--metrics`
 abbrev pub is_on_loops : List Row → Bool
 is_on_loops rows = is_forever rows || is_some (first_of (codes "metrics") rows)
 
@@ -178,15 +178,6 @@ abbrev pub IsBoundOr : ℕ → Bool → Option Text → ℕ → Type 0
 IsBoundOr usual true None number = number ≡ without_end
 IsBoundOr usual true (Some word) number = ⊥
 IsBoundOr usual false word number = IsNumberOr usual word number
-
--- the rows that a parse found hold the values of a node
-pub record HasNodeValues (rows : List Row) (values : NodeValues) : Type 0 where
-  pub listen_is : first_of (codes "listen") rows ≡ Some values.listen.now
-  pub capacity_is : IsNumberOr usual_capacity (one_of (codes "capacity") rows) values.capacity
-  pub clients_is : IsBoundOr usual_clients (is_forever rows) (one_of (codes "clients") rows) values.clients
-  pub turns_is : IsBoundOr usual_turns (is_forever rows) (one_of (codes "turns") rows) values.turns
-  pub idle_is : IsNumberOr usual_idle_timeout (one_of (codes "idle-timeout") rows) values.idle_timeout
-  pub metrics_is : first_of (codes "metrics") rows ≡ path_in values.metrics
 
 -- how many requests may be under way in a proxy, in each of its loops if it runs on loops: at least one in a loop
 abbrev pub IsRoom : Bool → Option Text → ℕ → Type 0
@@ -199,7 +190,7 @@ IsNumberIfGiven None None = ⊤
 IsNumberIfGiven (Some word) (Some number) = IsNumberWord word number
 IsNumberIfGiven _ _ = ⊥
 
--- the rows that a parse found hold the values of a proxy on loops, of which nothing is said with `--quiet` and without `--forever`
+-- the rows that a parse found hold the values of a service on loops, of which nothing is said with `--quiet` and without `--forever`
 pub record HasLoopValues (rows : List Row) (values : LoopValues) : Type 0 where
   pub loops_are : IsNumberIfGiven (one_of (codes "loops") rows) values.loops
   pub most_are : IsNumberOr usual_max_clients (one_of (codes "max-clients") rows) values.max_clients
@@ -211,15 +202,25 @@ pub record LacksLoopValues (rows : List Row) : Type 0 where
   pub no_most : first_of (codes "max-clients") rows ≡ None
   pub no_quiet : has_flag (codes "quiet") rows ≡ false
 
--- they hold the values of a proxy on loops, or none where it runs by threads
+-- they hold the values of a service on loops, or none where it runs by threads
 abbrev pub AreLoopValues : List Row → Option LoopValues → Type 0
 AreLoopValues rows None = (is_on_loops rows ≡ false) × LacksLoopValues rows
 AreLoopValues rows (Some values) = (is_on_loops rows ≡ true) × HasLoopValues rows values
 
--- how many loops a proxy has on a machine of so many processors: as many as the words say, or else one for each processor, but four at
--- most; one at least
+-- how many loops a service has on a machine of so many processors: as many as the words say, or else one for each processor, but four
+-- at most; one at least
 abbrev pub loop_count : LoopValues → ℕ → ℕ
 loop_count values processors = max 1 (min (unwrap_or values.loops (min processors usual_loops)) most_loops)
+
+-- the rows that a parse found hold the values of a node
+pub record HasNodeValues (rows : List Row) (values : NodeValues) : Type 0 where
+  pub listen_is : first_of (codes "listen") rows ≡ Some values.listen.now
+  pub capacity_is : IsNumberOr usual_capacity (one_of (codes "capacity") rows) values.capacity
+  pub clients_is : IsBoundOr usual_clients (is_forever rows) (one_of (codes "clients") rows) values.clients
+  pub turns_is : IsBoundOr usual_turns (is_on_loops rows) (one_of (codes "turns") rows) values.turns
+  pub idle_is : IsNumberOr usual_idle_timeout (one_of (codes "idle-timeout") rows) values.idle_timeout
+  pub metrics_is : first_of (codes "metrics") rows ≡ path_in values.metrics
+  pub loops_are : AreLoopValues rows values.on_loops
 
 -- the rows that a parse found hold the values of a proxy
 pub record HasProxyValues (rows : List Row) (values : ProxyValues) : Type 0 where
@@ -361,6 +362,7 @@ pub record SaysNodeAlone (words : List Text) (values : NodeValues) : Type 0 wher
   pub turns_is : values.turns ≡ usual_turns
   pub idle_is : values.idle_timeout ≡ usual_idle_timeout
   pub metrics_is : values.metrics ≡ None
+  pub loops_are : values.on_loops ≡ None
 
 -- the words are `node`, where it listens and its three numbers, and where it listens doesn't look like an option
 pub record SaysNode (words : List Text) (values : NodeValues) : Type 0 where
@@ -375,6 +377,11 @@ pub record SaysNode (words : List Text) (values : NodeValues) : Type 0 where
   pub turns_is : IsNumberWord turns values.turns
   pub idle_is : values.idle_timeout ≡ usual_idle_timeout
   pub metrics_is : values.metrics ≡ None
+  pub loops_are : values.on_loops ≡ None
+
+-- what a service on loops has whose words say nothing of its loops
+abbrev pub usual_loop_values : LoopValues
+usual_loop_values = record { loops = None; max_clients = usual_max_clients; quiet = false }
 
 -- the words are `node`, where it listens, how many items it holds, and `--forever`, and where it listens doesn't look like an
 -- option
@@ -387,6 +394,7 @@ pub record SaysNodeForever (words : List Text) (values : NodeValues) : Type 0 wh
   pub turns_is : values.turns ≡ without_end
   pub idle_is : values.idle_timeout ≡ usual_idle_timeout
   pub metrics_is : values.metrics ≡ None
+  pub loops_are : values.on_loops ≡ Some usual_loop_values
 
 -- the words are `proxy`, the file's name and where it listens, neither of which looks like an option, and the numbers are
 -- the usual ones
@@ -418,10 +426,6 @@ pub record SaysProxy (words : List Text) (values : ProxyValues) : Type 0 where
   pub idle_is : values.idle_timeout ≡ usual_idle_timeout
   pub metrics_is : values.metrics ≡ None
   pub loops_are : values.on_loops ≡ None
-
--- what a proxy on loops has whose words say nothing of its loops
-abbrev pub usual_loop_values : LoopValues
-usual_loop_values = record { loops = None; max_clients = usual_max_clients; quiet = false }
 
 -- the words are `proxy`, the file's name, where it listens, how many requests may be under way, one at least, and `--forever`, and
 -- neither the file's name nor where it listens looks like an option
@@ -495,7 +499,7 @@ AgreesWith (Check file) (Check read) = path_in read ≡ path_in file
 AgreesWith (Upgrade file) (Upgrade read) = path_in read ≡ path_in file
 AgreesWith (Node values) (Node read) = (read.listen.now ≡ values.listen.now) × (read.capacity ≡ values.capacity)
     × (read.clients ≡ values.clients) × (read.turns ≡ values.turns) × (read.idle_timeout ≡ values.idle_timeout)
-    × (path_in read.metrics ≡ path_in values.metrics)
+    × (path_in read.metrics ≡ path_in values.metrics) × (read.on_loops ≡ values.on_loops)
 AgreesWith (Proxy values) (Proxy read) = (read.config.now ≡ values.config.now) × (read.listen.now ≡ values.listen.now)
     × (read.room ≡ values.room) × (read.clients ≡ values.clients) × (read.turns ≡ values.turns)
     × (read.leg_timeout ≡ values.leg_timeout) × (read.idle_timeout ≡ values.idle_timeout)

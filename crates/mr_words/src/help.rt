@@ -89,13 +89,16 @@ pub const UPGRADE_NOTES: &str = notes!(
 /// The notes of `node`.
 pub const NODE_NOTES: &str = notes!(
     "The host is an address, as 127.0.0.1, or localhost. The node is empty at first, and speaks memcached's text protocol.\n\
-    Connections are accepted one after another, and each is served in a thread of its own. At 0 clients none is.\n\
+    Connections are accepted one after another. At 0 clients none is. With --forever or --metrics they are served on\n\
+    loops, each of which is a thread, over one cache, and a client waits while --max-clients are served. Without both\n\
+    each client has a thread of its own.\n\
     The capacity counts items, not bytes: a key has at most 250 bytes, a value at most 1,048,576. An item that is used\n\
     least recently makes way for a new one.\n\
     A client that sends nothing, or reads nothing of what it is answered, for --idle-timeout seconds is dropped.\n\
     With --metrics, GET /metrics is answered at that address, for Prometheus; docs/METRICS.md says what is told.\n\
     The standard input isn't read. Once all connections have ended, 'served <n>' is printed: the number of those that\n\
-    ended without a fault. Where that isn't all of them, the status is 1. With --forever it serves until a signal ends it.",
+    ended without a fault. Where that isn't all of them, the status is 1. With --forever it serves until a signal ends\n\
+    it, and says on the standard error what happens, unless --quiet is given.",
     "migctl node --listen 127.0.0.1:11211 --capacity 4096 --forever"
 );
 

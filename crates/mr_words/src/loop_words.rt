@@ -1,18 +1,18 @@
-//! The words of a proxy on loops: how many loops it has, how many clients, and whether it says what happens.
+//! The words of a service on loops: how many loops it has, how many clients, and whether it says what happens.
 ghost use Rattle.std.specs.Prelude.{◌≡◌, ◌↔◌, ℕ, Option, false, IfSome, IfNone, IsTrue, codes};
 ghost use Rattle.clap.specs.Words.{found_of, one_of, rows_of, rule_of};
 ghost use Rattle.mr_words.specs.Command.{flag_rule, loops_rule, max_clients_rule};
 ghost use Rattle.mr_words.specs.Words.{AreLoopValues, HasLoopValues, IsNumberIfGiven, IsRoom, LacksLoopValues, is_on_loops, loop_count};
-ghost use Rattle.mr_words.specs.WordSteps.{SaysWhyNoProxy};
+ghost use Rattle.mr_words.specs.WordSteps.{SaysWhyNoProxy, why_no_node};
 
 use crate::options::{flag, is_given, number_between, number_or, text_in};
 use clap::{Arg, ArgMatches};
 use std::alloc::Global;
 
-/// The most loops of a proxy.
+/// The most loops of a service.
 const MOST_LOOPS: u64 = 64;
 
-/// The most loops of a proxy whose words don't say how many.
+/// The most loops of a service whose words don't say how many.
 const USUAL_LOOPS: u64 = 4;
 
 /// How many clients are served at once, where the words don't say it.
@@ -24,7 +24,7 @@ const USUAL_ROOM: u64 = 64;
 /// How many requests may be under way in each loop, where the words don't say it.
 const USUAL_LOOP_ROOM: u64 = 4096;
 
-/// What the words say of a proxy on loops.
+/// What the words say of a service on loops.
 #[derive(Clone, Copy, Debug)]
 pub struct LoopValues {
     /// How many loops there are, where the words say it.
@@ -82,7 +82,7 @@ pub fn quiet_flag<'a>(alloc: Global) -> Arg<'a>
     flag(alloc, "quiet", "Say nothing of what happens")
 }
 
-/// Whether a proxy is one on loops: with `--forever` or `--metrics`.
+/// Whether a service is one on loops: with `--forever` or `--metrics`.
 pub fn asks_for_loops(matches: &ArgMatches) -> bool
     ensures { result ≡ is_on_loops (rows_of (found_of matches.now)) }
 {
@@ -116,7 +116,7 @@ fn number_if_given(matches: &ArgMatches, name: &str) -> Option<Option<u64>>
     }
 }
 
-/// The values of a proxy on loops, where each of them was found or is the usual one.
+/// The values of a service on loops, where each of them was found or is the usual one.
 fn loop_values(matches: &ArgMatches) -> Option<LoopValues>
     ensures found { IfSome result (HasLoopValues (rows_of (found_of matches.now))) }
     ensures missing { IfNone result
@@ -138,7 +138,7 @@ fn lacks_loop_values(matches: &ArgMatches) -> bool
         && !is_given(matches, "quiet")
 }
 
-/// The values of a proxy on loops, or that it is one by threads. It is none where words that say something of loops alone are
+/// The values of a service on loops, or that it is one by threads. It is none where words that say something of loops alone are
 /// given to one by threads.
 pub fn loops_in(matches: &ArgMatches) -> Option<Option<LoopValues>>
     ensures found { IfSome result (AreLoopValues (rows_of (found_of matches.now))) }
@@ -159,11 +159,18 @@ pub fn loops_in(matches: &ArgMatches) -> Option<Option<LoopValues>>
 pub fn why_no_proxy(matches: &ArgMatches) -> &'static str
     ensures { SaysWhyNoProxy (rows_of (found_of matches.now)) result.now }
 {
+    if asks_for_loops(matches) && room_in(matches, true).is_none() {
+        return "'--room' is at least 1 with '--forever' or '--metrics'";
+    }
+    why_no_node(matches)
+}
+
+/// Why a node has no values, though the command line took each of them.
+pub fn why_no_node(matches: &ArgMatches) -> &'static str
+    ensures { result.now ≡ why_no_node (rows_of (found_of matches.now)) }
+{
     if !asks_for_loops(matches) {
         return "'--loops', '--max-clients' and '--quiet' go with '--forever' or '--metrics'";
-    }
-    if room_in(matches, true).is_none() {
-        return "'--room' is at least 1 with '--forever' or '--metrics'";
     }
     if is_given(matches, "forever") {
         "'--forever' stands in place of '--clients' and '--turns', and neither goes with it"

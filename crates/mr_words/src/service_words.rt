@@ -42,12 +42,14 @@ pub struct NodeValues<'a> {
     pub capacity: u64,
     /// How many clients are served, until the command ends.
     pub clients: u64,
-    /// How many reads are made at most of each client's connection.
+    /// How many reads are made at most of each client's connection. Loops bound them by time alone.
     pub turns: u64,
     /// How many seconds a client may be silent, or read nothing of what it is answered; 0 for as many as it likes.
     pub idle_timeout: u64,
     /// Where metrics are told, if they are: a host and a port, with a colon between them.
     pub metrics: Option<&'a str>,
+    /// What is said of its loops, where it runs on loops and not by threads.
+    pub on_loops: Option<LoopValues>,
 }
 
 /// The values of the command `proxy`.
@@ -154,7 +156,10 @@ pub fn node_command<'a>(alloc: Global) -> Result<Command<'a>, AllocError>
     let node = with_option(node, turns_option(alloc));
     let node = with_option(node, idle_timeout_option(alloc));
     let node = with_option(node, metrics_option(alloc));
-    with_option(node, forever_flag(alloc))
+    let node = with_option(node, forever_flag(alloc));
+    let node = with_option(node, loops_option(alloc));
+    let node = with_option(node, max_clients_option(alloc));
+    with_option(node, quiet_flag(alloc))
 }
 
 /// The command `proxy`.
@@ -209,9 +214,10 @@ pub fn node_values<'a>(matches: &ArgMatches<'a>) -> Option<NodeValues<'a>>
         listen: matches.get_str("listen")?,
         capacity: number_or(matches, "capacity", USUAL_CAPACITY)?,
         clients: bound_or(matches, "clients", USUAL_CLIENTS, forever)?,
-        turns: bound_or(matches, "turns", USUAL_TURNS, forever)?,
+        turns: bound_or(matches, "turns", USUAL_TURNS, asks_for_loops(matches))?,
         idle_timeout: number_or(matches, "idle-timeout", USUAL_IDLE_TIMEOUT)?,
         metrics: matches.get_str("metrics"),
+        on_loops: loops_in(matches)?,
     })
 }
 

@@ -4,13 +4,13 @@ ghost use Rattle.clap.specs.Words.{AddsSubcommand, Row, app_of, found_of, rows_o
 ghost use Rattle.mr_words.specs.Command.{file_app, word_rule, timeline_app, run_app, check_app, upgrade_app, explain_app, program_app};
 ghost use Rattle.mr_words.specs.Explain.{told_by};
 ghost use Rattle.mr_words.specs.Words.{AgreesWith, HasExplanation, ReadsWords, SaysPlainly, SaysVersion, ReadsAs, TellsVersion};
-ghost use Rattle.mr_words.specs.WordSteps.{IsFaultOf, GivesReadings, GivesTimeline, GivesCommand, SaysWhyNoProxy, both_given, neither_form, no_such_fault};
+ghost use Rattle.mr_words.specs.WordSteps.{IsFaultOf, GivesReadings, GivesTimeline, GivesCommand, SaysWhyNoProxy, neither_form, no_such_fault, why_no_node};
 
 use crate::explain::{Explanation, find_explanation};
 use crate::help::{
     CHECK_NOTES, EXPLAIN_NOTES, PROGRAM_NOTES, RUN_NOTES, TIMELINE_NOTES, UPGRADE_NOTES,
 };
-use crate::loop_words::why_no_proxy;
+use crate::loop_words::{why_no_node, why_no_proxy};
 use crate::options::{config_option, option};
 use crate::plan_words::{PlanValues, plan_command, plan_values};
 use crate::readings::numbers_in;
@@ -352,13 +352,12 @@ fn wanted_of<'a>(alloc: Global, matches: &ArgMatches<'a>) -> Result<Option<Wante
 }
 
 /// Why no command has these values, though the command line took each of them: `explain` names no fault, a plan is given
-/// neither of its forms or parts of both, a proxy is given what doesn't go together, or a node `--forever` beside what it stands in
-/// place of.
+/// neither of its forms or parts of both, or a service is given what doesn't go together.
 fn refusal_of_values(matches: &ArgMatches) -> &'static str
     ensures explain { (subcommand_name_of matches.now ≡ Some (codes "explain")) → (result.now ≡ no_such_fault) }
     ensures plan { (subcommand_name_of matches.now ≡ Some (codes "plan")) → (result.now ≡ neither_form) }
     ensures proxy { (rows : List Row) → (subcommand_rows_of matches.now ≡ Some (codes "proxy", rows)) → SaysWhyNoProxy rows result.now }
-    ensures node { (subcommand_name_of matches.now ≡ Some (codes "node")) → (result.now ≡ both_given) }
+    ensures node { (rows : List Row) → (subcommand_rows_of matches.now ≡ Some (codes "node", rows)) → result.now ≡ why_no_node rows }
 {
     if matches.subcommand_matches("explain").is_some() {
         return "no layer of this name has a fault of this number: 'migctl explain --help' names the layers";
@@ -366,10 +365,13 @@ fn refusal_of_values(matches: &ArgMatches) -> &'static str
     if matches.subcommand_matches("plan").is_some() {
         return "'plan' takes --config and --at, or six words of which the fifth is sum or fnv1a32: 'migctl plan --help' shows both";
     }
+    if let Some(found) = matches.subcommand_matches("node") {
+        return why_no_node(found);
+    }
     match matches.subcommand_matches("proxy") {
         Some(found) => why_no_proxy(found),
-        None =>
-            "'--forever' stands in place of '--clients' and '--turns', and neither goes with it",
+        // Each other command has its values, or is refused before.
+        None => "these values don't go together",
     }
 }
 

@@ -76,7 +76,7 @@ def a_proxy_has_a_loop_for_each_processor():
             node = fleet.keep(FakeNode(missing))
             config = str(fleet.config([node.address]))
             words = ("proxy", "--config", config, "--forever", "--quiet")
-            proxy = fleet.serve(*words, before=("taskset", "-c", processors), told=False)
+            proxy = fleet.serve(*words, before=("taskset", "-c", processors), left_open=False)
             wait_for("connections to the node", loops, lambda node=node: len(node.links))
             proxy.ask(get_of("k"), MISS)
             check("connections to the node", loops, len(node.links))

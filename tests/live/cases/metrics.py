@@ -72,6 +72,7 @@ def a_node_counts_what_it_performs():
         check("deletes", {"deleted": 1, "not found": 1}, counted(samples, "migctl_node_deletes_total", "deleted", "not found"))
         check("evictions", 1, samples[("migctl_node_evictions_total",)])
         check("its address", 1, samples[("migctl_node_info", told.service.address)])
+        check("its loops", told.service.loops, samples[("migctl_node_loops",)])
         check("steps back", 0, samples[("migctl_clock_steps_back_total",)])
         now = time.time()
         check_true("its clock is this machine's", abs(samples[("migctl_clock_seconds",)] - now) <= 2)

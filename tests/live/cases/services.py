@@ -230,10 +230,10 @@ def one_client_is_served_where_the_words_do_not_say_how_many():
 
 @case
 def a_service_without_an_end_goes_on_after_its_first_clients():
-    """With --forever it serves one client after another, and those at once, and says nothing of whom it served, a proxy that is told
-    so nothing at all."""
+    """With --forever it serves one client after another, and those at once, and says nothing of whom it served, and with --quiet
+    nothing at all."""
     with Fleet() as fleet:
-        node = fleet.serve("node", "--forever")
+        node = fleet.serve("node", "--forever", "--quiet")
         proxy = fleet.serve("proxy", "--config", str(fleet.config([fleet.node()])), "--forever", "--quiet")
         for service in (node, proxy):
             for number in range(3):

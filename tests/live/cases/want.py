@@ -11,8 +11,8 @@ MIB = 1 << 20
 
 
 def both(fleet, clients):
-    """A node for so many clients, and a proxy by threads for as many before another node."""
-    return fleet.node(clients=clients), fleet.proxy_by_threads(fleet.config([fleet.node()]), clients=clients)
+    """A node by threads for so many clients, and a proxy by threads for as many before another node."""
+    return fleet.node_by_threads(clients=clients), fleet.proxy_by_threads(fleet.config([fleet.node()]), clients=clients)
 
 
 def serves(client, value):

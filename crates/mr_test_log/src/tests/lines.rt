@@ -172,6 +172,14 @@ static ROWS: [Row; 21] = [
     },
 ];
 
+/// A line of a node, which has no configuration.
+static OF_A_NODE: Row = Row {
+    happening: Happening::Listens { loops: 2 },
+    more: 0,
+    at: None,
+    text: "- listens at 127.0.0.1:11211, loops 2, version 0.12.0",
+};
+
 /// The pools of 7001 and 7002, and of 7101 to 7103.
 fn pools(rt: &impl Abort, alloc: Global) -> [Pool; 2] {
     let old = pool(alloc, &[b"127.0.0.1:7001", b"127.0.0.1:7002"]);
@@ -192,9 +200,25 @@ fn service(pools: &[Pool]) -> Service<'_> {
     Service {
         version: "0.10.0",
         address: "127.0.0.1:9000",
-        config: "5f70bf18a08660",
+        config: Some("5f70bf18a08660"),
         pools,
     }
+}
+
+#[test]
+fn a_node_has_no_configuration(rt: HostRuntime) {
+    let node = Service {
+        version: "0.12.0",
+        address: "127.0.0.1:11211",
+        config: None,
+        pools: &[],
+    };
+    let said = Said {
+        happening: OF_A_NODE.happening,
+        more: OF_A_NODE.more,
+    };
+    let line = must(&rt, line_of(rt.alloc(), &said, OF_A_NODE.at, &node));
+    reads(&rt, 0, &line, &OF_A_NODE);
 }
 
 #[test]

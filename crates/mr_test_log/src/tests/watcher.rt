@@ -109,8 +109,20 @@ fn schedule(rt: &impl Abort) -> Schedule {
 }
 
 #[test]
+fn a_watcher_without_a_schedule_tells_steps_back(rt: HostRuntime) {
+    let mut watcher = Watcher::new(None);
+    for (row, (reading, clock, _)) in ROWS.iter().enumerate() {
+        let wanted = Seen {
+            clock: *clock,
+            phase: None,
+        };
+        is(&rt, row, watcher.look(*reading), wanted);
+    }
+}
+
+#[test]
 fn a_watcher_tells_phases_and_steps_back(rt: HostRuntime) {
-    let mut watcher = Watcher::new(schedule(&rt));
+    let mut watcher = Watcher::new(Some(schedule(&rt)));
     for (row, (reading, clock, phase)) in ROWS.iter().enumerate() {
         let wanted = Seen {
             clock: *clock,

@@ -1,6 +1,6 @@
 use Rattle.std.proofs.Common.{◌≡◌, codes, Ok}
 use Rattle.clap.specs.Words.{app_of, new_app}
-use Rattle.mr_words.specs.Command.{forever_rule, listen_rule, metrics_rule, number_rule}
+use Rattle.mr_words.specs.Command.{flag_rule, forever_rule, listen_rule, loops_rule, max_clients_rule, metrics_rule, number_rule}
 use Rattle.mr_words.proofs.CommandLemmas.{option_added}
 use Rattle.mr_words.proofs.service_words.node_command.Goals as goal
 
@@ -18,4 +18,8 @@ returns c =
     c.idle_timeout_option.ensures.rule in
     let metrics = option_added _ _ _ _ metrics_rule c.with_option-node-6.ensures c.metrics_option.ensures.local idle
     c.metrics_option.ensures.rule in
-    option_added _ _ _ _ forever_rule c.with_option.ensures c.forever_flag.ensures.local metrics c.forever_flag.ensures.rule
+    let forever = option_added _ _ _ _ forever_rule c.with_option-node-7.ensures c.forever_flag.ensures.local metrics c.forever_flag.ensures.rule in
+    let loops = option_added _ _ _ _ loops_rule c.with_option-node-8.ensures c.loops_option.ensures.local forever c.loops_option.ensures.rule in
+    let most = option_added _ _ _ _ max_clients_rule c.with_option-node-9.ensures c.max_clients_option.ensures.local loops
+    c.max_clients_option.ensures.rule in
+    option_added _ _ _ _ (flag_rule (codes "quiet")) c.with_option.ensures c.quiet_flag.ensures.local most c.quiet_flag.ensures.rule

@@ -9,9 +9,10 @@ returns-clause-found c = record {
   listen_is = sym (c.in_ok-get_str.ensures ∙ first_value-rows (found_of c.args.matches.now) (codes "listen"));
   capacity_is = c.in_ok-number_or.ensures.found;
   clients_is = rw (← c.is_given-forever.ensures) c.in_ok-bound_or.ensures.found;
-  turns_is = rw (← c.is_given-forever.ensures) c.in_ok-bound_or-2.ensures.found;
+  turns_is = rw (← c.asks_for_loops.ensures) c.in_ok-bound_or-2.ensures.found;
   idle_is = c.in_ok-number_or-2.ensures.found;
   metrics_is = sym (c.get_str-2.ensures ∙ first_value-rows (found_of c.args.matches.now) (codes "metrics"));
+  loops_are = c.in_ok-loops_in.ensures.found;
 }
 
 pub returns-in_err-get_str-clause-missing : goal.returns-in_err-get_str-clause-missing
