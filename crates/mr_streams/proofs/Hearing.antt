@@ -1,8 +1,7 @@
 -- What a client sent, what of it was read, and what it is told of that.
-use Rattle.std.proofs.Common.{◌≡◌, ◌≢◌, ℕ, ◌+◌, ◌==◌, ◌||◌, IsTrue, inl, inr, Bool, true, false, List, [], ◌∷◌, ◌++◌, length, map, Option, Some, None, Err, if◌then◌else◌, refl, sym, ap, ◌∙◌, subst, append_assoc, eq-eqb, ne_eqb}
+use Rattle.std.proofs.Common.{◌≡◌, ◌≢◌, ℕ, ◌+◌, ◌==◌, ◌||◌, IsTrue, inl, inr, Bool, true, false, List, [], ◌∷◌, ◌++◌, length, map, Option, Some, None, if◌then◌else◌, refl, sym, ap, ◌∙◌, subst, append_assoc, eq-eqb, ne_eqb}
 use Rattle.std.specs.Prelude.{option_to_list, flat_map}
 use Rattle.std.proofs.lemmas.List.{append-nil, map-append}
-use Rattle.mr_text.specs.Requests.{SpellsRequest}
 use Rattle.mr_text.specs.declared.cause.Cause.{Cause}
 use Rattle.mr_text.specs.declared.cause.Cause.TheVariants as cause
 use Rattle.mr_text.specs.declared.error.TextError.{TextError}
@@ -20,7 +19,7 @@ use Rattle.mr_proxy.specs.Issue.{next_op, sheets_of}
 use Rattle.mr_proxy.specs.ProxyView.{ProxyView}
 use Rattle.mr_loop.specs.Asking.{Asking, DoesAll, DoesOne, IsDoneFor, HoldsBack, StopsFor, begins, denies, denial, fails, tells}
 use Rattle.mr_loop.specs.Events.{FrontView, Event, after_event, after_all}
-use Rattle.mr_loop.specs.Inboxes.{FetchIs, ReadsOne, TakesHeld}
+use Rattle.mr_loop.specs.Inboxes.{FetchIs}
 use Rattle.mr_loop.specs.Links.{all_up}
 use Rattle.mr_loop.specs.LoopView.{TakesPiece, EndsInput}
 use Rattle.mr_loop.specs.Runs.{Due, due_of_turn, due, told_text}
@@ -28,7 +27,7 @@ use Rattle.mr_loop.specs.declared.asker.Asker.{Asker}
 use Rattle.mr_loop.specs.declared.asking.Pause.{Pause}
 use Rattle.mr_loop.specs.declared.asking.Pause.TheVariants.{NeedsBytes, NeedsRoom, NeedsReader, NeedsQueue, NeedsMemory, IsDone}
 use Rattle.mr_loop.specs.declared.client.Client.{Client}
-use Rattle.mr_loop.specs.declared.inbox.Fetched.TheVariants.{Came, Done}
+use Rattle.mr_loop.specs.declared.inbox.Fetched.TheVariants.{Done}
 use Rattle.mr_loop.specs.declared.inbox.Inbox.{Inbox}
 use Rattle.mr_loop.specs.declared.inbox.Input.{Input}
 use Rattle.mr_loop.specs.declared.inbox.Input.TheVariants as input
@@ -42,23 +41,7 @@ use Rattle.mr_streams.proofs.Asking.{issued_new, begun_next}
 use Rattle.mr_streams.proofs.Dues.{Grew, GrewAt, AreNoFlush, all_grew, grew_none, grew_on}
 use Rattle.mr_streams.proofs.Fronts.{has_left}
 use Rattle.mr_streams.proofs.Lists.{at_left, at_new}
-
--- the text of what was read of a client; none of bytes that stop inside a request
-abbrev pub TextIs : Input → List ℕ → Type 0
-TextIs (input.Asks asked) text = SpellsRequest text asked × (asked ≢ request.Quit)
-TextIs (input.Refused Truncated) text = text ≡ []
-TextIs (input.Refused refusal) text = SpellsInput text (input.Refused refusal)
-
--- that of what is held back
-abbrev pub HeldIs : Option Input → List ℕ → Type 0
-HeldIs None text = text ≡ []
-HeldIs (Some next) text = TextIs next text
-
--- what the reader has of what wasn't read yet; what comes behind the end is lost
-pub record ReadsFrom (inbox : Inbox) (tail : List ℕ) : Type 0 where
-  pub lost : List ℕ
-  pub kept : tail ≡ inbox.reader.kept ++ lost
-  pub nothing : inbox.reader.ended ≡ false → lost ≡ []
+use Rattle.mr_streams.proofs.Reading.{TextIs, HeldIs, ReadsFrom, fetch_next}
 
 -- a client between what it sent and what it is told
 pub record ClientOk (history : List Entry) (visit : Visit) (client : Client) (inbox : Inbox) : Type 0 where
@@ -121,103 +104,6 @@ ok_stays history visit clients place client inbox g h = record {
 spells_more : (bytes text : List ℕ) (inputs : List Input) (next : Input) → SpellsInputs bytes inputs → SpellsInput text next → SpellsInputs (bytes ++ text) (inputs ++ next ∷ [])
 spells_more bytes text [] next h one = (text, [], one, refl, ap (λ b. b ++ text) h ∙ sym (append-nil text))
 spells_more bytes text (first ∷ inputs) next h one = (h.0, h.1 ++ text, h.2, spells_more h.1 text inputs next h.3 one, ap (λ b. b ++ text) h.4 ∙ append_assoc h.0 h.1 text)
-
--- what comes next of what a client sent, behind what was read of it
-record NextIsRead (visit : Visit) (bytes : List ℕ) (next : Input) (inbox : Inbox) : Type 0 where
-  text : List ℕ
-  tail : List ℕ
-  sent : visit.sent ≡ bytes ++ (text ++ tail)
-  is : TextIs next text
-  none_held : inbox.held ≡ None
-  reads : inbox.reader.closed ≡ false → ReadsFrom inbox tail
-
-held_next : (visit : Visit) (bytes held tail : List ℕ) (next : Input) (old new : Inbox) → visit.sent ≡ bytes ++ (held ++ tail) → HeldIs old.held held
-    → (old.reader.closed ≡ false → ReadsFrom old tail) → TakesHeld next old new → NextIsRead visit bytes next new
-held_next visit bytes held tail next old new sent holds reads h = record {
-  text = held;
-  tail = tail;
-  sent = sent;
-  is = subst (λ o. HeldIs o held) h.held holds;
-  none_held = ap (λ (i : Inbox). i.held) h.taken;
-  reads = λ open_. (let was = reads (ap (λ (i : Inbox). i.reader.closed) (sym h.taken) ∙ open_) in record {
-    lost = was.lost;
-    kept = was.kept ∙ ap (λ (i : Inbox). i.reader.kept ++ was.lost) (sym h.taken);
-    nothing = λ e. was.nothing (ap (λ (i : Inbox). i.reader.ended) (sym h.taken) ∙ e);
-  });
-}
-
--- nothing was held
-none_before : (bytes held tail sent : List ℕ) → sent ≡ bytes ++ (held ++ tail) → held ≡ [] → sent ≡ bytes ++ tail
-none_before bytes held tail sent e none = e ∙ ap (λ h. bytes ++ (h ++ tail)) none
-
--- a text was read, and these bytes are left
-read_next : (visit : Visit) (bytes tail text after : List ℕ) (next : Input) (old new : Inbox) → visit.sent ≡ bytes ++ tail → (was : ReadsFrom old tail)
-    → old.reader.kept ≡ text ++ after → TextIs next text → new.held ≡ None → new.reader.kept ≡ after → new.reader.ended ≡ old.reader.ended → NextIsRead visit bytes next new
-read_next visit bytes tail text after next old new sent was splits is none kept ended = record {
-  text = text;
-  tail = after ++ was.lost;
-  sent = sent ∙ ap (λ x. bytes ++ x) (was.kept ∙ ap (λ x. x ++ was.lost) splits ∙ append_assoc text after was.lost);
-  is = is;
-  none_held = none;
-  reads = λ _. record { lost = was.lost; kept = ap (λ x. x ++ was.lost) (sym kept); nothing = λ e. was.nothing (sym ended ∙ e) };
-}
-
--- all that was kept is refused, and nothing more is read
-closed_next : (visit : Visit) (bytes tail : List ℕ) (next : Input) (old new : Inbox) → visit.sent ≡ bytes ++ tail → (was : ReadsFrom old tail) → TextIs next old.reader.kept
-    → new.held ≡ None → new.reader.closed ≡ true → NextIsRead visit bytes next new
-closed_next visit bytes tail next old new sent was is none closed = record {
-  text = old.reader.kept;
-  tail = was.lost;
-  sent = sent ∙ ap (λ x. bytes ++ x) was.kept;
-  is = is;
-  none_held = none;
-  reads = λ e. absurd (let never : true ≡ false = sym closed ∙ e in cc);
-}
-
-refused_next : (refusal : TextError) (is_done : Bool) (visit : Visit) (bytes tail : List ℕ) (old new : Inbox) → visit.sent ≡ bytes ++ tail → (old.reader.closed ≡ false → ReadsFrom old tail)
-    → ReadsOne old (Err refusal) is_done new → refusal ≢ Closed → refusal ≢ OutOfMemory → NextIsRead visit bytes (input.Refused refusal) new
-refused_next LineTooLong is_done visit bytes tail old new sent reads r a b = closed_next visit bytes tail (input.Refused LineTooLong) old new sent (reads r.next.0) r.next.1 r.same_held r.next.2.is_closed
-refused_next BadKey is_done visit bytes tail old new sent reads r a b = closed_next visit bytes tail (input.Refused BadKey) old new sent (reads r.next.0) r.next.1 r.same_held r.next.2.is_closed
-refused_next BadNumber is_done visit bytes tail old new sent reads r a b = closed_next visit bytes tail (input.Refused BadNumber) old new sent (reads r.next.0) r.next.1 r.same_held r.next.2.is_closed
-refused_next WrongWords is_done visit bytes tail old new sent reads r a b = closed_next visit bytes tail (input.Refused WrongWords) old new sent (reads r.next.0) r.next.1 r.same_held r.next.2.is_closed
-refused_next DataTooLong is_done visit bytes tail old new sent reads r a b = closed_next visit bytes tail (input.Refused DataTooLong) old new sent (reads r.next.0) r.next.1 r.same_held r.next.2.is_closed
-refused_next BadDataEnd is_done visit bytes tail old new sent reads r a b = closed_next visit bytes tail (input.Refused BadDataEnd) old new sent (reads r.next.0) r.next.1 r.same_held r.next.2.is_closed
-refused_next (UnknownCommand true) is_done visit bytes tail old new sent reads r a b =
-    closed_next visit bytes tail (input.Refused (UnknownCommand true)) old new sent (reads r.next.0) r.next.1 r.same_held r.next.2.is_closed
-refused_next (UnknownCommand false) is_done visit bytes tail old new sent reads r a b =
-    let skips = r.next.2 in
-    read_next visit bytes tail skips.line r.next.1 (input.Refused (UnknownCommand false)) old new sent (reads r.next.0) skips.splits
-    (record { words = skips.words; line = skips.line; splits = sym (append-nil skips.line); is_line = skips.is_line; unknown = skips.unknown })
-    r.same_held r.next.3.stands r.next.3.is_ended
-refused_next Truncated is_done visit bytes tail old new sent reads r a b = record {
-  text = [];
-  tail = tail;
-  sent = sent;
-  is = refl;
-  none_held = r.same_held;
-  reads = λ e. absurd (let never : true ≡ false = sym r.next.3.is_closed ∙ e in cc);
-}
-refused_next Closed is_done visit bytes tail old new sent reads r a b = absurd (a refl)
-refused_next OutOfMemory is_done visit bytes tail old new sent reads r a b = absurd (b refl)
-
-fetch_next : (next : Input) (visit : Visit) (bytes held tail : List ℕ) (old new : Inbox) → visit.sent ≡ bytes ++ (held ++ tail) → HeldIs old.held held
-    → (old.reader.closed ≡ false → ReadsFrom old tail) → FetchIs old (Came next) new → NextIsRead visit bytes next new
-fetch_next (input.Asks asked) visit bytes held tail old new sent holds reads h =
-    elim h [
-      | inl takes ↦ held_next visit bytes held tail (input.Asks asked) old new sent holds reads takes
-      | inr r ↦ (
-          let none : held ≡ [] = subst (λ o. HeldIs o held) r.0.none_held holds in
-          let begins = r.0.next.2 in
-          read_next visit bytes tail begins.spelling r.0.next.1 (input.Asks asked) old new (none_before bytes held tail visit.sent sent none) (reads r.0.next.0) begins.splits
-          (begins.spells, r.1) r.0.same_held r.0.next.3.stands r.0.next.3.is_ended)
-    ]
-fetch_next (input.Refused refusal) visit bytes held tail old new sent holds reads h =
-    elim h [
-      | inl takes ↦ held_next visit bytes held tail (input.Refused refusal) old new sent holds reads takes
-      | inr r ↦ (
-          let none : held ≡ [] = subst (λ o. HeldIs o held) r.0.none_held holds in
-          refused_next refusal _ visit bytes tail old new (none_before bytes held tail visit.sent sent none) reads r.0 r.1 r.2)
-    ]
 
 -- what one thing that a client sent makes due to it
 record IsDoneSo (asker : Asker) (front front' : FrontView) (next : Input) (more : List Due) : Type 0 where

@@ -29,6 +29,7 @@ mod Failing
 mod Thinning
 mod Safety
 mod Dues
+mod Reading
 mod Hearing
 mod HearingEvents
 mod Flushing
