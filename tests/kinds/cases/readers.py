@@ -1,0 +1,140 @@
+"""What readers keep: a stream of small requests keeps nothing of a megabyte that went before, and one that always has a rest doesn't
+grow."""
+import os
+
+from beside import MIB, UNPROVED, in_threads, told_node, told_proxy, wait_for_links, wait_until
+from client import MISS, STORED, get_of, hits, set_of
+from fake import FakeNode
+from fleet import Fleet
+from running import case
+from wanted import Wrong
+
+CLIENTS = 64
+LARGE = bytes(range(97, 123)) * 40330
+LARGE = LARGE[: 1 << 20]  # as large as a value may be
+SMALL = 20  # requests behind the large one
+# What the C library keeps of large values: twice the largest one for each of its arenas, of which there are two a processor.
+ALLOWED = 2 * MIB * 2 * len(os.sched_getaffinity(0)) + 4 * MIB
+GROWN = 16 * MIB if UNPROVED else 3 * MIB
+STREAM = (2000, 1000) if UNPROVED else (20_000, 2000)  # requests of a stream, and the bytes of each value
+
+
+def expect_resident(service, most, what):
+    """Its resident memory comes to be as much at most."""
+    try:
+        wait_until(what, lambda: service.memory("VmRSS") <= most, 5)
+    except Wrong:
+        raise Wrong(f"the resident memory of {service.name()} behind {what}", f"{most:,} at most", f"{service.memory('VmRSS'):,}") from None
+
+
+def send_with_rests(client, requests, answers):
+    """Sends requests so that each piece has the end of one and the beginning of the next: what is left of a piece is never nothing."""
+    begun = b""
+    for request, answer, following in zip(requests, answers, [*requests[1:], b""]):
+        cut = len(following) // 3
+        client.send(request[len(begun) :] + following[:cut])
+        begun = following[:cut]
+        client.expect(answer)
+
+
+def look_at_large(service, others, with_rests):
+    """Each of many clients sets a megabyte, and then goes on with small requests, all the while connected."""
+    clients = service.clients(CLIENTS)
+    small, answers = [set_of("s", "v"), get_of("s")] * (SMALL // 2), [STORED, hits(("s", "v"))] * (SMALL // 2)
+    for client in clients:
+        for request, answer in zip(small[:2], answers):
+            client.ask(request, answer)
+    before = {it: it.memory("VmRSS") for it in (service, *others)}
+    for client in clients:
+        if with_rests:
+            send_with_rests(client, [set_of("k", LARGE), *small], [STORED, *answers])
+        else:
+            client.ask(set_of("k", LARGE), STORED)
+            for request, answer in zip(small, answers):
+                client.ask(request, answer)
+    for it, resident in before.items():
+        expect_resident(it, resident + ALLOWED + MIB, f"{CLIENTS} streams that had a megabyte each")
+    for client in clients:
+        client.quit()
+
+
+@case(waits=True, quick=False)
+def a_stream_of_small_requests_keeps_nothing_of_a_megabyte():
+    """Of sixty-four clients that each set one and go on, at a node and at a proxy: also where what they send always has a rest."""
+    with Fleet() as fleet:
+        jobs = []
+        for with_rests in (False, True):
+            node = told_node(fleet)
+            behind = told_node(fleet)
+            proxy = told_proxy(fleet, fleet.config([behind]), "--loops", "2")
+            wait_for_links(proxy, behind)
+            jobs.append(lambda it=node, with_rests=with_rests: look_at_large(it, [], with_rests))
+            jobs.append(lambda it=proxy, behind=behind, with_rests=with_rests: look_at_large(it, [behind], with_rests))
+        for job in jobs:
+            job()
+
+
+@case(waits=True, quick=False)
+def a_stream_that_always_has_a_rest_does_not_grow():
+    """Forty megabytes of requests over one connection, of which each piece ends within the next one: at a node and at a proxy."""
+    count, size = STREAM
+    requests = [set_of("k", b"%06d" % number + b"v" * size) for number in range(count)]
+    with Fleet() as fleet:
+        node = told_node(fleet)
+        behind = told_node(fleet)
+        proxy = told_proxy(fleet, fleet.config([behind]), "--loops", "1")
+        wait_for_links(proxy, behind)
+
+        def look(service, others):
+            client = service.client()
+            few = count // 10
+            send_with_rests(client, requests[:few], [STORED] * few)
+            client.ask(get_of("absent"), MISS)
+            before = {it: it.memory("VmRSS") for it in (service, *others)}
+            send_with_rests(client, requests, [STORED] * count)
+            client.ask(get_of("k"), hits(("k", requests[-1].split(b"\r\n")[1])))
+            for it, resident in before.items():
+                expect_resident(it, resident + GROWN, f"{count} requests of which each piece left a rest")
+
+        in_threads(lambda: look(node, []), lambda: look(proxy, [behind]))
+
+
+class HoldingBack(FakeNode):
+    """A node whose replies come in pieces of which each has the end of one and the beginning of the next."""
+
+    def __init__(self, value):
+        self.reply = hits(("k", value))
+        super().__init__(self.answer)
+
+    def answer(self, link):
+        """Answers gets of one key, each once the next one has come, and a third of the next reply with it."""
+        cut = len(self.reply) // 3
+        begun = 0
+        if not link.request():
+            return
+        while link.request():
+            link.send(self.reply[begun:] + self.reply[:cut])
+            begun = cut
+
+
+@case(waits=True, quick=False)
+def replies_that_always_leave_a_rest_do_not_grow():
+    """Forty megabytes of a node's replies, of which each piece ends within the next one."""
+    count, size = STREAM
+    with Fleet() as fleet:
+        value = b"v" * size
+        node = fleet.keep(HoldingBack(value))
+        proxy = told_proxy(fleet, fleet.config([node.address]), "--loops", "1")
+        wait_for_links(proxy, node)
+        client = proxy.client()
+        client.send(get_of("k"))
+
+        def ask(number):
+            for _ in range(number):
+                client.send(get_of("k"))
+                client.expect(hits(("k", value)))
+
+        ask(count // 10)
+        before = proxy.memory("VmRSS")
+        ask(count)
+        expect_resident(proxy, before + GROWN, f"{count} replies of which each piece left a rest")
