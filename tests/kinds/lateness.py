@@ -1,8 +1,9 @@
 """How late this machine is, which is measured all the while.
 
 A bound of time is looked at from both sides. From below nothing is allowed but what a turn of a loop is coarse by: what comes too
-early is wrong on any machine. From above four times the greatest lateness is allowed that was measured meanwhile, beside a quarter
-of a second: what a bound proves is then that something ended, by its own time and not by another one that is twice as long.
+early is wrong on any machine. From above four times the greatest lateness is allowed that was measured meanwhile, beside two fifths
+of a second and a twentieth of the time itself: what a bound proves is then that something ended, by its own time and not by another
+one that is twice as long.
 """
 import collections
 import threading
@@ -13,7 +14,7 @@ from wanted import Wrong
 
 STEP = 0.01  # seconds that are slept through, again and again
 EARLY = 0.03  # seconds before its time at which something may be over
-GRAIN = 0.25  # seconds behind its time at which something may be over on a machine that is never late
+GRAIN = 0.4  # seconds behind its time at which something may be over on a machine that is never late
 MOST_LATE = 0.4  # seconds of lateness beside which a failure says nothing of the program
 
 
@@ -52,6 +53,6 @@ def late_since(begun):
 def check_took(what, begun, least, most=None, ended=None):
     """What began then was over after this time at least, and after `most` seconds, or as many, at most but for lateness."""
     ended = time.monotonic() if ended is None else ended
-    allowed = (least if most is None else most) + GRAIN + 4 * late_since(begun)
+    allowed = 1.05 * (least if most is None else most) + GRAIN + 4 * late_since(begun)
     if not least - EARLY <= ended - begun <= allowed:
         raise Wrong(f"the seconds until {what}", f"{least} to {allowed:.2f}", f"{ended - begun:.2f}")

@@ -12,8 +12,9 @@ from running import case
 from scraping import scraped
 from wanted import Wrong, check
 
-MEGABYTE = "v" * (1 << 20)
-BLOCKS = 1 if UNPROVED else 4
+# More than there is room for at both ends of a connection to a node that reads nothing.
+LARGE = "v" * (200_000 if UNPROVED else 1 << 20)
+BLOCKS = 2 if UNPROVED else 4
 
 
 def expect_lost(client, count, begun, bound, what):
@@ -70,13 +71,13 @@ def look_at_bound(millis):
             while time.monotonic() < until:
                 begun = time.monotonic()
                 client.ask(set_of(keys[good], "v"), STORED)
-                check_took("another node's key was set", begun, 0)
+                check_took("another node's key was set", begun, 0, 0.5)
                 time.sleep(0.05)
 
         in_threads(
             lambda: lose(silent, [get_of(keys[silent]), set_of(keys[silent], "v"), delete_of(keys[silent])], "a silent node"),
             lambda: lose(dripping, [get_of(keys[dripping])], "a node that sends a byte each half of the bound"),
-            lambda: lose(deaf, [set_of(keys[deaf], MEGABYTE)] * BLOCKS, "a node that reads nothing"),
+            lambda: lose(deaf, [set_of(keys[deaf], LARGE)] * BLOCKS, "a node that reads nothing"),
             carry,
             lose_the_second,
             ask_others,
@@ -100,24 +101,26 @@ def a_bound_of_20000_milliseconds_is_a_legs_whole_time():
 
 @case(waits=True)
 def by_threads_a_leg_has_its_bound_too():
-    """Of 200, 5000 and 20000 milliseconds: at a node that is silent, one that reads nothing, and one that accepts nobody."""
+    """Of 200, 5000 and 20000 milliseconds, at a node that is silent and at one that accepts nobody; of 200 and 1000 at one that reads
+    nothing, where each of the few writes has it that find a little room."""
     with Fleet() as fleet:
-        peers = [fleet.keep(Silent()), fleet.keep(Deaf()), fleet.keep(FullQueue())]
-        config = fleet.config([it.address for it in peers])
+        silent, full, deaf = fleet.keep(Silent()), fleet.keep(FullQueue()), fleet.keep(Deaf())
+        config = fleet.config([silent.address, full.address, deaf.address])
+        key = {it: key_at(number, 3) for number, it in enumerate((silent, full, deaf))}
 
-        def look(millis, number, request):
+        def look(millis, request, writes=1):
             client = fleet.proxy_by_threads(config, "--leg-timeout", str(millis)).client()
             begun = time.monotonic()
             client.send(request)
-            expect_lost(client, 1, begun, millis / 1000, f"peer {number} by threads")
+            line, bound = client.line(30), millis / 1000
+            check("the answer by threads", LOST, line)
+            check_took(f"{request[:12]!r} was lost by threads", begun, bound, writes * bound)
 
-        keys = [key_at(number, len(peers)) for number in range(len(peers))]
-        requests = [get_of(keys[0]), set_of(keys[1], MEGABYTE), get_of(keys[2])]
-        in_threads(*(
-            lambda millis=millis, number=number: look(millis, number, requests[number])
-            for millis in (200, 5000, 20_000)
-            for number in range(len(peers))
-        ))
+        in_threads(
+            *(lambda millis=millis: look(millis, get_of(key[silent])) for millis in (200, 5000, 20_000)),
+            *(lambda millis=millis: look(millis, get_of(key[full])) for millis in (200, 5000, 20_000)),
+            *(lambda millis=millis: look(millis, set_of(key[deaf], LARGE), 10) for millis in (200, 1000)),
+        )
 
 
 @case(waits=True)

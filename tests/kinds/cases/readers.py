@@ -9,14 +9,24 @@ from fleet import Fleet
 from running import case
 from wanted import Wrong
 
-CLIENTS = 64
+CLIENTS = 16 if UNPROVED else 64
 LARGE = bytes(range(97, 123)) * 40330
 LARGE = LARGE[: 1 << 20]  # as large as a value may be
 SMALL = 20  # requests behind the large one
 # What the C library keeps of large values: twice the largest one for each of its arenas, of which there are two a processor.
-ALLOWED = 2 * MIB * 2 * len(os.sched_getaffinity(0)) + 4 * MIB
+ALLOWED = (4 * len(os.sched_getaffinity(0)) + 4) * MIB
 GROWN = 16 * MIB if UNPROVED else 3 * MIB
+# An unproved program keeps what it needed for values of this size, and gives back what larger ones need.
+WARMING, WARMED = ([set_of("k", "v" * 250_000)], [STORED]) if UNPROVED else ([], [])
 STREAM = (2000, 1000) if UNPROVED else (20_000, 2000)  # requests of a stream, and the bytes of each value
+
+
+def allowed(service):
+    """How much more memory a service may have behind large values. An unproved one that has a thread for each client keeps twice as
+    much as each sent."""
+    if not UNPROVED:
+        return ALLOWED
+    return (6 if service.loops else 20) * CLIENTS * MIB // 10
 
 
 def expect_resident(service, most, what):
@@ -42,7 +52,7 @@ def look_at_large(service, others, with_rests):
     clients = service.clients(CLIENTS)
     small, answers = [set_of("s", "v"), get_of("s")] * (SMALL // 2), [STORED, hits(("s", "v"))] * (SMALL // 2)
     for client in clients:
-        for request, answer in zip(small[:2], answers):
+        for request, answer in zip([*small[:2], *WARMING], [*answers[:2], *WARMED]):
             client.ask(request, answer)
     before = {it: it.memory("VmRSS") for it in (service, *others)}
     for client in clients:
@@ -53,7 +63,7 @@ def look_at_large(service, others, with_rests):
             for request, answer in zip(small, answers):
                 client.ask(request, answer)
     for it, resident in before.items():
-        expect_resident(it, resident + ALLOWED + MIB, f"{CLIENTS} streams that had a megabyte each")
+        expect_resident(it, resident + allowed(it) + MIB, f"{CLIENTS} streams that had a megabyte each")
     for client in clients:
         client.quit()
 
@@ -70,8 +80,7 @@ def a_stream_of_small_requests_keeps_nothing_of_a_megabyte():
             wait_for_links(proxy, behind)
             jobs.append(lambda it=node, with_rests=with_rests: look_at_large(it, [], with_rests))
             jobs.append(lambda it=proxy, behind=behind, with_rests=with_rests: look_at_large(it, [behind], with_rests))
-        for job in jobs:
-            job()
+        in_threads(*jobs)
 
 
 @case(waits=True, quick=False)

@@ -25,12 +25,13 @@ ASKING = 1  # seconds that a watch has for each service
 
 
 def in_each_form(fleet, *words):
-    """A node and a proxy which tell their metrics, and the two that tell none and run by threads."""
-    config = fleet.config(fleet.nodes(1))
-    return [
-        told_node(fleet, *words), told_proxy(fleet, config, *words),
-        fleet.node(*words), fleet.proxy_by_threads(config, *words),
-    ]
+    """A node and a proxy which tell their metrics, and the two that tell none and run by threads. The proxies have all connections to
+    nodes that they ever have."""
+    nodes = fleet.nodes(2)
+    config = fleet.config(nodes[:1], nodes[1:])
+    on_loops = told_proxy(fleet, config, *words)
+    wait_for_links(on_loops, *nodes)
+    return [told_node(fleet, *words), on_loops, fleet.node(*words), fleet.proxy_by_threads(config, *words)]
 
 
 def is_open(client):
@@ -52,14 +53,19 @@ def wait_for_end(client, begun, bound, what):
 
 def look_at_silence(service, bound):
     """A client that is silent from its first byte on, behind an answer, or within a request is ended after the bound."""
-    clients = service.clients(3)
-    clients[1].ask(get_of("k"), MISS)
-    clients[2].send(b"set silent 0 0 30\r\nten bytes.")
-    begun = time.monotonic()
-    in_threads(*(
-        lambda client=client, what=what: wait_for_end(client, begun, bound, f"{what} at {service.name()}")
-        for client, what in zip(clients, ("one that asks nothing", "one that was answered", "one that stops within a set"))
-    ))
+    def look(text, answer, what):
+        begun = time.monotonic()
+        client = service.client()
+        if text:
+            begun = time.monotonic()
+            client.ask(text, answer)
+        wait_for_end(client, begun, bound, f"{what} at {service.name()}")
+
+    in_threads(
+        lambda: look(b"", b"", "one that asks nothing"),
+        lambda: look(get_of("k"), MISS, "one that was answered"),
+        lambda: look(b"set silent 0 0 30\r\nten bytes.", b"", "one that stops within a set"),
+    )
 
 
 @case(waits=True)
@@ -105,15 +111,19 @@ def read_on(service):
             got, want = got + len(came), want - len(came)
     begun = time.monotonic()
     wait_until(f"the end of who reads nothing at {service.name()}", lambda: service.open_files() < before, IDLE + 15)
-    check_took(f"the end of who reads nothing at {service.name()}", begun, IDLE, IDLE + SWEEP)
+    # by threads each of the last few writes has the bound that finds a little room
+    check_took(f"the end of who reads nothing at {service.name()}", begun, IDLE, IDLE + SWEEP if service.loops else 4 * IDLE)
 
 
 @case(waits=True)
 def traffic_in_one_direction_alone_is_no_silence():
     """For three times the bound a client only sends, or only reads: of services on loops and by threads."""
     with Fleet() as fleet:
-        services = in_each_form(fleet, "--idle-timeout", str(IDLE))
-        in_threads(*(lambda it=it: send_on(it) for it in services), *(lambda it=it: read_on(it) for it in services))
+        words = ("--idle-timeout", str(IDLE))
+        in_threads(
+            *(lambda it=it: send_on(it) for it in in_each_form(fleet, *words)),
+            *(lambda it=it: read_on(it) for it in in_each_form(fleet, *words)),
+        )
 
 
 @case(waits=True)
@@ -200,6 +210,23 @@ def a_scraper_that_reads_slowly_has_five_seconds_too():
         in_threads(lambda: look(for_nothing, 0), lambda: look(for_some, 1000))
 
 
+def look_beside(proxy):
+    """Whether it is a loop that hangs, and so is left out of what is told: after a second."""
+    begun = time.monotonic()
+    with Client(proxy.metrics) as client:
+        client.send(b"GET /metrics HTTP/1.1\r\n\r\n")
+        came, end = client.piece(100, 5)
+        took = time.monotonic()
+        if end:
+            return False  # it is the thread that takes scrapers
+        rest, _ = client.all_that_comes()
+    if b"\nmigctl_proxy_loops 1\n" in came + rest:
+        check_took("the answer beside a loop that hangs", begun, 1, ended=took)
+        return True
+    check_true("both loops answer", b"\nmigctl_proxy_loops 2\n" in came + rest)
+    return False
+
+
 @case(waits=True)
 def a_loop_that_hangs_costs_a_scraper_a_second():
     """It is left out then, and counts again once it goes on. A thread of each loop is stopped in turn."""
@@ -210,20 +237,11 @@ def a_loop_that_hangs_costs_a_scraper_a_second():
         hung = 0
         threads = sorted(int(it) for it in os.listdir(f"/proc/{proxy.child.pid}/task"))
         for thread in threads[1:]:
-            with stopped_thread(thread):
-                begun = time.monotonic()
-                with Client(proxy.metrics) as client:
-                    client.send(b"GET /metrics HTTP/1.1\r\n\r\n")
-                    came, end = client.piece(100, 4)
-                    if end:
-                        continue  # it is the one that takes scrapers
-                    took = time.monotonic()
-                    rest, _ = client.all_that_comes()
-                if b"\nmigctl_proxy_loops 1\n" in came + rest:
-                    hung += 1
-                    check_took("the answer beside a loop that hangs", begun, 1, ended=took)
-                else:
-                    check_true("both loops answer", b"\nmigctl_proxy_loops 2\n" in came + rest)
+            try:
+                with stopped_thread(thread):
+                    hung += look_beside(proxy)
+            except ProcessLookupError:
+                pass  # it was that of a scraper
         check("loops that were left out, each in turn", 2, hung)
         wait_until("loops that answer again", lambda: scraped(proxy.metrics)[loops] == 2)
 
