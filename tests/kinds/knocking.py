@@ -3,8 +3,7 @@
 
 Usage: tests/kinds/knocking.py ADDRESS well COUNT     each asks for a key, is answered, says quit, and is ended
        tests/kinds/knocking.py ADDRESS broken COUNT   each ends within a request: every second one is reset, the others are closed
-       tests/kinds/knocking.py ADDRESS legs COUNT KEY..   each asks for each of these keys at once and reads as many lines, COUNT
-                                                          times over one connection
+       tests/kinds/knocking.py ADDRESS legs COUNT KEY..   all at once ask for all of these keys, and read as many lines
 """
 import socket
 import struct
@@ -55,12 +54,13 @@ def break_off(address, number):
 
 
 def ask_for(address, count, keys):
-    """Asks for keys, which may be lost, again and again."""
+    """So many connections ask for keys, which may be lost."""
     asked = b"".join(b"get %s\r\n" % key.encode() for key in keys)
-    with connected(address) as stream:
-        lines = stream.makefile("rb")
-        for _ in range(count):
-            stream.sendall(asked)
+    streams = [connected(address) for _ in range(count)]
+    for stream in streams:
+        stream.sendall(asked)
+    for stream in streams:
+        with stream, stream.makefile("rb") as lines:
             for _ in keys:
                 line = lines.readline()
                 if line not in (MISS, b"SERVER_ERROR leg lost\r\n"):

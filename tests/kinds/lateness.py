@@ -2,8 +2,8 @@
 
 A bound of time is looked at from both sides. From below nothing is allowed but what a turn of a loop is coarse by: what comes too
 early is wrong on any machine. From above four times the greatest lateness is allowed that was measured meanwhile, beside two fifths
-of a second and a twentieth of the time itself: what a bound proves is then that something ended, by its own time and not by another
-one that is twice as long.
+of a second and a seventh of the time itself, by which the system's own timers may be late: what a bound proves is then that something
+ended, by its own time and not by another one that is twice as long.
 """
 import collections
 import threading
@@ -53,6 +53,12 @@ def late_since(begun):
 def check_took(what, begun, least, most=None, ended=None):
     """What began then was over after this time at least, and after `most` seconds, or as many, at most but for lateness."""
     ended = time.monotonic() if ended is None else ended
-    allowed = 1.05 * (least if most is None else most) + GRAIN + 4 * late_since(begun)
+    allowed = 1.15 * (least if most is None else most) + GRAIN + 4 * late_since(begun)
     if not least - EARLY <= ended - begun <= allowed:
         raise Wrong(f"the seconds until {what}", f"{least} to {allowed:.2f}", f"{ended - begun:.2f}")
+
+
+def note_late(begun, most=0.03):
+    """Where the machine was later than this since a moment, the case is run again, should it fail."""
+    if LATENESS.since(begun) > most:
+        moments.this_thread.late = True

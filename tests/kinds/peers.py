@@ -1,4 +1,5 @@
 """Peers that are slow on purpose, each in a way of its own."""
+import itertools
 import socket
 import threading
 import time
@@ -37,16 +38,19 @@ class Dripping(FakeNode):
 
 
 class OneByOne(FakeNode):
-    """A node that takes a while for each request, and answers it whole then, also where the next ones have come meanwhile."""
+    """A node that takes a while for each request, and answers it whole then, also where the next ones have come meanwhile. The last of
+    these times is that of all further ones too."""
 
-    def __init__(self, pause, **where):
-        self.pause = pause
+    def __init__(self, *pauses, **where):
+        self.pauses = pauses
         super().__init__(self.answer, **where)
 
     def answer(self, link):
         """Answers as a node that holds nothing."""
-        while request := link.request():
-            time.sleep(self.pause)
+        for number in itertools.count():
+            if not (request := link.request()):
+                return
+            time.sleep(self.pauses[min(number, len(self.pauses) - 1)])
             link.send({b"get": MISS, b"set": STORED, b"delete": NOT_FOUND}[request.split()[0]])
 
 

@@ -20,13 +20,19 @@ BY_THREADS = MANY // 5
 ALLOWED = 24 * MIB if UNPROVED else 2 * MIB  # of memory that is taken for no good: 20,000 times a hundred bytes
 LIMIT = 120  # seconds for all of one kind
 BREAKING = 24  # nodes that break off
+TOGETHER = 16 if UNPROVED else 64  # clients that ask for keys of all of them at once
 
 
 class Size:
-    """What a service has: open files, threads and resident memory."""
+    """What a service has: open files, threads and resident memory. A scraper that is just over still has some of it, so the least of
+    a few is taken."""
 
     def __init__(self, service):
-        self.files, self.threads, self.resident = service.open_files(), service.thread_count(), service.memory("VmRSS")
+        seen = []
+        for _ in range(10):
+            seen.append((service.open_files(), service.thread_count(), service.memory("VmRSS")))
+            time.sleep(0.03)
+        self.files, self.threads, self.resident = map(min, zip(*seen))
 
 
 def knock(address, *words):
@@ -60,9 +66,9 @@ def open_told(service):
 
 
 def expect_size(service, before, what):
-    """It comes to have as many open files and threads as before, and as much memory but for a little."""
+    """It comes to have no more open files and threads than before, and no more memory but for a little."""
     try:
-        wait_until("as before", lambda: (service.open_files(), service.thread_count()) == (before.files, before.threads))
+        wait_until("as before", lambda: service.open_files() <= before.files and service.thread_count() <= before.threads)
     except Wrong:
         raise Wrong(
             f"open files and threads of {service.name()} after {what}",
@@ -91,7 +97,7 @@ def come_and_go(service, count, idle):
         client.ask(set_of("k", "v") + get_of("k") + delete_of("k"), STORED + hits(("k", "v")) + b"DELETED\r\n")
 
 
-@case(waits=True)
+@case
 def connections_that_are_over_leave_nothing_at_a_node():
     """Twenty thousand that ended well and as many that broke off within a request: its files, threads and memory are as after the
     first thousand, and it tells that none is open."""
@@ -99,7 +105,7 @@ def connections_that_are_over_leave_nothing_at_a_node():
         come_and_go(told_node(fleet), MANY, 0)
 
 
-@case(waits=True)
+@case
 def connections_that_are_over_leave_nothing_at_a_proxy():
     """The same of a proxy on loops, and of its node, whose connections are the links alone."""
     with Fleet() as fleet:
@@ -112,7 +118,7 @@ def connections_that_are_over_leave_nothing_at_a_proxy():
         check("requests that are under way", 0, samples[("migctl_proxy_requests_under_way",)])
 
 
-@case(waits=True)
+@case
 def by_threads_connections_that_are_over_leave_nothing():
     """A fifth as many, at a node and at a proxy that have a thread for each."""
     with Fleet() as fleet:
@@ -127,10 +133,9 @@ def half_answered(link):
         link.send(b"VALUE k 0 30\r\nhalf")
 
 
-@case(waits=True)
+@case
 def legs_that_break_leave_nothing_at_a_proxy():
-    """Five thousand, at nodes that end each connection within a reply: a client asks for keys of all of them at once, among sixteen
-    of its kind. Then nothing is under way, files, threads and memory are as after the first ones, and another node's keys are
+    """Five thousand, at nodes that end each connection within a reply: many clients ask for keys of all of them at once. Then nothing is under way, files, threads and memory are as after the first ones, and another node's keys are
     served."""
     with Fleet() as fleet:
         broken = [fleet.keep(FakeNode(half_answered)) for _ in range(BREAKING)]
@@ -150,7 +155,7 @@ def legs_that_break_leave_nothing_at_a_proxy():
             while broken_legs() < count:
                 check_true("legs break", time.monotonic() < until)
                 wait_for_links(proxy, *nodes)
-                expect_done(*(knock(proxy.address, "legs", 2, *keys) for _ in range(4 if UNPROVED else 8)))
+                expect_done(knock(proxy.address, "legs", TOGETHER, *keys))
 
         def settled():
             wait_for_links(proxy, *nodes)

@@ -5,7 +5,7 @@ from beside import UNPROVED, in_threads, told_proxy, wait_for_links, wait_until
 from client import LOST, MISS, NOT_FOUND, STORED, delete_of, get_of, set_of
 from fake import FullQueue
 from fleet import Fleet
-from lateness import check_took
+from lateness import check_took, note_late
 from peers import Deaf, Dripping, OneByOne, Silent
 from placing import key_at
 from running import case
@@ -33,11 +33,12 @@ def expect_lost(client, count, begun, bound, what):
 
 def look_at_bound(millis):
     """A proxy with this bound loses the legs of nodes that are silent, deaf or too slow after that time: neither sooner nor later.
-    What is answered after three fifths of it isn't lost, and others are answered at once."""
+    What is answered after a part of it isn't lost, and others are answered at once."""
     bound = millis / 1000
+    part = (0.6 if millis > 1000 else 0.3) * bound
     with Fleet() as fleet:
         silent, deaf = fleet.keep(Silent()), fleet.keep(Deaf())
-        dripping, slow, steady = (fleet.keep(it) for it in (Dripping(bound / 2), OneByOne(0.6 * bound), OneByOne(0.6 * bound)))
+        dripping, slow, steady = (fleet.keep(it) for it in (Dripping(bound / 2), OneByOne(part, 1.4 * bound), OneByOne(part)))
         good = fleet.node()
         nodes = [silent, deaf, dripping, slow, steady, good]
         proxy = told_proxy(fleet, fleet.config([it.address for it in nodes]), "--leg-timeout", str(millis))
@@ -54,15 +55,20 @@ def look_at_bound(millis):
             client = proxy.client()
             for _ in range(1 if millis > 1000 else 5):
                 begun = time.monotonic()
-                client.ask(get_of(keys[steady]), MISS)
-                check_took("a slow leg was back", begun, 0.6 * bound)
+                client.send(get_of(keys[steady]))
+                answer = client.line()
+                check_took("a slow leg was back", begun, part)
+                note_late(begun)
+                check("the answer of a slow leg", MISS, answer)
 
         def lose_the_second():
             client = proxy.client()
             begun = time.monotonic()
             client.send(get_of(keys[slow]) * 2)
-            client.expect(MISS)
-            check_took("the first of two legs was back", begun, 0.6 * bound)
+            answer = client.line()
+            check_took("the first of two legs was back", begun, part)
+            note_late(begun)
+            check("the answer of the first of two legs", MISS, answer)
             expect_lost(client, 1, begun, bound, "a node that answers one and is too late with the next one")
 
         def ask_others():
@@ -71,7 +77,7 @@ def look_at_bound(millis):
             while time.monotonic() < until:
                 begun = time.monotonic()
                 client.ask(set_of(keys[good], "v"), STORED)
-                check_took("another node's key was set", begun, 0, 0.5)
+                check_took("another node's key was set", begun, 0, max(0.5, min(2, bound / 4)))
                 time.sleep(0.05)
 
         in_threads(

@@ -2,6 +2,7 @@
 import json
 import time
 
+import moments
 from beside import in_threads, told_node
 from fake import FakeNode, Teller
 from fleet import Fleet
@@ -62,7 +63,11 @@ def the_true_distance_of_two_clocks_lies_between_least_and_most():
             begun = time.monotonic()
             services = [fleet.keep(first()), fleet.keep(second())]
             for addresses in ([it.address for it in services], [it.address for it in reversed(services)]):
-                spread = json.loads(looked(fleet, *addresses))["spread"]
+                shown = json.loads(looked(fleet, *addresses))
+                if not all(it["reached"] for it in shown["proxies"]):
+                    moments.this_thread.late = True  # it has a second
+                    raise Wrong("whether both were reached", True, False)
+                spread = shown["spread"]
                 apart = abs(services[0].ahead - services[1].ahead)
                 least, most = spread["at_least"], spread["at_most"]
                 if not least - ROUNDING <= apart <= most + ROUNDING:

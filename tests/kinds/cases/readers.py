@@ -37,14 +37,16 @@ def expect_resident(service, most, what):
         raise Wrong(f"the resident memory of {service.name()} behind {what}", f"{most:,} at most", f"{service.memory('VmRSS'):,}") from None
 
 
-def send_with_rests(client, requests, answers):
-    """Sends requests so that each piece has the end of one and the beginning of the next: what is left of a piece is never nothing."""
+def send_with_rests(client, requests, answers, last=b""):
+    """Sends requests so that each piece has the end of one and the beginning of the next: what is left of a piece is never nothing, and
+    in the end a part of the last one. Gives the other part."""
     begun = b""
-    for request, answer, following in zip(requests, answers, [*requests[1:], b""]):
+    for request, answer, following in zip(requests, answers, [*requests[1:], last]):
         cut = len(following) // 3
         client.send(request[len(begun) :] + following[:cut])
         begun = following[:cut]
         client.expect(answer)
+    return last[len(begun) :]
 
 
 def look_at_large(service, others, with_rests):
@@ -55,9 +57,10 @@ def look_at_large(service, others, with_rests):
         for request, answer in zip([*small[:2], *WARMING], [*answers[:2], *WARMED]):
             client.ask(request, answer)
     before = {it: it.memory("VmRSS") for it in (service, *others)}
+    left = b""
     for client in clients:
         if with_rests:
-            send_with_rests(client, [set_of("k", LARGE), *small], [STORED, *answers])
+            left = send_with_rests(client, [set_of("k", LARGE), *small], [STORED, *answers], get_of("s"))
         else:
             client.ask(set_of("k", LARGE), STORED)
             for request, answer in zip(small, answers):
@@ -65,10 +68,11 @@ def look_at_large(service, others, with_rests):
     for it, resident in before.items():
         expect_resident(it, resident + allowed(it) + MIB, f"{CLIENTS} streams that had a megabyte each")
     for client in clients:
+        client.ask(left, hits(("s", "v")) if left else b"")
         client.quit()
 
 
-@case(waits=True, quick=False)
+@case
 def a_stream_of_small_requests_keeps_nothing_of_a_megabyte():
     """Of sixty-four clients that each set one and go on, at a node and at a proxy: also where what they send always has a rest."""
     with Fleet() as fleet:
@@ -76,14 +80,14 @@ def a_stream_of_small_requests_keeps_nothing_of_a_megabyte():
         for with_rests in (False, True):
             node = told_node(fleet)
             behind = told_node(fleet)
-            proxy = told_proxy(fleet, fleet.config([behind]), "--loops", "2")
+            proxy = told_proxy(fleet, fleet.config([behind]), "--loops", "2", "--leg-timeout", "0")
             wait_for_links(proxy, behind)
             jobs.append(lambda it=node, with_rests=with_rests: look_at_large(it, [], with_rests))
             jobs.append(lambda it=proxy, behind=behind, with_rests=with_rests: look_at_large(it, [behind], with_rests))
         in_threads(*jobs)
 
 
-@case(waits=True, quick=False)
+@case
 def a_stream_that_always_has_a_rest_does_not_grow():
     """Forty megabytes of requests over one connection, of which each piece ends within the next one: at a node and at a proxy."""
     count, size = STREAM
@@ -91,7 +95,7 @@ def a_stream_that_always_has_a_rest_does_not_grow():
     with Fleet() as fleet:
         node = told_node(fleet)
         behind = told_node(fleet)
-        proxy = told_proxy(fleet, fleet.config([behind]), "--loops", "1")
+        proxy = told_proxy(fleet, fleet.config([behind]), "--loops", "1", "--leg-timeout", "0")
         wait_for_links(proxy, behind)
 
         def look(service, others):
@@ -126,7 +130,7 @@ class HoldingBack(FakeNode):
             begun = cut
 
 
-@case(waits=True, quick=False)
+@case
 def replies_that_always_leave_a_rest_do_not_grow():
     """Forty megabytes of a node's replies, of which each piece ends within the next one."""
     count, size = STREAM

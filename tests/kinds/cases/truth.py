@@ -86,11 +86,12 @@ class Chain:
         self.base = int(time.time()) + 1_000_000
         self.starts = [self.base + HOP * hop for hop in range(4)]
         self.config = fleet.chain_config(self.pools, self.starts, INTERVAL, HASH)
-        self.clock = fleet.clock(self.base - 5000 - int(time.time()))
+        self.ahead = self.base - 5000 - int(time.time())
+        self.clock = fleet.clock(self.ahead)
         self.legs, self.legs_told, self.breaks = Legs(), collections.Counter(), collections.Counter()
         self.requests, self.answers = collections.Counter(), collections.Counter()
         self.held_back = self.steps_back = 0
-        self.ahead = self.base - 5000 - int(time.time())
+        self.families = set()
         self.begin()
 
     def begin(self):
@@ -246,12 +247,12 @@ class Chain:
         self.clock.move(self.ahead)
 
     def compare(self, other=None):
-        """All that the proxy tells is as it is known, but for these numbers. Gives the families."""
+        """All that the proxy tells is as it is known, but for these numbers."""
         before = int(time.time()) + self.ahead
         samples = scraped(self.proxy.metrics)
         after = int(time.time()) + self.ahead
         known = self.known(before, after) | (other or {})
-        return compare("the proxy", {name: it for name, it in known.items() if it is not None}, samples)
+        self.families |= compare("the proxy", {name: it for name, it in known.items() if it is not None}, samples)
 
     def known(self, before, after):
         """All that the proxy has to tell between these two seconds of its clock."""
@@ -305,8 +306,7 @@ class Chain:
         return LOOPS * least, LOOPS * dials_within(passed)
 
     def compare_nodes(self):
-        """What each node tells is as it is known. Gives the families."""
-        found = set()
+        """What each node tells is as it is known."""
         for node, cache in zip(self.nodes, self.caches):
             now = int(time.time())
             known = {
@@ -318,8 +318,7 @@ class Chain:
                 ("migctl_clock_steps_back_total",): 0,
                 **cache.known(node.address),
             }
-            found |= compare(f"the node {node.address}", known, scraped(node.metrics))
-        return found
+            self.families |= compare(f"the node {node.address}", known, scraped(node.metrics))
 
 
 def dials_within(seconds):
@@ -379,8 +378,9 @@ def all_that_services_tell_is_what_one_driver_did():
         issue = chain.last_issue
         chain.play_commands(13, phase, reads, deletes)
         chain.last_issue = issue
-        found = chain.compare() | chain.compare_nodes()
-        check("families that were compared", sorted(families()), sorted(found))
+        chain.compare()
+        chain.compare_nodes()
+        check("families that were compared", sorted(families()), sorted(chain.families))
 
 
 def at_second(clock, second):
