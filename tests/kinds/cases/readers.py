@@ -9,16 +9,16 @@ from fleet import Fleet
 from running import case
 from wanted import Wrong
 
-CLIENTS = 16 if UNPROVED else 64
+CLIENTS = 6 if UNPROVED else 64
 LARGE = bytes(range(97, 123)) * 40330
 LARGE = LARGE[: 1 << 20]  # as large as a value may be
 SMALL = 20  # requests behind the large one
 # What the C library keeps of large values: twice the largest one for each of its arenas, of which there are two a processor.
 ALLOWED = (4 * len(os.sched_getaffinity(0)) + 4) * MIB
-GROWN = 16 * MIB if UNPROVED else 3 * MIB
+GROWN = 5 * MIB if UNPROVED else 3 * MIB
 # An unproved program keeps what it needed for values of this size, and gives back what larger ones need.
 WARMING, WARMED = ([set_of("k", "v" * 250_000)], [STORED]) if UNPROVED else ([], [])
-STREAM = (2000, 1000) if UNPROVED else (20_000, 2000)  # requests of a stream, and the bytes of each value
+STREAM = (3000, 4000) if UNPROVED else (20_000, 2000)  # requests of a stream, and the bytes of each value
 
 
 def allowed(service):

@@ -425,40 +425,52 @@ def the_next_phase_is_told_to_the_second():
                 look(asked, second)
 
 
+STEPS = 16
+READERS = 8
+
+
+def read_on(service, ended):
+    """A client reads the clock until it is over."""
+    with service.client() as client:
+        while not ended.is_set():
+            client.ask(get_of("k"), MISS)
+
+
+def step_back(service, clock, ended):
+    """The clock goes back by one second, again and again, each time in the midst of a second. Each step is told as one."""
+    steps = ("migctl_clock_steps_back_total",)
+    try:
+        for number in range(STEPS):
+            if not 0.1 < time.time() % 1 < 0.7:
+                time.sleep((1.15 - time.time() % 1) % 1)
+            begun = int(time.time())
+            check("steps back before it", number, scraped(service.metrics)[steps])
+            clock.move(-1 - number)
+            moved = int(time.time())
+            wait_until("the step back", lambda number=number: scraped(service.metrics)[steps] > number, 5)
+            if begun != moved:
+                moments.this_thread.late = True  # a second went by as the clock went back
+            check("steps back by a second", number + 1, scraped(service.metrics)[steps])
+    finally:
+        ended.set()
+
+
 @case(waits=True)
 def a_step_back_of_one_second_is_counted_once_while_others_read():
-    """Four clients and a scraper read all the while that the clock goes back, once and by a second: a node and a proxy count one
-    more each time."""
+    """Eight clients read all the while that the clock goes back by a second, sixteen times: a node and a proxy count one more each
+    time."""
     with Fleet() as fleet:
-        clock = fleet.clock()
         config = fleet.config(fleet.nodes(1))
-        for service in (told_node(fleet, clock=clock), told_proxy(fleet, config, "--loops", "2", clock=clock)):
-            clock.move(0)
-            ended = threading.Event()
 
-            def ask(service=service, ended=ended):
-                with service.client() as client:
-                    while not ended.is_set():
-                        client.ask(get_of("k"), MISS)
+        def look(serve):
+            clock, ended = fleet.clock(), threading.Event()
+            service = serve(clock)
+            in_threads(
+                *[lambda: read_on(service, ended)] * READERS,
+                lambda: step_back(service, clock, ended),
+            )
 
-            def scrape(service=service, ended=ended):
-                while not ended.is_set():
-                    scraped(service.metrics)
-
-            def step(service=service, ended=ended):
-                try:
-                    steps = ("migctl_clock_steps_back_total",)
-                    for number in range(3):
-                        time.sleep((1.3 - time.time() % 1) % 1)  # some way into a second
-                        begun = time.monotonic()
-                        check("steps back before it", number, scraped(service.metrics)[steps])
-                        clock.move(-1 - number)
-                        wait_until("the step back", lambda: scraped(service.metrics)[steps] > number, 5)
-                        if time.monotonic() - begun > 0.6:
-                            moments.this_thread.late = True
-                        time.sleep(0.1)
-                        check("steps back by a second", number + 1, scraped(service.metrics)[steps])
-                finally:
-                    ended.set()
-
-            in_threads(ask, ask, ask, ask, scrape, step)
+        in_threads(
+            lambda: look(lambda clock: told_node(fleet, clock=clock)),
+            lambda: look(lambda clock: told_proxy(fleet, config, "--loops", "4", clock=clock)),
+        )
