@@ -22,11 +22,11 @@ STREAM = (3000, 4000) if UNPROVED else (20_000, 2000)  # requests of a stream, a
 
 
 def allowed(service):
-    """How much more memory a service may have behind large values. An unproved one that has a thread for each client keeps twice as
+    """How much more memory a service may have behind large values. An unproved one that has a thread for each client keeps thrice as
     much as each sent."""
     if not UNPROVED:
         return ALLOWED
-    return (6 if service.loops else 20) * CLIENTS * MIB // 10
+    return (6 if service.loops else 35) * CLIENTS * MIB // 10
 
 
 def expect_resident(service, most, what):
