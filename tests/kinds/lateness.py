@@ -15,7 +15,7 @@ from wanted import Wrong
 STEP = 0.01  # seconds that are slept through, again and again
 EARLY = 0.03  # seconds before its time at which something may be over
 GRAIN = 0.4  # seconds behind its time at which something may be over on a machine that is never late
-MOST_LATE = 0.4  # seconds of lateness beside which a failure says nothing of the program
+MOST_LATE = 0.1  # seconds of lateness beside which a failure says nothing of the program
 
 
 class Lateness:

@@ -15,7 +15,7 @@ from scraping import scraped, wait_for
 from wanted import Wrong, check, check_true
 
 KNOCKING = pathlib.Path(__file__).resolve().parent.parent / "knocking.py"
-FIRST, MANY, LEGS = (1500, 5000, 600) if UNPROVED else (1000, 20_000, 5000)
+FIRST, MANY, LEGS = (1500, 8000, 600) if UNPROVED else (1000, 20_000, 5000)
 BY_THREADS = MANY // 5
 ALLOWED = (6 if UNPROVED else 2) * MIB  # of memory that is taken for no good: 40,000 times fifty bytes
 LIMIT = 120  # seconds for all of one kind

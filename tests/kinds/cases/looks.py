@@ -103,6 +103,9 @@ def a_clock_that_is_off_by_seconds_is_shown_so():
         offs = (0, 7, -7, 0)
         services = [fleet.keep(Reader(BEGIN, 500, off)) for off in offs]
         lines = looked(fleet, *(it.address for it in services), words=("--once",)).decode().splitlines()
+        if any("unreached" in line for line in lines):
+            moments.this_thread.late = True  # each has a second
+            raise Wrong("whether all were reached", True, lines)
         for service, off in zip(services, offs):
             (_, phase, clock, *_), = (line.split() for line in lines if line.startswith(service.address))
             check("its phase", "old-only", phase)

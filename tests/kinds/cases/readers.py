@@ -18,7 +18,7 @@ ALLOWED = (4 * len(os.sched_getaffinity(0)) + 4) * MIB
 GROWN = 5 * MIB if UNPROVED else 3 * MIB
 # An unproved program keeps what it needed for values of this size, and gives back what larger ones need.
 WARMING, WARMED = ([set_of("k", "v" * 250_000)], [STORED]) if UNPROVED else ([], [])
-STREAM = (3000, 4000) if UNPROVED else (20_000, 2000)  # requests of a stream, and the bytes of each value
+STREAM = (1500, 8000) if UNPROVED else (20_000, 2000)  # requests of a stream, and the bytes of each value
 
 
 def allowed(service):
@@ -104,10 +104,10 @@ def a_stream_that_always_has_a_rest_does_not_grow():
             send_with_rests(client, requests[:few], [STORED] * few)
             client.ask(get_of("absent"), MISS)
             before = {it: it.memory("VmRSS") for it in (service, *others)}
-            send_with_rests(client, requests, [STORED] * count)
-            client.ask(get_of("k"), hits(("k", requests[-1].split(b"\r\n")[1])))
+            left = send_with_rests(client, requests, [STORED] * count, get_of("k"))
             for it, resident in before.items():
                 expect_resident(it, resident + GROWN, f"{count} requests of which each piece left a rest")
+            client.ask(left, hits(("k", requests[-1].split(b"\r\n")[1])))
 
         in_threads(lambda: look(node, []), lambda: look(proxy, [behind]))
 

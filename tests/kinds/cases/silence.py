@@ -209,7 +209,7 @@ def a_scraper_that_reads_slowly_has_five_seconds_too():
                 time.sleep(SCRAPE - 0.5)
                 scraper.piece(count, 5)
             wait_until("the end of a scraper that reads slowly", lambda: proxy.open_files() == before, SCRAPE + 10)
-            check_took("the end of a scraper that reads slowly", begun, SCRAPE, 1.3 * SCRAPE)
+            check_took("the end of a scraper that reads slowly", begun, SCRAPE, 1.1 * SCRAPE)
 
         in_threads(lambda: look(for_nothing, 0), lambda: look(for_some, 1000))
 
