@@ -1,0 +1,113 @@
+"""What a service says of what happens is what happened: a line of each kind, and one a second at most."""
+import datetime
+import hashlib
+import json
+import pathlib
+import re
+import time
+
+from beside import told_node, wait_until
+from client import LOST, MISS, get_of
+from fake import FakeNode
+from fleet import Fleet
+from peers import Silent
+from ports import place_at
+from running import case
+from wanted import Wrong, check, check_true
+
+LINE = re.compile(r"(\d{4}-\d\d-\d\dT\d\d:\d\d:\d\dZ) (.*)")
+
+
+class Said:
+    """The lines that a service has said."""
+
+    def __init__(self, service):
+        self.service = service
+
+    def lines(self):
+        """What was said so far: the time of each whole line and its text."""
+        text = self.service.printed()[1].decode()
+        return [LINE.fullmatch(line).groups() for line in text.splitlines(keepends=False)] if text.endswith("\n") else []
+
+    def wait_for(self, text, behind=0):
+        """Waits until a line begins so behind so many lines."""
+        return wait_until(f"a line {text!r} in {self.lines()}", lambda: any(it.startswith(text) for _, it in self.lines()[behind:]), 10)
+
+
+def answering_once(link):
+    """Answers one get, and then what is none."""
+    if link.request():
+        link.send(MISS)
+        if link.request():
+            link.send(b"huh\r\n")
+
+
+@case(waits=True)
+def what_a_proxy_says_is_what_happened():
+    """Where it listens, each phase that its clock enters, a clock that goes back, links that come up and go down and why, clients that
+    wait: by the time of its clock."""
+    with Fleet() as fleet:
+        node, strange, silent = told_node(fleet), fleet.keep(FakeNode(answering_once)), fleet.keep(Silent())
+        away = fleet.keep(place_at("127.0.0.1")).address()
+        start = int(time.time()) + 5000
+        pools = [[node.address], [strange.address], [silent.address], [away]]
+        config = fleet.chain_config(pools, [start, start + 1000, start + 2000], 100, "sum")
+        digest = hashlib.sha256(json.dumps(json.loads(pathlib.Path(config).read_bytes()), sort_keys=True, separators=(",", ":"))
+                                .encode()).hexdigest()
+        clock = fleet.clock()
+        words = ["proxy", "--config", str(config), "--forever", "--loops", "1", "--max-clients", "2", "--leg-timeout", "500"]
+        proxy = fleet.serve(*words, clock=clock, told=False)
+        said = Said(proxy)
+        version = fleet.run("--version")[1].decode().split()[-1]
+        said.wait_for(f"listens at {proxy.address}, loops 1, configuration {digest}, version {version}")
+        said.wait_for("the clock is in phase old-only of hop 0")
+        said.wait_for(f"link to {away} of pool 3 is down: it can't be reached")
+        client = proxy.client()
+        client.ask(get_of("k"), MISS)
+
+        def happens(text, does):
+            behind = len(said.lines())
+            time.sleep(1.1)  # since the last line of its kind
+            does()
+            said.wait_for(text, behind)
+
+        happens(f"link to {node.address} of pool 0 is down: ", node.kill)
+        happens(f"link to {node.address} of pool 0 is up", node.begin_again)
+        for hop, ahead in ((0, 0), (1, 1000), (2, 2000)):
+            for phase, passed in (("both-read-old", 0), ("both-read-new", 100), ("new-only", 200)):
+                second = start + ahead + passed + 5
+                happens(f"the clock is in phase {phase} of hop {hop}", lambda second=second: clock.move(second - int(time.time())))
+                if phase == "new-only" and hop == 0:
+                    client.ask(get_of("k"), MISS)
+                    happens(f"link to {strange.address} of pool 1 is down: it sent what is no reply", lambda: client.ask(get_of("k"), LOST))
+                if phase == "new-only" and hop == 1:
+                    happens(
+                        f"link to {silent.address} of pool 2 is down: it was silent for too long", lambda: client.ask(get_of("k"), LOST)
+                    )
+        happens("new clients wait: 2 are served, as many as may be", proxy.client)
+        happens("the clock went back from ", lambda: (clock.move(start - int(time.time())), client.ask(get_of("k"), LOST)))
+        lines = said.lines()
+        told = [datetime.datetime.strptime(moment, "%Y-%m-%dT%H:%M:%SZ").replace(tzinfo=datetime.UTC).timestamp() for moment, _ in lines]
+        first = [second for second, (_, text) in zip(told, lines) if text.startswith("listens")]
+        check_true("the first line has the time of its clock", abs(first[0] - time.time()) < 120)
+        entered = [second for second, (_, text) in zip(told, lines) if "both-read-old of hop 1" in text]
+        if not start + 1000 <= entered[0] <= start + 1060:
+            raise Wrong("when a phase was entered", start + 1000, entered[0])
+        check("what it says on the other output", b"", proxy.printed()[0])
+
+
+@case(waits=True)
+def a_proxy_says_a_line_of_a_kind_a_second_at_most():
+    """Of twenty nodes that can't be reached: then how many more there were. A quiet one says nothing."""
+    with Fleet() as fleet:
+        away = [fleet.keep(place_at("127.0.0.1")).address() for _ in range(20)]
+        config = fleet.config(away, [fleet.keep(place_at("127.0.0.1")).address()])
+        proxy = fleet.serve("proxy", "--config", str(config), "--forever", "--loops", "2", told=False)
+        quiet = fleet.serve("proxy", "--config", str(config), "--forever", "--loops", "2", "--quiet", told=False)
+        said = Said(proxy)
+        time.sleep(4)
+        texts = [text for _, text in said.lines() if text.startswith("link to ")]
+        counted = sum(int((re.search(r" \((\d+) more\)$", text) or [0, 0])[1]) for text in texts)
+        check_true(f"that of {texts} there is one a second", 1 <= len(texts) <= 6)
+        check("links that can't be reached, in all", 2 * 21, len(texts) + counted)
+        check("what a quiet one says", (b"", b""), quiet.printed())
