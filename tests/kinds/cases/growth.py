@@ -17,7 +17,7 @@ from wanted import Wrong, check, check_true
 KNOCKING = pathlib.Path(__file__).resolve().parent.parent / "knocking.py"
 FIRST, MANY, LEGS = (1500, 8000, 600) if UNPROVED else (1000, 20_000, 5000)
 BY_THREADS = MANY // 5
-ALLOWED = (6 if UNPROVED else 2) * MIB  # of memory that is taken for no good: 40,000 times fifty bytes
+ALLOWED = 2 * MIB  # of memory that is taken for no good: 40,000 times fifty bytes
 LIMIT = 120  # seconds for all of one kind
 BREAKING = 24  # nodes that break off
 TOGETHER = 16 if UNPROVED else 64  # clients that ask for keys of all of them at once
@@ -33,6 +33,11 @@ class Size:
             seen.append((service.open_files(), service.thread_count(), service.memory("VmRSS")))
             time.sleep(0.03)
         self.files, self.threads, self.resident = map(min, zip(*seen))
+
+
+def allowed(service):
+    """How much more memory a service may have: more where it isn't proved, and still more where that has a thread for each client."""
+    return (6 * MIB if service.loops else 24 * MIB) if UNPROVED else ALLOWED
 
 
 def knock(address, *words):
@@ -75,8 +80,8 @@ def expect_size(service, before, what):
             (before.files, before.threads), (service.open_files(), service.thread_count()),
         ) from None
     wait_until(
-        f"{service.memory('VmRSS'):,} bytes of {service.name()} after {what} to be {before.resident + ALLOWED:,} at most",
-        lambda: service.memory("VmRSS") <= before.resident + ALLOWED, 5,
+        f"{service.memory('VmRSS'):,} bytes of {service.name()} after {what} to be {before.resident + allowed(service):,} at most",
+        lambda: service.memory("VmRSS") <= before.resident + allowed(service), 5,
     )
 
 

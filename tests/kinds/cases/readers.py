@@ -9,7 +9,7 @@ from fleet import Fleet
 from running import case
 from wanted import Wrong
 
-CLIENTS = 6 if UNPROVED else 64
+CLIENTS = 8 if UNPROVED else 64
 LARGE = bytes(range(97, 123)) * 40330
 LARGE = LARGE[: 1 << 20]  # as large as a value may be
 SMALL = 20  # requests behind the large one
@@ -26,7 +26,7 @@ def allowed(service):
     much as each sent."""
     if not UNPROVED:
         return ALLOWED
-    return (6 if service.loops else 35) * CLIENTS * MIB // 10
+    return (10 if service.loops else 35) * CLIENTS * MIB // 10
 
 
 def expect_resident(service, most, what):

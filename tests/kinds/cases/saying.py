@@ -96,18 +96,37 @@ def what_a_proxy_says_is_what_happened():
         check("what it says on the other output", b"", proxy.printed()[0])
 
 
+def ending_at_first(link):
+    """Ends each of a few connections at once, and keeps later ones."""
+    while link.number >= ENDED and link.request():
+        pass
+
+
+ENDED = 6  # connections that a node ends
+
+
 @case(waits=True)
 def a_proxy_says_a_line_of_a_kind_a_second_at_most():
-    """Of twenty nodes that can't be reached: then how many more there were. A quiet one says nothing."""
+    """Of ten nodes that end their first connections at once: the lines say how many more there were, so that all of them are told. A
+    quiet one says nothing."""
     with Fleet() as fleet:
-        away = [fleet.keep(place_at("127.0.0.1")).address() for _ in range(20)]
-        config = fleet.config(away, [fleet.keep(place_at("127.0.0.1")).address()])
-        proxy = fleet.serve("proxy", "--config", str(config), "--forever", "--loops", "2", told=False)
-        quiet = fleet.serve("proxy", "--config", str(config), "--forever", "--loops", "2", "--quiet", told=False)
-        said = Said(proxy)
-        time.sleep(4)
-        texts = [text for _, text in said.lines() if text.startswith("link to ")]
-        counted = sum(int((re.search(r" \((\d+) more\)$", text) or [0, 0])[1]) for text in texts)
-        check_true(f"that of {texts} there is one a second", 1 <= len(texts) <= 6)
-        check("links that can't be reached, in all", 2 * 21, len(texts) + counted)
+        nodes = [fleet.keep(FakeNode(ending_at_first)) for _ in range(10)]
+        config = fleet.config([it.address for it in nodes], fleet.nodes(1))
+        words = ("proxy", "--config", str(config), "--forever", "--loops", "2")
+        said = Said(fleet.serve(*words, told=False))
+
+        def counted(text):
+            lines = [line for line in said.lines() if f" {text}" in line[1]]
+            more = sum(int((re.search(r" \((\d+) more\)$", line) or [0, 0])[1]) for _, line in lines)
+            return len(lines) + more, [moment for moment, _ in lines]
+
+        ups = len(nodes) * (ENDED + 2) + 2
+        wait_until("all links that came up are said", lambda: counted("is up")[0] >= ups)
+        time.sleep(1.5)
+        for text, wanted in (("is up", ups), ("is down: it ended the connection", len(nodes) * ENDED)):
+            count, moments = counted(text)
+            check(f"how often it {text}", wanted, count)
+            check(f"lines of one second that {text}", sorted(set(moments)), sorted(moments))
+        quiet = fleet.serve(*words, "--quiet", told=False)
+        wait_until("its links", lambda: all(len(it.links) >= ENDED + 4 for it in nodes))
         check("what a quiet one says", (b"", b""), quiet.printed())
