@@ -31,63 +31,76 @@ def expect_lost(client, count, begun, bound, what):
     check_took(f"the last leg to {what} was lost", begun, bound)
 
 
+class Slow:
+    """A proxy before nodes that are slow, each in its own way, with a bound of so many milliseconds."""
+
+    def __init__(self, fleet, millis):
+        self.bound = millis / 1000
+        self.part = (0.6 if millis > 1000 else 0.3) * self.bound  # that a leg may take
+        self.silent, self.deaf, self.dripping = Silent(), Deaf(), Dripping(self.bound / 2)
+        self.slow, self.steady = OneByOne(self.part, 1.4 * self.bound), OneByOne(self.part)
+        played = [fleet.keep(it) for it in (self.silent, self.deaf, self.dripping, self.slow, self.steady)]
+        self.good = fleet.node()
+        nodes = [*played, self.good]
+        self.proxy = told_proxy(fleet, fleet.config([it.address for it in nodes]), "--leg-timeout", str(millis))
+        wait_for_links(self.proxy, *nodes)
+        self.keys = {it: key_at(number, len(nodes)) for number, it in enumerate(nodes)}
+
+    def lose(self, what, *requests):
+        """All of these are lost after the bound."""
+        client = self.proxy.client()
+        begun = time.monotonic()
+        client.send(*requests)
+        expect_lost(client, len(requests), begun, self.bound, what)
+
+    def lose_all(self):
+        """Of each kind that loses all its legs, side by side."""
+        silent, deaf, dripping = (self.keys[it] for it in (self.silent, self.deaf, self.dripping))
+        in_threads(
+            lambda: self.lose("a silent node", get_of(silent), set_of(silent, "v"), delete_of(silent)),
+            lambda: self.lose("a node that sends a byte each half of the bound", get_of(dripping)),
+            lambda: self.lose("a node that reads nothing", *[set_of(deaf, LARGE)] * BLOCKS),
+        )
+
+    def carry(self):
+        """Legs that take a part of the bound come back, one behind another."""
+        client = self.proxy.client()
+        for _ in range(1 if self.bound > 1 else 5):
+            self.expect_back(client, get_of(self.keys[self.steady]))
+
+    def lose_the_second(self):
+        """Of two legs at once the second one is lost, by the time since it went."""
+        client = self.proxy.client()
+        begun = time.monotonic()
+        self.expect_back(client, get_of(self.keys[self.slow]) * 2)
+        expect_lost(client, 1, begun, self.bound, "a node that answers one and is too late with the next one")
+
+    def expect_back(self, client, requests):
+        """The first of these comes back after its time."""
+        begun = time.monotonic()
+        client.send(requests)
+        answer = client.line()
+        check_took("a slow leg was back", begun, self.part)
+        note_late(begun)
+        check("the answer of a slow leg", MISS, answer)
+
+    def ask_others(self):
+        """Another node's keys are served all the while."""
+        client = self.proxy.client()
+        until = time.monotonic() + self.bound
+        while time.monotonic() < until:
+            begun = time.monotonic()
+            client.ask(set_of(self.keys[self.good], "v"), STORED)
+            check_took("another node's key was set", begun, 0, max(0.5, min(2, self.bound / 4)))
+            time.sleep(0.05)
+
+
 def look_at_bound(millis):
     """A proxy with this bound loses the legs of nodes that are silent, deaf or too slow after that time: neither sooner nor later.
     What is answered after a part of it isn't lost, and others are answered at once."""
-    bound = millis / 1000
-    part = (0.6 if millis > 1000 else 0.3) * bound
     with Fleet() as fleet:
-        silent, deaf = fleet.keep(Silent()), fleet.keep(Deaf())
-        dripping, slow, steady = (fleet.keep(it) for it in (Dripping(bound / 2), OneByOne(part, 1.4 * bound), OneByOne(part)))
-        good = fleet.node()
-        nodes = [silent, deaf, dripping, slow, steady, good]
-        proxy = told_proxy(fleet, fleet.config([it.address for it in nodes]), "--leg-timeout", str(millis))
-        wait_for_links(proxy, *nodes)
-        keys = {it: key_at(number, len(nodes)) for number, it in enumerate(nodes)}
-
-        def lose(node, requests, what):
-            client = proxy.client()
-            begun = time.monotonic()
-            client.send(*requests)
-            expect_lost(client, len(requests), begun, bound, what)
-
-        def carry():
-            client = proxy.client()
-            for _ in range(1 if millis > 1000 else 5):
-                begun = time.monotonic()
-                client.send(get_of(keys[steady]))
-                answer = client.line()
-                check_took("a slow leg was back", begun, part)
-                note_late(begun)
-                check("the answer of a slow leg", MISS, answer)
-
-        def lose_the_second():
-            client = proxy.client()
-            begun = time.monotonic()
-            client.send(get_of(keys[slow]) * 2)
-            answer = client.line()
-            check_took("the first of two legs was back", begun, part)
-            note_late(begun)
-            check("the answer of the first of two legs", MISS, answer)
-            expect_lost(client, 1, begun, bound, "a node that answers one and is too late with the next one")
-
-        def ask_others():
-            client = proxy.client()
-            until = time.monotonic() + bound
-            while time.monotonic() < until:
-                begun = time.monotonic()
-                client.ask(set_of(keys[good], "v"), STORED)
-                check_took("another node's key was set", begun, 0, max(0.5, min(2, bound / 4)))
-                time.sleep(0.05)
-
-        in_threads(
-            lambda: lose(silent, [get_of(keys[silent]), set_of(keys[silent], "v"), delete_of(keys[silent])], "a silent node"),
-            lambda: lose(dripping, [get_of(keys[dripping])], "a node that sends a byte each half of the bound"),
-            lambda: lose(deaf, [set_of(keys[deaf], LARGE)] * BLOCKS, "a node that reads nothing"),
-            carry,
-            lose_the_second,
-            ask_others,
-        )
+        slow = Slow(fleet, millis)
+        in_threads(slow.lose_all, slow.carry, slow.lose_the_second, slow.ask_others)
 
 
 @case(waits=True)

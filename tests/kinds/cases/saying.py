@@ -13,7 +13,7 @@ from fleet import Fleet
 from peers import Silent
 from ports import place_at
 from running import case
-from wanted import Wrong, check, check_true
+from wanted import check, check_true
 
 LINE = re.compile(r"(\d{4}-\d\d-\d\dT\d\d:\d\d:\d\dZ) (.*)")
 
@@ -42,58 +42,80 @@ def answering_once(link):
             link.send(b"huh\r\n")
 
 
+class Talking:
+    """A proxy of one loop before four pools, of which one node is strange, one silent and one away, through which its clock leads it;
+    and what it says."""
+
+    def __init__(self, fleet):
+        self.node, self.strange, self.silent = told_node(fleet), fleet.keep(FakeNode(answering_once)), fleet.keep(Silent())
+        self.away = fleet.keep(place_at("127.0.0.1")).address()
+        self.start = int(time.time()) + 5000
+        pools = [[it] for it in (self.node.address, self.strange.address, self.silent.address, self.away)]
+        self.config = fleet.chain_config(pools, [self.start + 1000 * hop for hop in range(3)], 100, "sum")
+        self.clock = fleet.clock()
+        words = ["proxy", "--config", str(self.config), "--forever", "--loops", "1", "--max-clients", "2", "--leg-timeout", "500"]
+        self.proxy = fleet.serve(*words, clock=self.clock, told=False)
+        self.said = Said(self.proxy)
+        self.client = self.proxy.client()
+
+    def happens(self, text, does):
+        """Once something is done a line says so."""
+        behind = len(self.said.lines())
+        time.sleep(1.1)  # since the last line of its kind
+        does()
+        self.said.wait_for(text, behind)
+
+    def lose(self):
+        """A get is lost."""
+        self.client.ask(get_of("k"), LOST)
+
+    def go_to(self, second):
+        """Sets its clock."""
+        self.clock.move(second - int(time.time()))
+
+    def begin(self, version):
+        """What it says at first."""
+        value = json.dumps(json.loads(pathlib.Path(self.config).read_bytes()), sort_keys=True, separators=(",", ":"))
+        digest = hashlib.sha256(value.encode()).hexdigest()
+        self.said.wait_for(f"listens at {self.proxy.address}, loops 1, configuration {digest}, version {version}")
+        self.said.wait_for("the clock is in phase old-only of hop 0")
+        self.said.wait_for(f"link to {self.away} of pool 3 is down: it can't be reached")
+        self.client.ask(get_of("k"), MISS)
+
+    def enter_all(self):
+        """Each phase is said, and in its time why a link goes down."""
+        for hop in range(3):
+            for phase, passed in (("both-read-old", 0), ("both-read-new", 100), ("new-only", 200)):
+                second = self.start + 1000 * hop + passed + 5
+                self.happens(f"the clock is in phase {phase} of hop {hop}", lambda second=second: self.go_to(second))
+            if hop == 0:
+                self.client.ask(get_of("k"), MISS)
+                self.happens(f"link to {self.strange.address} of pool 1 is down: it sent what is no reply", self.lose)
+            if hop == 1:
+                self.happens(f"link to {self.silent.address} of pool 2 is down: it was silent for too long", self.lose)
+
+    def second_of(self, text):
+        """The time of the first line that has a text."""
+        moment = next(moment for moment, line in self.said.lines() if text in line)
+        return datetime.datetime.strptime(moment, "%Y-%m-%dT%H:%M:%SZ").replace(tzinfo=datetime.UTC).timestamp()
+
+
 @case(waits=True)
 def what_a_proxy_says_is_what_happened():
     """Where it listens, each phase that its clock enters, a clock that goes back, links that come up and go down and why, clients that
     wait: by the time of its clock."""
     with Fleet() as fleet:
-        node, strange, silent = told_node(fleet), fleet.keep(FakeNode(answering_once)), fleet.keep(Silent())
-        away = fleet.keep(place_at("127.0.0.1")).address()
-        start = int(time.time()) + 5000
-        pools = [[node.address], [strange.address], [silent.address], [away]]
-        config = fleet.chain_config(pools, [start, start + 1000, start + 2000], 100, "sum")
-        digest = hashlib.sha256(json.dumps(json.loads(pathlib.Path(config).read_bytes()), sort_keys=True, separators=(",", ":"))
-                                .encode()).hexdigest()
-        clock = fleet.clock()
-        words = ["proxy", "--config", str(config), "--forever", "--loops", "1", "--max-clients", "2", "--leg-timeout", "500"]
-        proxy = fleet.serve(*words, clock=clock, told=False)
-        said = Said(proxy)
-        version = fleet.run("--version")[1].decode().split()[-1]
-        said.wait_for(f"listens at {proxy.address}, loops 1, configuration {digest}, version {version}")
-        said.wait_for("the clock is in phase old-only of hop 0")
-        said.wait_for(f"link to {away} of pool 3 is down: it can't be reached")
-        client = proxy.client()
-        client.ask(get_of("k"), MISS)
-
-        def happens(text, does):
-            behind = len(said.lines())
-            time.sleep(1.1)  # since the last line of its kind
-            does()
-            said.wait_for(text, behind)
-
-        happens(f"link to {node.address} of pool 0 is down: ", node.kill)
-        happens(f"link to {node.address} of pool 0 is up", node.begin_again)
-        for hop, ahead in ((0, 0), (1, 1000), (2, 2000)):
-            for phase, passed in (("both-read-old", 0), ("both-read-new", 100), ("new-only", 200)):
-                second = start + ahead + passed + 5
-                happens(f"the clock is in phase {phase} of hop {hop}", lambda second=second: clock.move(second - int(time.time())))
-                if phase == "new-only" and hop == 0:
-                    client.ask(get_of("k"), MISS)
-                    happens(f"link to {strange.address} of pool 1 is down: it sent what is no reply", lambda: client.ask(get_of("k"), LOST))
-                if phase == "new-only" and hop == 1:
-                    happens(
-                        f"link to {silent.address} of pool 2 is down: it was silent for too long", lambda: client.ask(get_of("k"), LOST)
-                    )
-        happens("new clients wait: 2 are served, as many as may be", proxy.client)
-        happens("the clock went back from ", lambda: (clock.move(start - int(time.time())), client.ask(get_of("k"), LOST)))
-        lines = said.lines()
-        told = [datetime.datetime.strptime(moment, "%Y-%m-%dT%H:%M:%SZ").replace(tzinfo=datetime.UTC).timestamp() for moment, _ in lines]
-        first = [second for second, (_, text) in zip(told, lines) if text.startswith("listens")]
-        check_true("the first line has the time of its clock", abs(first[0] - time.time()) < 120)
-        entered = [second for second, (_, text) in zip(told, lines) if "both-read-old of hop 1" in text]
-        if not start + 1000 <= entered[0] <= start + 1060:
-            raise Wrong("when a phase was entered", start + 1000, entered[0])
-        check("what it says on the other output", b"", proxy.printed()[0])
+        it = Talking(fleet)
+        it.begin(fleet.run("--version")[1].decode().split()[-1])
+        it.happens(f"link to {it.node.address} of pool 0 is down: ", it.node.kill)
+        it.happens(f"link to {it.node.address} of pool 0 is up", it.node.begin_again)
+        it.enter_all()
+        it.happens("new clients wait: 2 are served, as many as may be", it.proxy.client)
+        it.happens("the clock went back from ", lambda: (it.go_to(it.start), it.lose()))
+        check_true("the first line has the time of its clock", abs(it.second_of("listens") - time.time()) < 120)
+        entered = it.second_of("both-read-old of hop 1") - it.start
+        check_true(f"that a phase that began {entered} seconds behind the start has the time of its clock", 1000 <= entered <= 1060)
+        check("what it says on the other output", b"", it.proxy.printed()[0])
 
 
 def ending_at_first(link):

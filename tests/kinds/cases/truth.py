@@ -256,36 +256,42 @@ class Chain:
 
     def known(self, before, after):
         """All that the proxy has to tell between these two seconds of its clock."""
-        digest = hashlib.sha256(json.dumps(json.loads(pathlib.Path(self.config).read_bytes()), sort_keys=True, separators=(",", ":"))
-                                .encode()).hexdigest()
-        hop, phase, following = place_in(self.starts, max(after, self.last_issue[1] if self.last_issue else 0))
-        known = {
+        known = self.known_of_service(before, after) | self.known_of_place(after) | self.legs.known()
+        known |= {("migctl_proxy_requests_total", command, it): self.requests[(command, it)] for command in COMMANDS for it in PHASES}
+        known |= {("migctl_proxy_answers_total", it): self.answers[it] for it in KINDS}
+        for pool, names in enumerate(self.pools):
+            for number, name in enumerate(names):
+                known |= self.known_of_node(pool, number, name)
+        return known
+
+    def known_of_service(self, before, after):
+        """What it has to tell of itself, its clock and its clients."""
+        value = json.dumps(json.loads(pathlib.Path(self.config).read_bytes()), sort_keys=True, separators=(",", ":"))
+        return {
             ("migctl_build_info", version(self.fleet)): 1,
+            ("migctl_proxy_config_info", hashlib.sha256(value.encode()).hexdigest()): 1,
             ("migctl_start_time_seconds",): (int(self.started[0]), self.started[1]),
-            ("migctl_open_connections",): 2,
-            ("migctl_connections_total",): self.came,
             ("migctl_clock_seconds",): (before, after),
             ("migctl_clock_steps_back_total",): self.steps_back,
-            ("migctl_proxy_config_info", digest): 1,
-            ("migctl_proxy_hop",): hop,
-            **{("migctl_proxy_phase", it): int(it == phase) for it in PHASES},
-            ("migctl_proxy_next_phase_seconds",): following,
-            **{("migctl_proxy_requests_total", command, it): self.requests[(command, it)] for command in COMMANDS for it in PHASES},
-            **{("migctl_proxy_answers_total", it): self.answers[it] for it in KINDS},
+            ("migctl_open_connections",): 2,
+            ("migctl_connections_total",): self.came,
             ("migctl_proxy_requests_held_back_total",): self.held_back,
             ("migctl_proxy_requests_under_way",): 0,
             ("migctl_proxy_room_requests",): LOOPS * ROOM,
             ("migctl_proxy_loops",): LOOPS,
             ("migctl_proxy_max_clients",): CLIENTS,
             ("migctl_proxy_clients_wait",): 0,
-            **self.legs.known(),
         }
-        if self.last_issue:
-            known[("migctl_proxy_last_issue_seconds",)] = self.last_issue
-        for pool, names in enumerate(self.pools):
-            for number, name in enumerate(names):
-                known |= self.known_of_node(pool, number, name)
-        return known
+
+    def known_of_place(self, second):
+        """What it has to tell of its place in the schedule, at a second of its clock."""
+        hop, phase, following = place_in(self.starts, max(second, self.last_issue[1] if self.last_issue else 0))
+        return {
+            ("migctl_proxy_last_issue_seconds",): self.last_issue,
+            ("migctl_proxy_hop",): hop,
+            **{("migctl_proxy_phase", it): int(it == phase) for it in PHASES},
+            ("migctl_proxy_next_phase_seconds",): following,
+        }
 
     def known_of_node(self, pool, number, name):
         """What the proxy has to tell of the links to a node."""
