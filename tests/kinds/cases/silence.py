@@ -109,7 +109,7 @@ def read_on(service):
         want = PORTION
         begun = time.monotonic()
         while want > 0:
-            came, end = client.piece(want, 10)
+            came, end = client.piece(want, 25)
             if end:
                 raise Wrong(f"answers of {service.name()} to who reads slowly", "bytes", (got, end))
             got, want = got + len(came), want - len(came)
