@@ -122,11 +122,11 @@ class Client:
         self.expect(b"\r\n" + MISS)
         return value.decode("latin-1")
 
-    def line(self):
+    def line(self, patience=PATIENCE):
         """The next line, with its end."""
         got = b""
         while not got.endswith(b"\n"):
-            came, end = self.piece(1, PATIENCE)
+            came, end = self.piece(1, patience)
             if end:
                 raise Wrong(f"a line of {self.address}", b"a whole line", got + end)
             got += came

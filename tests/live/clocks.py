@@ -25,8 +25,16 @@ class MovedClock:
 
     def move(self, seconds):
         """From now on it is so many seconds ahead of the machine's, or behind."""
+        self.say(f"{seconds}")
+
+    def fail(self):
+        """From now on it gives no reading."""
+        self.say("none")
+
+    def say(self, text):
+        """Tells the services, which never see a part of it."""
         new = self.file.with_suffix(".new")
-        new.write_text(f"{seconds}\n", encoding="ascii")
+        new.write_text(f"{text}\n", encoding="ascii")
         os.replace(new, self.file)
 
     def words(self):

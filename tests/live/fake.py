@@ -45,10 +45,10 @@ class Link:
 class FakeNode:
     """A node that serves each connection by a function of its link, in a thread of its own."""
 
-    def __init__(self, talk):
+    def __init__(self, talk, host="127.0.0.1", port=0):
         self.talk = talk
-        self.listener = socket.create_server(("127.0.0.1", 0), backlog=128)
-        self.address = "127.0.0.1:%d" % self.listener.getsockname()[1]
+        self.listener = socket.create_server((host, port), backlog=128)
+        self.address = "%s:%d" % (host, self.listener.getsockname()[1])
         self.links = []
         threading.Thread(target=self.accept, daemon=True).start()
 
@@ -121,13 +121,13 @@ class Teller(FakeNode):
     """A service that answers each request by a text, after so many seconds: both are functions of the request's number, from 0.
     A request for metrics is one of HTTP, and so is its answer. In a journal it notes its name and the time of each request."""
 
-    def __init__(self, text_of, delay_of=lambda number: 0, name="", journal=None):
+    def __init__(self, text_of, delay_of=lambda number: 0, name="", journal=None, **where):
         self.text_of = text_of
         self.delay_of = delay_of
         self.name = name
         self.journal = [] if journal is None else journal
         self.asked = 0
-        super().__init__(self.answer)
+        super().__init__(self.answer, **where)
 
     def answer(self, link):
         """Answers one request, and ends the connection."""

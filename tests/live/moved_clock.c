@@ -1,6 +1,8 @@
-/* Moves the machine's time, as a program that it is preloaded into sees it, by as many seconds as a file says. */
+/* Moves the machine's time, as a program that it is preloaded into sees it, by as many seconds as a file says; or has it give none,
+   where the file says so. */
 #define _GNU_SOURCE
 #include <dlfcn.h>
+#include <errno.h>
 #include <fcntl.h>
 #include <stdlib.h>
 #include <time.h>
@@ -18,6 +20,10 @@ int clock_gettime(clockid_t clock, struct timespec *moment) {
                 moment->tv_sec += atol(text);
             }
             close(file);
+            if (text[0] == 'n') {
+                errno = EIO;
+                status = -1;
+            }
         }
     }
     return status;

@@ -59,8 +59,9 @@ def why_failed(it):
     return f"{why} (the machine was late in each of {RUNS} runs)"
 
 
-def run_all(cases):
-    """Runs cases in threads, and gives each with why it failed, as they end."""
+def run_all(cases, side_by_side=SIDE_BY_SIDE, busy=1):
+    """Runs cases in threads, so many side by side of those that mostly wait and of those that don't, and gives each with why it
+    failed, as they end."""
     ended = queue.Queue()
     lanes = {True: queue.Queue(), False: queue.Queue()}
     for it in cases:
@@ -74,7 +75,7 @@ def run_all(cases):
                 return
             ended.put((it, why_failed(it)))
 
-    for waits in [True] * SIDE_BY_SIDE + [False]:
+    for waits in [True] * side_by_side + [False] * busy:
         threading.Thread(target=work, args=(lanes[waits],), daemon=True).start()
     for _ in cases:
         yield ended.get()
