@@ -1,0 +1,12 @@
+pub mod Blame
+pub mod Elements
+pub mod Escape
+pub mod Labels
+pub mod Names
+pub mod Over
+pub mod Picture
+pub mod Places
+pub mod Rows
+pub mod Shapes
+pub mod Steps
+pub mod Under
