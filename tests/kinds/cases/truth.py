@@ -78,7 +78,7 @@ class Chain:
         self.fleet = fleet
         self.caches = [Cache(CAPACITY) for _ in range(5)]
         before = int(time.time())
-        self.nodes = [told_node(fleet, "--capacity", str(CAPACITY)) for _ in range(5)]
+        self.nodes = [told_node(fleet, "--capacity", str(CAPACITY), "--loops", str(LOOPS)) for _ in range(5)]
         self.nodes_started = before, int(time.time())
         self.playing = [fleet.keep(PlayingNode()) for _ in range(5)]
         self.away = [fleet.keep(place_at("127.0.0.1")).address() for _ in range(5)]
@@ -318,6 +318,7 @@ class Chain:
             known = {
                 ("migctl_build_info", version(self.fleet)): 1,
                 ("migctl_start_time_seconds",): self.nodes_started,
+                ("migctl_node_loops",): LOOPS,
                 ("migctl_open_connections",): LOOPS,
                 ("migctl_connections_total",): LOOPS,
                 ("migctl_clock_seconds",): (now, now + 2),
