@@ -33,3 +33,4 @@ mod Reading
 mod Hearing
 mod HearingEvents
 mod Flushing
+mod Beginning

@@ -11,3 +11,4 @@ pub mod OneProxy
 pub mod OneLink
 pub mod OneNode
 pub mod Flushing
+pub mod Beginning

@@ -1,4 +1,5 @@
 //! What holds of a fleet as streams of bytes.
+ghost use Rattle.mr_streams.specs.Beginning.{SetupsStart};
 ghost use Rattle.mr_streams.specs.Flushing.{FlushesPutTexts};
 ghost use Rattle.mr_streams.specs.Headline.{BytesAreSafe, ClientsAreServed, HeadlineOverBytes};
 ghost use Rattle.mr_streams.specs.OneLink.{RepliesComeBack, LinksGiveUp};
@@ -87,4 +88,9 @@ pub fn headline_over_bytes()
 /// What a loop does at a flush is what streams do where requests are answered.
 pub fn flushes_put_texts()
     ensures { FlushesPutTexts }
+{}
+
+/// Streams begin: there is a fresh start for each setup, whatever the limits of its loops.
+pub fn setups_start()
+    ensures { SetupsStart }
 {}
