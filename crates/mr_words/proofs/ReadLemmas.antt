@@ -9,7 +9,7 @@ use Rattle.clap.specs.declared.error.Error.{Error}
 use Rattle.clap.specs.declared.error.kind.ErrorKind.{ErrorKind}
 use Rattle.clap.specs.declared.error.kind.ErrorKind.TheVariants.{OutOfMemory, DisplayVersion}
 use Rattle.mr_words.proofs.PlainExplain.{explanation_said}
-use Rattle.mr_words.proofs.PlainFile.{check_said, run_said, upgrade_said}
+use Rattle.mr_words.proofs.PlainFile.{check_said, draw_said, run_said, upgrade_said}
 use Rattle.mr_words.proofs.PlainNode.{node_said}
 use Rattle.mr_words.proofs.PlainPlan.{file_plan_said}
 use Rattle.mr_words.proofs.PlainProxy.{proxy_said}
@@ -23,7 +23,7 @@ use Rattle.mr_words.specs.WordSteps.{GivesCommand, IsFaultOf}
 use Rattle.mr_words.specs.declared.plan_words.Planned.{Planned}
 use Rattle.mr_words.specs.declared.plan_words.Planned.TheVariants.{InFile, InWords}
 use Rattle.mr_words.specs.declared.words.Wanted.{Wanted}
-use Rattle.mr_words.specs.declared.words.Wanted.TheVariants.{Plan, Timeline, Run, Check, Upgrade, Node, Proxy, Watch, Explain}
+use Rattle.mr_words.specs.declared.words.Wanted.TheVariants.{Plan, Timeline, Run, Check, Draw, Upgrade, Node, Proxy, Watch, Explain}
 use Rattle.mr_words.specs.declared.words.WordsFault.{WordsFault}
 use Rattle.mr_words.specs.declared.words.WordsFault.TheVariants.{Wrong, Version, Readings, Memory}
 
@@ -109,6 +109,7 @@ plainly_said words (Plan values) says = plan_said words values.planned values.at
 plainly_said words (Timeline values) says = timeline_said words values says.0 says.1 says.2
 plainly_said words (Run file) says = run_said words file says
 plainly_said words (Check file) says = check_said words file says
+plainly_said words (Draw file) says = draw_said words file says
 plainly_said words (Upgrade file) says = upgrade_said words file says
 plainly_said words (Node values) says = node_said words values says
 plainly_said words (Proxy values) says = proxy_said words values says

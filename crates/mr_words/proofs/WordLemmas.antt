@@ -30,7 +30,7 @@ use Rattle.mr_words.specs.declared.plan_words.Planned.{Planned}
 use Rattle.mr_words.specs.declared.plan_words.Planned.TheVariants.{InFile, InWords}
 use Rattle.mr_words.specs.declared.words.TimelineValues.{TimelineValues}
 use Rattle.mr_words.specs.declared.words.Wanted.{Wanted}
-use Rattle.mr_words.specs.declared.words.Wanted.TheVariants.{Plan, Timeline, Run, Check, Upgrade, Node, Proxy, Watch, Explain}
+use Rattle.mr_words.specs.declared.words.Wanted.TheVariants.{Plan, Timeline, Run, Check, Draw, Upgrade, Node, Proxy, Watch, Explain}
 
 row_of_subcommand : {Z : Type 0} (o : Option (Box SubCommand Z)) (name : List ℕ) (rows : List Row)
     → option_map (λ (b : Box SubCommand Z). (out-SubCommand (box_value b)).name.now) o ≡ Some name
@@ -217,6 +217,7 @@ name_of (Plan values) = codes "plan"
 name_of (Timeline values) = codes "timeline"
 name_of (Run file) = codes "run"
 name_of (Check file) = codes "check"
+name_of (Draw file) = codes "draw"
 name_of (Upgrade file) = codes "upgrade"
 name_of (Node values) = codes "node"
 name_of (Proxy values) = codes "proxy"
@@ -229,6 +230,7 @@ found_named found (Plan values) h = (h.0, h.1)
 found_named found (Timeline values) h = (h.0, h.1)
 found_named found (Run file) h = (h.0, h.1)
 found_named found (Check file) h = (h.0, h.1)
+found_named found (Draw file) h = (h.0, h.1)
 found_named found (Upgrade file) h = (h.0, h.1)
 found_named found (Node values) h = (h.0, h.1)
 found_named found (Proxy values) h = (h.0, h.1)
@@ -302,6 +304,7 @@ one_found found (Timeline read) (Timeline values) r p =
     )
 one_found found (Run read) (Run file) r p = sym r.2 ∙ (ap (first_of (codes "file")) (same_rows found _ r.0 p.0 r.1 p.1) ∙ p.2)
 one_found found (Check read) (Check file) r p = sym r.2 ∙ (ap (first_of (codes "file")) (same_rows found _ r.0 p.0 r.1 p.1) ∙ p.2)
+one_found found (Draw read) (Draw file) r p = sym r.2 ∙ (ap (first_of (codes "file")) (same_rows found _ r.0 p.0 r.1 p.1) ∙ p.2)
 one_found found (Upgrade read) (Upgrade file) r p = sym r.2 ∙ (ap (first_of (codes "file")) (same_rows found _ r.0 p.0 r.1 p.1) ∙ p.2)
 one_found found (Node read) (Node values) r p =
     let also : HasNodeValues r.0 values = subst (λ (rows : List Row). HasNodeValues rows values) (same_rows found _ p.0 r.0 p.1 r.1) p.2 in (
