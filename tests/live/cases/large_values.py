@@ -114,8 +114,8 @@ def a_node_holds_no_more_memory_than_its_items():
 @case(quick=False)
 def a_proxy_holds_nothing_of_the_blocks_that_went_through_it():
     """Of 64 clients each sends a block but for its end, then all blocks come to their end and go to the node, and each client
-    gets one. The memory for a block is given back as it goes on, also while its connection lasts. Then others come, and it
-    is the same."""
+    gets one. The memory for a block is given back as it goes on, also while its connection lasts: by threads to the C library,
+    which may keep as much for each connection until that ends. Then others come, and it is the same."""
     with Fleet() as fleet:
         node = fleet.node("--capacity", str(KEPT))
         proxy = fleet.proxy(fleet.config([node]))
@@ -123,15 +123,16 @@ def a_proxy_holds_nothing_of_the_blocks_that_went_through_it():
         for _ in range(ROUNDS):
             clients = proxy.clients(CLIENTS)
             anyway, at_node = held_anyway((proxy, node), clients)
+            while_there = anyway if proxy.loops else anyway + CLIENTS * LARGEST
             for number, client in enumerate(clients):
                 client.send(set_of("k", block(number))[:-3])
                 wait_until_read(client.socket)
             for number, client in enumerate(clients):
                 client.ask(set_of("k", block(number))[-3:], STORED)
-            expect_resident(proxy, anyway)
+            expect_resident(proxy, while_there)
             for client in clients:
                 client.ask(get_of("k"), hits(("k", block(CLIENTS - 1))))
-            expect_resident(proxy, anyway)
+            expect_resident(proxy, while_there)
             expect_resident(node, at_node + LARGEST)
             for client in clients:
                 client.quit()
