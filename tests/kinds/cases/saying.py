@@ -54,7 +54,7 @@ class Talking:
         self.config = fleet.chain_config(pools, [self.start + 1000 * hop for hop in range(3)], 100, "sum")
         self.clock = fleet.clock()
         words = ["proxy", "--config", str(self.config), "--forever", "--loops", "1", "--max-clients", "2", "--leg-timeout", "500"]
-        self.proxy = fleet.serve(*words, clock=self.clock, told=False)
+        self.proxy = fleet.serve(*words, clock=self.clock, left_open=False)
         self.said = Said(self.proxy)
         self.client = self.proxy.client()
 
@@ -135,7 +135,7 @@ def a_proxy_says_a_line_of_a_kind_a_second_at_most():
         nodes = [fleet.keep(FakeNode(ending_at_first)) for _ in range(10)]
         config = fleet.config([it.address for it in nodes], fleet.nodes(1))
         words = ("proxy", "--config", str(config), "--forever", "--loops", "2")
-        said = Said(fleet.serve(*words, told=False))
+        said = Said(fleet.serve(*words, left_open=False))
 
         def counted(text):
             lines = [line for line in said.lines() if f" {text}" in line[1]]
@@ -149,6 +149,6 @@ def a_proxy_says_a_line_of_a_kind_a_second_at_most():
             count, moments = counted(text)
             check(f"how often it {text}", wanted, count)
             check(f"lines of one second that {text}", sorted(set(moments)), sorted(moments))
-        quiet = fleet.serve(*words, "--quiet", told=False)
+        quiet = fleet.serve(*words, "--quiet", left_open=False)
         wait_until("its links", lambda: all(len(it.links) >= ENDED + 4 for it in nodes))
         check("what a quiet one says", (b"", b""), quiet.printed())
