@@ -44,6 +44,7 @@ def debian(package, text, maintainer, version):
     if not version.startswith(told[0][0]):
         raise NoChanges(f"the newest version of CHANGELOG.md is {told[0][0]}, and not {version}")
     for at, (number, day, what) in enumerate(told):
+        earlier = sum(other == day for _, other, _ in told[at + 1 :])  # versions of this day: each is to be later than the one before
         made += [f"{package} ({version if at == 0 else number}) unstable; urgency=medium", "", *changes(what), ""]
-        made += [f" -- {maintainer}  {email.utils.format_datetime(day)}", ""]
+        made += [f" -- {maintainer}  {email.utils.format_datetime(day + datetime.timedelta(minutes=earlier))}", ""]
     return "\n".join(made)
