@@ -2,10 +2,13 @@
 // Usage: load <host:port> <keys> <bytes>
 //
 // It sets every key, prints `filled`, and then does what the lines of its input say, each `<work> <connections>
-// <milliseconds>`, of which it prints the requests per second. At the end of the input it asks for every key. The status is
-// 1 where a reply is wrong or a connection fails, and 2 where its words or a line can't be followed.
+// <milliseconds> <depth> <rate>`, of which it prints the requests per second, how many were answered, and in how many
+// microseconds 99 of 100 were. At the end of the input it asks for every key. The status is 1 where a reply is wrong or a
+// connection fails, and 2 where its words or a line can't be followed.
 //
-// Each connection has a thread, which sends one request after the reply to the last. What counts, by the work:
+// Each connection has a thread, which sends as many requests as the depth says after the replies to the last ones. At rate 0
+// it does so at once, and no time of an answer is told (0). Else all connections together send so many requests in a second,
+// each at its moment, and an answer's time is from that moment, also where its connection was late. What counts, by the work:
 //   get     one key, which is there
 //   get10   ten keys in one request, which are all there; that counts as one request
 //   set     one key, which is there: the value is replaced
@@ -78,17 +81,25 @@ struct Order {
     work: Work,
     connections: usize,
     time: Duration,
+    // How many requests a connection has under way.
+    depth: u64,
+    // How long after one another a connection's requests are due; 0 where each is as soon as it can be.
+    gap: Duration,
 }
 
 impl Order {
     fn of(line: &str, keys: usize) -> Option<Order> {
         let words: Vec<&str> = line.split(' ').collect();
-        let [work, connections, time] = words.as_slice() else { return None };
+        let [work, connections, time, depth, rate] = words.as_slice() else { return None };
         let work = Work::named(work)?;
         let connections = connections.parse().ok()?;
         let time = Duration::from_millis(time.parse().ok()?);
-        let sound = connections > 0 && (work.reads() || connections <= keys);
-        sound.then_some(Order { work, connections, time })
+        let depth = depth.parse().ok()?;
+        let rate: f64 = rate.parse().ok()?;
+        let paced = rate > 0.0;
+        let gap = if paced { Duration::from_secs_f64(depth as f64 * connections as f64 / rate) } else { Duration::ZERO };
+        let sound = connections > 0 && depth > 0 && (work.reads() || connections <= keys) && !(paced && work == Work::Delete);
+        sound.then_some(Order { work, connections, time, depth, gap })
     }
 }
 
@@ -108,6 +119,10 @@ struct Client<'a> {
     began: Instant,
     ended: Instant,
     paused: Duration,
+    // Which part of the time between two requests this connection is behind the first one, so that not all send at once.
+    shift: f64,
+    // Of answers that were due at a moment, how long they took, in microseconds.
+    times: Vec<u32>,
     sent: Vec<u8>,
     wanted: Vec<u8>,
     read: Vec<u8>,
@@ -236,26 +251,44 @@ impl Client<'_> {
         })
     }
 
-    // Uses each key once, one request after the reply to the last; fewer, but at least one, where it is told to stop.
-    fn pass(&mut self, work: Work, stop: &AtomicBool) -> Outcome<()> {
+    // Waits for the moment when the next requests are due, which is told: now, where they are as soon as they can be.
+    fn wait(&self, order: &Order) -> Instant {
+        if order.gap.is_zero() {
+            return Instant::now();
+        }
+        let due = self.began + order.gap.mul_f64(self.times.len() as f64 + self.shift);
+        thread::sleep(due.saturating_duration_since(Instant::now()));
+        due
+    }
+
+    // Uses each key once, some requests after the replies to the last ones; fewer, but at least one, where it is told to stop.
+    fn pass(&mut self, order: &Order, stop: &AtomicBool) -> Outcome<()> {
         let end = self.turn + self.stamps.len() as u64;
         loop {
-            self.add_next(work);
+            let due = self.wait(order);
+            let mut count = 0;
+            while count < order.depth && self.turn < end {
+                self.add_next(order.work);
+                count += 1;
+            }
             self.exchange()?;
-            self.answered += 1;
+            self.answered += count;
+            if !order.gap.is_zero() {
+                self.times.push(due.elapsed().as_micros() as u32);
+            }
             if self.turn >= end || stop.load(Ordering::Relaxed) {
                 return Ok(());
             }
         }
     }
 
-    fn run(&mut self, work: Work, stop: &AtomicBool) -> Outcome<()> {
+    fn run(&mut self, order: &Order, stop: &AtomicBool) -> Outcome<()> {
         self.began = Instant::now();
         loop {
             let since = self.turn;
-            self.pass(work, stop)?;
+            self.pass(order, stop)?;
             self.ended = Instant::now();
-            if work == Work::Delete {
+            if order.work == Work::Delete {
                 self.put_back(since)?;
             }
             if stop.load(Ordering::Relaxed) {
@@ -284,27 +317,29 @@ struct Load {
 }
 
 impl Load {
-    fn connect(&self, own: Range<usize>, turn: u64) -> Outcome<Client<'_>> {
+    fn connect(&self, own: Range<usize>, turn: u64, shift: f64) -> Outcome<Client<'_>> {
         let stream = TcpStream::connect(&self.address)?;
         stream.set_nodelay(true)?;
         stream.set_read_timeout(Some(Duration::from_secs(10)))?;
         let (first, stamps) = (own.start, &self.stamps[own]);
-        let (sent, wanted, read) = (vec![], vec![], vec![0; 65536]);
+        let (times, sent, wanted, read) = (vec![], vec![], vec![], vec![0; 65536]);
         let (answered, began, ended, paused) = (0, Instant::now(), Instant::now(), Duration::ZERO);
         let (filling, bytes) = (&self.filling[..], self.bytes);
-        Ok(Client { stream, filling, bytes, first, stamps, turn, answered, began, ended, paused, sent, wanted, read })
+        Ok(Client { stream, filling, bytes, first, stamps, turn, answered, began, ended, paused, shift, times, sent, wanted, read })
     }
 
     // Connections that have each the keys of its own.
     fn writers(&self, connections: usize) -> Outcome<Vec<Client<'_>>> {
         let bound = |number| self.stamps.len() * number / connections;
-        (0..connections).map(|number| self.connect(bound(number)..bound(number + 1), self.turn)).collect()
+        let shift = |number| number as f64 / connections as f64;
+        (0..connections).map(|number| self.connect(bound(number)..bound(number + 1), self.turn, shift(number))).collect()
     }
 
     // Connections that have all keys, and begin as far from each other as may be.
     fn readers(&self, connections: usize) -> Outcome<Vec<Client<'_>>> {
         let begin = |number| self.turn + (self.stamps.len() * number / connections) as u64;
-        (0..connections).map(|number| self.connect(0..self.stamps.len(), begin(number))).collect()
+        let shift = |number| number as f64 / connections as f64;
+        (0..connections).map(|number| self.connect(0..self.stamps.len(), begin(number), shift(number))).collect()
     }
 
     // Lets a few connections do what isn't counted.
@@ -317,13 +352,14 @@ impl Load {
         clients.into_iter().try_for_each(Client::quit)
     }
 
-    fn measure(&mut self, order: &Order) -> Outcome<f64> {
+    // Requests per second, how many were answered, and in how many microseconds 99 of 100 were.
+    fn measure(&mut self, order: &Order) -> Outcome<(f64, u64, u32)> {
         let connections = order.connections;
         let mut clients = if order.work.reads() { self.readers(connections)? } else { self.writers(connections)? };
         let (ready, stop) = (Barrier::new(connections + 1), AtomicBool::new(false));
         let run = |client: &mut Client| {
             ready.wait();
-            client.run(order.work, &stop)
+            client.run(order, &stop)
         };
         thread::scope(|scope| {
             let threads: Vec<_> = clients.iter_mut().map(|client| scope.spawn(|| run(client))).collect();
@@ -334,9 +370,10 @@ impl Load {
         })?;
         let answered: u64 = clients.iter().map(|client| client.answered).sum();
         let rate = answered as f64 / mean_seconds(&clients);
+        let slow = slow_of(clients.iter().flat_map(|client| client.times.iter().copied()).collect());
         clients.into_iter().try_for_each(Client::quit)?;
         self.turn += answered * order.work.keys() as u64;
-        Ok(rate)
+        Ok((rate, answered, slow))
     }
 
     fn serve(&mut self) -> Outcome<ExitCode> {
@@ -348,7 +385,8 @@ impl Load {
                 eprintln!("load: not followed: {line}");
                 return Ok(ExitCode::from(2));
             };
-            println!("{:.0}", self.measure(&order)?);
+            let (rate, answered, slow) = self.measure(&order)?;
+            println!("{rate:.0} {answered} {slow}");
         }
         self.prepare(|client| client.ask_all())?;
         Ok(ExitCode::SUCCESS)
@@ -360,6 +398,12 @@ fn mean_seconds(clients: &[Client]) -> f64 {
     let begin = clients.iter().map(|client| client.began).min();
     let seconds = |client: &Client| (client.ended - begin.unwrap_or(client.began) - client.paused).as_secs_f64();
     clients.iter().map(seconds).sum::<f64>() / clients.len() as f64
+}
+
+// The time that 99 of 100 of these don't exceed; 0 where there are none.
+fn slow_of(mut times: Vec<u32>) -> u32 {
+    times.sort_unstable();
+    times.get(times.len() * 99 / 100).copied().unwrap_or(0)
 }
 
 // Bytes of all kinds in no order, the same each time: of each number of a sequence the byte that changes most.
