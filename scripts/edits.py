@@ -12,7 +12,7 @@ A file SOURCE.edits holds the mutants of one source file, and says which one tha
 exactly once, as the changes before left it, and the `new:` behind it takes its place. A text is one line, of which nothing is
 left out: it begins behind the space, and spaces at its end count. `new:` alone takes the old text out. A mutant that changes a
 further file names that in a line `file:` of its own, before those changes; the next mutant is of the first file again. Mutants
-of running programs have lines `case:` too. Empty lines stand between mutants; any other line is a fault.
+of running programs have lines `case:` too, and those that the gate tries a line `tried: by the gate`. Empty lines stand between mutants; any other line is a fault.
 
 A file NAME.edit holds one mutant of that name, and in its first line behind `# ` what that breaks; then the line `file:`, and the
 changes as above. The toolchain reads such files, and leaves the first line out.
@@ -23,7 +23,8 @@ import re
 
 ROOT = pathlib.Path(__file__).resolve().parent.parent
 HEAD = re.compile(r"== (\w+)(?:: +(.*))?")
-FIELD = re.compile(r"(file|case|old|new):(?: (.*))?")
+FIELD = re.compile(r"(file|case|tried|old|new):(?: (.*))?")
+BY_GATE = "by the gate"
 
 
 class BadEdit(Exception):
@@ -31,10 +32,12 @@ class BadEdit(Exception):
 
 
 class Edit:
-    """A mutant: the file in which it stands, its name, what it breaks, its cases, and its changes (file, old text, new text)."""
+    """A mutant: the file in which it stands, its name, what it breaks, whether it is marked for the gate, its cases, and its changes
+    (file, old text, new text)."""
 
     def __init__(self, place, name, breaks):
         self.place, self.name, self.breaks = place, name, breaks
+        self.is_marked = False
         self.cases, self.changes = [], []
 
     def source(self):
@@ -85,6 +88,8 @@ def read_edits(place):
             raise BadEdit(f"line {number}: `{word}:` stands under no name")
         elif word == "case":
             edits[-1].cases.append(text)
+        elif word == "tried" and text == BY_GATE:
+            edits[-1].is_marked = True
         elif word == "old" and path and text:
             old = text
         elif word == "new" and old not in (None, text):

@@ -13,7 +13,7 @@ import signal
 import subprocess
 import time
 
-from making import ROOT, NotMade, free_memory, printed, turn
+from making import ROOT, TOOLCHAIN, NotMade, free_memory, printed, turn
 
 CRATES = ROOT / "crates"
 PARTS = ("src", "specs", "proofs")  # of the sources of a crate
@@ -213,7 +213,7 @@ class Proof:
         if not names:
             return
         stamp_of(names[0]).unlink()
-        subprocess.run(["rt", "lib"], cwd=CRATES / names[0], stdin=subprocess.DEVNULL, capture_output=True)
+        subprocess.run([TOOLCHAIN, "lib"], cwd=CRATES / names[0], stdin=subprocess.DEVNULL, capture_output=True)
         if is_same(stamp_of(names[0]), self.lane_of[names[0]].crate(names[0]) / "out/rlib/stamp"):
             for name in names[1:]:
                 stamp_of(name).unlink()
@@ -221,7 +221,7 @@ class Proof:
     def build(self, telling):
         """Builds the program over them in the checkout itself, by the toolchain's command that runs it."""
         self.share()
-        words = ["rt", "run", "--", "timeline", "--config", ROOT / "examples/fleet.json"]
+        words = [TOOLCHAIN, "run", "--", "timeline", "--config", ROOT / "examples/fleet.json"]
         self.running.append(Running(PROGRAM, words, CRATES / PROGRAM, self.home / "migctl.log"))
         try:
             while self.running:
@@ -249,12 +249,11 @@ class Proof:
         return self.jobs - sum(it.jobs for it in self.running)
 
     def begin_one(self, name, lane, others):
-        """Begins a library, beside which so many others can begin: each of them gets a process, and this one the rest, where no
-        other has that already."""
-        is_wide = any(it.jobs > 1 for it in self.running)
-        jobs = 1 if is_wide else max(1, min(MOST_JOBS, self.processors, self.free_jobs() - others))
+        """Begins a library, beside which so many others can begin: it gets what their shares leave of the free processes."""
+        share = self.jobs // len(self.lanes)
+        jobs = max(1, min(share, self.free_jobs()), min(MOST_JOBS, self.processors, self.free_jobs() - others * share))
         lane.take(name, self.below[name])
-        words = ["rt", "lib", "--jobs", str(jobs)]
+        words = [TOOLCHAIN, "lib", "--jobs", str(jobs)]
         self.running.append(Running(name, words, lane.crate(name), self.home / f"{name}.log", jobs, lane))
         self.waiting.remove(name)
 

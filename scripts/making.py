@@ -11,6 +11,7 @@ import time
 
 ROOT = pathlib.Path(__file__).resolve().parent.parent
 OUT = ROOT / "crates/migctl/out"
+TOOLCHAIN = ROOT / "scripts/toolchain"  # its command, which is quicker so
 REDRAWN_AFTER = 0.2  # seconds, on a terminal
 GIGABYTE = 1_000_000_000
 

@@ -24,6 +24,7 @@ file, where a case doesn't say otherwise. The fields:
     output json    the same, written as JSON in any layout: what is wanted is its compact form, keys in byte order, and a line end
     output added   the same again, but only what the output has beside the JSON of the standard input: of a transcript what
                    came of its script
+    output picture a picture, of which the colours (`files/colours.txt`) are left out: they stand behind its first line
     checked        what `check` has to say of the wanted output: a run of its own, which ends with 3 where it isn't `accepted`
     played         what `run` has to tell beside the wanted output, which is a script: a run of its own
     cut            `everywhere`: the input isn't given whole, but in turn each of its beginnings, from none of its bytes to all but
@@ -51,7 +52,7 @@ CASES = pathlib.Path(__file__).resolve().parent / "cases"
 SHARED = CASES / "files"
 ANY = object()
 
-FIELD = re.compile(r"(words|files|file \S+(?: of \S+)?|input(?: of \S+)?|output(?: json| added)?|checked|played|cut|faults|status|slow):(?: (.*))?")
+FIELD = re.compile(r"(words|files|file \S+(?: of \S+)?|input(?: of \S+)?|output(?: json| added| picture)?|checked|played|cut|faults|status|slow):(?: (.*))?")
 INNER = r"\\\([^\n]*?\*\d+(?:\|[^\n]*?)?\)"
 PIECE = re.compile(rf"\\\(((?:{INNER}|[^\n])*?)\*(\d+)(?:\|([^\n]*?))?\)" + r"|\\x([0-9a-fA-F]{2})|\\(.)")
 LETTERS = {"r": "\r", "n": "\n", "t": "\t", "\\": "\\"}
@@ -161,6 +162,12 @@ def with_members(text, more):
     return compact({**json.loads(text), **json.loads(more)})
 
 
+def with_colours(picture):
+    """A picture with its colours behind its first line."""
+    begun, end, rest = picture.partition(b"\n")
+    return begun + end + shared("colours.txt") + rest
+
+
 def checked(case, told):
     """The check of the transcript that a case wants to be written."""
     status = 0 if told.endswith(b"\naccepted\n") else 3
@@ -191,6 +198,8 @@ def case_of(name, fields):
             stdout = compact(json.loads(value(given, lines)))
         elif field == "output added":
             added = value(given, lines)
+        elif field == "output picture":
+            stdout = with_colours(value(given, lines))
         elif field == "output":
             stdout = value(given, lines)
         elif field == "faults":
@@ -236,7 +245,7 @@ def sections(lines):
 
 def slot(field):
     """What a field is about: a case's own takes the place of the head's."""
-    return re.sub(r" of \S+$| json$| added$", "", field)
+    return re.sub(r" of \S+$| json$| added$| picture$", "", field)
 
 
 def cases_in(path, word, left_out):

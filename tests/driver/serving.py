@@ -65,11 +65,11 @@ class StoreNode(FakeNode):
         with self.lock:
             self.lines.append((time.time(), line))
             if words[0] == b"set":
-                self.items[words[1]] = block[:-2]
+                self.items[words[1]] = (block[:-2], int(words[2]))
                 return STORED
             if words[0] == b"delete":
                 return NOT_FOUND if self.items.pop(words[1], None) is None else DELETED
-            found = [(key, self.items[key]) for key in words[1:] if key in self.items]
+            found = [(key, *self.items[key]) for key in words[1:] if key in self.items]
         return hits(*found)
 
     def asked(self, command):

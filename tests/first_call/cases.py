@@ -1,6 +1,7 @@
 """What ./migctl and ./migctl prove have to do, a case each."""
 import os
 import re
+import shutil
 import signal
 import time
 
@@ -304,14 +305,19 @@ def the_longest_way_goes_first(checkout):
 
 
 @case
-def one_library_has_more_processes_than_those_beside_it(checkout):
-    checkout.change("scripts/lanes.py", "min(wanted, memory // MEMORY_OF_JOB)", "4")
+def one_library_has_what_the_shares_of_those_beside_it_leave(checkout):
     checkout.change("scripts/lanes.py", "self.processors = processors", "self.processors = 4")
+    whole = (checkout.root / "scripts/lanes.py").read_text(encoding="utf-8")
     checkout.play("seconds.mr_low", "1")
     checkout.play("seconds.mr_side", "1")
-    prove(checkout)
-    jobs = {line.split()[1]: line.split()[2] for line in checkout.lines() if line.startswith("begin mr")}
-    is_equal((jobs["mr_low"], jobs["mr_side"], jobs["mr_top"]), ("3", "1", "4"), "jobs")
+    for processes, wanted in (("4", ("3", "1", "4")), ("6", ("4", "2", "4"))):
+        checkout.write("scripts/lanes.py", whole.replace("min(wanted, memory // MEMORY_OF_JOB)", processes))
+        checkout.play("calls", "")
+        for name in (*LIBRARIES, "migctl"):
+            shutil.rmtree(checkout.root / "crates" / name / "out", ignore_errors=True)
+        prove(checkout)
+        jobs = {line.split()[1]: line.split()[2] for line in checkout.lines() if line.startswith("begin mr")}
+        is_equal((jobs["mr_low"], jobs["mr_side"], jobs["mr_top"]), wanted, f"jobs of {processes}")
 
 
 @case

@@ -13,7 +13,7 @@ import time
 HERE = pathlib.Path(__file__).resolve().parent
 ROOT = HERE.parent.parent
 COPIED = (
-    "migctl", "scripts/sources", "scripts/checked", "scripts/prove", "scripts/making.py", "scripts/lanes.py",
+    "migctl", "scripts/sources", "scripts/checked", "scripts/prove", "scripts/making.py", "scripts/lanes.py", "scripts/toolchain",
     "tests/program.py", "tests/live/building.py", "tests/live/ports.py", "examples/fleet.json",
 )
 # mr_left and mr_right stand on mr_low, mr_top on both; mr_side stands alone. The program has no use for mr_other.

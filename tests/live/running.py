@@ -79,3 +79,21 @@ def run_all(cases, side_by_side=SIDE_BY_SIDE, busy=1):
         threading.Thread(target=work, args=(lanes[waits],), daemon=True).start()
     for _ in cases:
         yield ended.get()
+
+
+def failed_of(cases):
+    """The cases that fail, each of which is told in a line."""
+    failed = []
+    for it, why in run_all(cases):
+        if why is not None:
+            failed.append(it)
+            print(f"{it.name}: {why}", flush=True)
+    return failed
+
+
+def failed_twice(cases):
+    """The cases that fail beside the others and then alone as well: much of what they look at turns on the time."""
+    failed = failed_of(cases)
+    for it in failed:
+        print(f"once more, alone: {it.name}", flush=True)
+    return [it for one in failed for it in failed_of([one])]

@@ -9,7 +9,9 @@ It is written from the documents and not from the program's code, so that a mist
     history                         what happened in a fleet, and its judge
     formats, scripts, transcripts   what a fleet is made of and what happens to it; what came of that, and its check
     upgrades                        scripts of format 1 in format 2
+    pictures                        the picture of a transcript
     commands                        from words, files and input to status, output and faults
+    byte_runs                       what the clients of fleets as streams of bytes may be told
     drawing, coverage               cases; what they come to, counted
 """
 from . import commands, upgrades

@@ -6,7 +6,7 @@ that drawn cases have. Faults are looked for in the order words, file, configura
 import re
 from typing import NamedTuple
 
-from . import configs, fields, refusals, text, transcripts, upgrades
+from . import configs, fields, pictures, refusals, text, transcripts, upgrades
 from .phases import PHASES, spread
 from .proxies import Proxy
 
@@ -149,4 +149,9 @@ def verdict_line(verdict):
     return line
 
 
-COMMANDS = {"plan": plan, "timeline": timeline, "run": run, "check": check, "upgrade": upgrade}
+def draw(words, files, stdin):
+    _, lines = check(words, files, stdin)
+    return 0, pictures.draw(given(words, files, stdin), lines).split(b"\n")[:-1]
+
+
+COMMANDS = {"draw": draw, "plan": plan, "timeline": timeline, "run": run, "check": check, "upgrade": upgrade}

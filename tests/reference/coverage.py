@@ -12,7 +12,8 @@ from .scripts import setup_of
 from .transcripts import DIFFERENCES
 
 # What reads a configuration is one kind of command, whichever it is.
-READS = {"plan": "configuration", "timeline": "configuration", "run": "script", "check": "transcript", "upgrade": "script"}
+READS = {"plan": "configuration", "timeline": "configuration", "run": "script", "check": "transcript", "draw": "transcript",
+         "upgrade": "script"}
 
 PREMISES = ("same", "new_empty", "forward", "near")
 PLAN_REFUSALS = list(NUMBERS["plan"])
@@ -31,6 +32,27 @@ PLAY_MARKS = {
     "a request that is given up": b'"do":"give_up"',
     **{f"an answered {kind}": f'"reply":"{kind}"'.encode() for kind in ("stored", *ACKNOWLEDGES)},
 }
+PICTURE_MARKS = {
+    "a reading": b">[OABN]</text>",
+    "a reading in a later hop": b">[OABN][123]</text>",
+    "a bar": b"'bar'",
+    "words that are cut": rb"class='ask'.*\.\.<",
+    "a byte that isn't printable": rb"\\x[0-9a-f]{2}",
+    "a leg": b"'leg'",
+    "a leg that came again": b"'leg again'",
+    "a lost leg": b"'leg lost'",
+    "a reply": b"'back'",
+    "a reply that came again": b"'back again'",
+    "a lost reply": b"'back lost'",
+    "a request that is given up": b">gave up<",
+    "a restarted node": b"'gap' .* height='8'",
+    "a restarted proxy": b"'gap' .* width='6'",
+    **{f"a leg that is told to {verb} at the {side} pool": f">{verb} {side}<".encode()
+       for verb in ("get", "set", "del") for side in ("old", "new")},
+    **{f"a reply of {outcome}": f">{outcome}<".encode() for outcome in ("hit", "miss", "stored", "deleted", "absent")},
+}
+BLAME_MARKS = {"a blamed bar": b"'bar blamed'", "a sentence": b"'plain bad'"}
+BREAK_MARKS = {"a refused event": b">refused<", "an event behind it": b"'said' .*>-<"}
 # What data of format 2 comes to, as an expression.
 DIGITS_MARKS = {
     "empty data": rb'"data":""',
@@ -129,8 +151,14 @@ def kinds_of_check(output):
         yield f"check: {name} {holds}"
 
 
+def kinds_of_picture(output):
+    for name, mark in {**PICTURE_MARKS, **BLAME_MARKS, **BREAK_MARKS}.items():
+        if re.search(mark, output):
+            yield f"draw: {name}"
+
+
 KINDS_OF_OUTPUT = {"plan": kinds_of_plan, "timeline": kinds_of_timeline, "run": kinds_of_transcript, "check": kinds_of_check,
-                   "upgrade": kinds_of_upgrade}
+                   "draw": kinds_of_picture, "upgrade": kinds_of_upgrade}
 
 
 def line_of(layer, name):
@@ -147,6 +175,7 @@ CHECK_LINES = [
     *(f"check: not accepted: {difference}" for difference in DIFFERENCES),
     *(f"check: {premise} {holds}" for premise in PREMISES for holds in ("true", "false")),
 ]
+PICTURE_LINES = [f"draw: {name}" for name in (*PICTURE_MARKS, *BLAME_MARKS)]
 PLAY_LINES = ["run: safe", "run: safe with a hit", "run: stale", *(f"run: {name}" for name in PLAY_MARKS)]
 STANDINGS = [PHASES[0] + " of hop 0", *(f"{phase} of hop {hop}" for hop in range(MOST_HOPS) for phase in PHASES[1:])]
 OFTEN_REFUSED = ("NotJson", "WrongKind", "MissingKey", "UnknownKey", "BadPool", "BadRoute", "BadEvent")
@@ -167,6 +196,7 @@ EXPECTED = {
         f"timeline: {PHASES[0]} none",
         *PLAY_LINES,
         *CHECK_LINES,
+        *PICTURE_LINES,
     ],
     "chain": [
         *CONFIG_LINES,
@@ -182,6 +212,7 @@ EXPECTED = {
         *(f"run: requests in {count} hops" for count in (1, 2, 3)),
         *(f"run: stale in hop {hop} where {premise} alone is false" for hop in range(MOST_HOPS) for premise in PREMISES),
         *CHECK_LINES,
+        *PICTURE_LINES,
     ],
     "format 2": [
         *(f"script: {line_of('plan', name)}" for name in NUMBERS["plan"]),
@@ -198,6 +229,7 @@ EXPECTED = {
         *(f"upgrade: {name}" for name in DIGITS_MARKS),
         *PLAY_LINES,
     ],
-    "transcript": [*(f"transcript: {line_of('plan', name)}" for name in OFTEN_REFUSED), *CHECK_LINES],
+    "transcript": [*(f"transcript: {line_of('plan', name)}" for name in OFTEN_REFUSED), *CHECK_LINES,
+                   *(f"draw: {name}" for name in BREAK_MARKS)],
     "configuration": [*CONFIG_LINES, *(f"plan: {count} legs" for count in range(3)), f"timeline: {PHASES[0]} none"],
 }

@@ -102,6 +102,7 @@ def commands(program):
         yield Command(program, f"upgrade {script}", config)
     for transcript in sorted(it.name for it in EXAMPLES.glob("*.transcript.json")):
         yield Command(program, f"check {transcript}", config)
+        yield Command(program, f"draw {transcript}", config)
     script = (EXAMPLES / "first-get.json").read_bytes()
     safe = (EXAMPLES / "first-get.transcript.json").read_bytes()
     stale = b'{"stale":{"delete":[0,0,0],"get":[0,0,0],"key":"k"}}'

@@ -3,7 +3,7 @@ ghost use Rattle.std.specs.Prelude.{◌≡◌};
 
 use mr_phases::ScheduleError;
 use mr_pools::PoolError;
-use mr_world::WorldError;
+use mr_proxy::WorldError;
 use std::alloc::{AllocError, AllocFailed};
 use thiserror::Error;
 

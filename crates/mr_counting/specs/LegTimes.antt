@@ -1,5 +1,7 @@
 -- How legs are counted by how long they took.
-use Rattle.std.specs.Prelude.{◌≡◌, ℕ, ◌+◌, ◌-◌, ◌*◌, ◌/◌, List, [], ◌∷◌, codes, map, take, nat_eq, nat_le, refl, slice_index, if◌then◌else◌}
+use Rattle.std.specs.Prelude.{◌≡◌, ℕ, ◌+◌, ◌-◌, ◌*◌, ◌/◌, List, [], ◌∷◌, codes, map, take, nat_eq, nat_le, refl, replicate, slice_index, slice_set, if◌then◌else◌}
+use Rattle.mr_counting.specs.Counting.{one_more, sum_of}
+use Rattle.mr_counting.specs.declared.leg_times.LegTimes.{LegTimes}
 use Rattle.mr_metrics.specs.declared.times.Bucket.{Bucket}
 
 -- the longest times that are told apart, in microseconds, rising
@@ -11,6 +13,18 @@ bounds =
 abbrev pub place_in : List ℕ → ℕ → ℕ
 place_in [] micros = 0
 place_in (bound ∷ longer) micros = if nat_le micros bound then 0 else place_in longer micros + 1
+
+-- no leg took any time
+abbrev pub no_times : LegTimes
+no_times = record { counts = replicate 16 0; micros = 0 }
+
+-- the count at a place is one more
+abbrev pub one_more_at : ℕ → List ℕ → List ℕ
+one_more_at place counts = slice_set counts place (one_more (slice_index counts place))
+
+-- a leg took so many microseconds
+abbrev pub timed : ℕ → LegTimes → LegTimes
+timed micros times = record { counts = one_more_at (place_in bounds micros) times.counts; micros = sum_of times.micros micros }
 
 -- the same bounds as they are told, in seconds, and behind them the bound of what took longer than all
 abbrev pub bound_texts : List (List ℕ)

@@ -1,3 +1,4 @@
+pub mod ClientCounts
 pub mod Counting
 pub mod LegTimes
 pub mod LoopTotals

@@ -1,10 +1,12 @@
 -- What the loops of a proxy count together.
 use Rattle.std.specs.Prelude.{ℕ, zero, suc, List, [], ◌∷◌, length, replicate, sum_by, None}
 use Rattle.mr_pools.specs.Routing.{RoutingView}
+use Rattle.mr_counting.specs.ClientCounts.{no_clients}
 use Rattle.mr_counting.specs.Counting.{one_more}
+use Rattle.mr_counting.specs.LegTimes.{no_times}
 use Rattle.mr_counting.specs.Sums.{counts_sum, clients_sum, link_sum, times_sum}
 use Rattle.mr_counting.specs.declared.answer_counts.AnswerCounts.{AnswerCounts}
-use Rattle.mr_counting.specs.declared.client_totals.ClientTotals.{ClientTotals}
+use Rattle.mr_counting.specs.declared.client_counts.ClientCounts.{ClientCounts}
 use Rattle.mr_counting.specs.declared.leg_times.LegTimes.{LegTimes}
 use Rattle.mr_counting.specs.declared.link_totals.LinkTotals.{LinkTotals}
 use Rattle.mr_counting.specs.declared.proxy_counts.ProxyCounts.{ProxyCounts}
@@ -16,7 +18,7 @@ pub record TotalsView : Type 0 where
   -- how many loops
   pub loops : ℕ
   pub counts : ProxyCounts
-  pub clients : ClientTotals
+  pub clients : ClientCounts
   -- by the numbers of the nodes, which are counted pool by pool
   pub nodes : List LinkTotals
   pub times : LegTimes
@@ -48,17 +50,9 @@ no_answers = record {
 abbrev pub no_counts : ProxyCounts
 no_counts = record { requests = no_requests; answers = no_answers; under_way = 0; last_issue = None }
 
--- no client came
-abbrev pub no_clients : ClientTotals
-no_clients = record { came = 0; left = 0; held_back = 0 }
-
 -- no link to a node
 abbrev pub no_link : LinkTotals
 no_link = record { up = 0; carried = 0; lost = 0; breaks = 0; dials = 0 }
-
--- no leg went
-abbrev pub no_times : LegTimes
-no_times = record { counts = replicate 16 0; micros = 0 }
 
 -- how many nodes the pools of a routing have
 abbrev pub nodes_in : RoutingView → ℕ
@@ -75,7 +69,7 @@ nodes_with zero link (node ∷ nodes) = link_sum node link ∷ nodes
 nodes_with (suc number) link (node ∷ nodes) = node ∷ nodes_with number link nodes
 
 -- one loop more, by what it counts of requests and of clients
-abbrev pub with_loop : ProxyCounts → ClientTotals → TotalsView → TotalsView
+abbrev pub with_loop : ProxyCounts → ClientCounts → TotalsView → TotalsView
 with_loop counts clients totals = record totals {
   loops = one_more totals.loops;
   counts = counts_sum totals.counts counts;

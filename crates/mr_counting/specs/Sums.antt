@@ -3,7 +3,7 @@ use Rattle.std.specs.Prelude.{ℕ, List, [], ◌∷◌, Option, Some, None}
 use Rattle.mr_counting.specs.Counting.{sum_of}
 use Rattle.mr_counting.specs.ProxyCounts.{later_of}
 use Rattle.mr_counting.specs.declared.answer_counts.AnswerCounts.{AnswerCounts}
-use Rattle.mr_counting.specs.declared.client_totals.ClientTotals.{ClientTotals}
+use Rattle.mr_counting.specs.declared.client_counts.ClientCounts.{ClientCounts}
 use Rattle.mr_counting.specs.declared.leg_times.LegTimes.{LegTimes}
 use Rattle.mr_counting.specs.declared.link_totals.LinkTotals.{LinkTotals}
 use Rattle.mr_counting.specs.declared.proxy_counts.ProxyCounts.{ProxyCounts}
@@ -57,7 +57,7 @@ counts_sum counts more = record {
 }
 
 -- of their clients
-abbrev pub clients_sum : ClientTotals → ClientTotals → ClientTotals
+abbrev pub clients_sum : ClientCounts → ClientCounts → ClientCounts
 clients_sum clients more = record {
   came = sum_of clients.came more.came;
   left = sum_of clients.left more.left;

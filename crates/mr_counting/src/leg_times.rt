@@ -1,9 +1,9 @@
 //! How long legs took, carried and lost ones, by how long each did.
 ghost use Rattle.std.specs.Prelude.{◌≡◌, ◌<◌, ◌≤◌, length, map, slice_index};
-ghost use Rattle.mr_counting.specs.LegTimes.{bounds, bound_texts, place_in, bucket_said, bucket_rows};
+ghost use Rattle.mr_counting.specs.LegTimes.{bound_texts, place_in, bucket_said, bucket_rows, timed};
 ghost use Rattle.mr_counting.specs.Sums.{times_sum};
 
-use crate::counting::sum_of;
+use crate::counting::{one_more, sum_of};
 use mr_metrics::Bucket;
 
 /// The longest times that are told apart, in microseconds.
@@ -13,7 +13,7 @@ const BOUNDS: [u64; 15] = [
 ];
 
 /// How many counts there are: one for each bound, and one for what took longer.
-pub const BUCKETS: usize = 16;
+const BUCKETS: usize = 16;
 
 /// The place of the first of these bounds that a time isn't longer than; behind the last where it is longer than all.
 #[inline(always)]
@@ -29,15 +29,6 @@ fn place_among(bounds: &[u64], micros: u64) -> usize
         place += 1;
     }
     place
-}
-
-/// The place of the first bound of `LegTimes` that a time isn't longer than, in microseconds.
-#[inline(always)]
-pub fn place_of_time(micros: u64) -> usize
-    ensures place { result ≡ place_in bounds micros }
-    ensures within { result < 16 }
-{
-    place_among(&BOUNDS, micros)
 }
 
 /// How long legs took, carried and lost ones.
@@ -56,6 +47,16 @@ impl LegTimes {
         counts: [0; BUCKETS],
         micros: 0,
     };
+
+    /// Counts a leg that took so many microseconds.
+    #[inline(always)]
+    pub fn add_leg(&mut self, micros: u64)
+        ensures { self.new ≡ timed micros self.old }
+    {
+        let place = place_among(&BOUNDS, micros);
+        self.counts[place] = one_more(self.counts[place]);
+        self.micros = sum_of(self.micros, micros);
+    }
 
     /// Adds others, as far as 64 bits count.
     pub fn add(&mut self, more: &LegTimes)

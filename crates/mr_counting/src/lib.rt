@@ -3,7 +3,7 @@
 #![tactic(auto)]
 
 mod answer_counts;
-mod client_totals;
+mod client_counts;
 mod counting;
 mod leg_times;
 mod link_totals;
@@ -17,9 +17,9 @@ mod standing;
 mod watched_clock;
 
 pub use answer_counts::AnswerCounts;
-pub use client_totals::ClientTotals;
+pub use client_counts::ClientCounts;
 pub use counting::{one_more, sum_of};
-pub use leg_times::{BUCKETS, LegTimes, place_of_time};
+pub use leg_times::LegTimes;
 pub use link_totals::LinkTotals;
 pub use loop_totals::LoopTotals;
 pub use proxy_counts::{ProxyCounts, later_of};

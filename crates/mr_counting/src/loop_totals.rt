@@ -2,7 +2,7 @@
 ghost use Rattle.std.specs.Prelude.{◌≡◌, IfOk, replicate};
 ghost use Rattle.mr_counting.specs.LoopTotals.{nodes_in, no_link, no_totals, nodes_with, with_loop, with_link};
 
-use crate::client_totals::ClientTotals;
+use crate::client_counts::ClientCounts;
 use crate::counting::one_more;
 use crate::leg_times::LegTimes;
 use crate::link_totals::LinkTotals;
@@ -16,7 +16,7 @@ use std::marker::Model;
 pub struct LoopTotals {
     loops: u64,
     counts: ProxyCounts,
-    clients: ClientTotals,
+    clients: ClientCounts,
     nodes: Vec<LinkTotals>,
     times: LegTimes,
 }
@@ -68,14 +68,14 @@ impl LoopTotals {
         Ok(LoopTotals {
             loops: 0,
             counts: ProxyCounts::NONE,
-            clients: ClientTotals::NONE,
+            clients: ClientCounts::NONE,
             nodes: unlinked(alloc, nodes_in(routing))?,
             times: LegTimes::NONE,
         })
     }
 
     /// One loop more, by what it counts of requests and of clients.
-    pub fn add_loop(&mut self, counts: ProxyCounts, clients: ClientTotals)
+    pub fn add_loop(&mut self, counts: ProxyCounts, clients: ClientCounts)
         ensures { self.new ≡ with_loop counts clients self.old }
     {
         self.loops = one_more(self.loops);
@@ -106,7 +106,7 @@ impl LoopTotals {
     }
 
     /// What they count of clients.
-    pub fn clients(&self) -> ClientTotals
+    pub fn clients(&self) -> ClientCounts
         ensures { result ≡ self.now.clients }
     {
         self.clients

@@ -9,7 +9,6 @@ svg{--ground:#ffffff;--ink:#1f2328;--faint:#59636e;--line:#57606a;--bar:#ddf4ff;
 @media (prefers-color-scheme:dark){svg{--ground:#0d1117;--ink:#e6edf3;--faint:#9198a1;--line:#8c959f;--bar:#12304f;--edge:#58a6ff;--bad:#ff7b72;--blamed:#5d1a1d;--old:#3a3216;--first:#4a2f17;--second:#1e3a22;--new:#164028}}
 text{font:11px 'DejaVu Sans Mono',Menlo,Consolas,monospace;fill:var(--ink)}
 .ground,.gap{fill:var(--ground)}
-.strong{font-size:14px;font-weight:bold}
 .plain{font-size:14px}
 .faint{font-size:13px;fill:var(--faint)}
 .number{fill:var(--faint);text-anchor:middle}
@@ -20,7 +19,7 @@ text{font:11px 'DejaVu Sans Mono',Menlo,Consolas,monospace;fill:var(--ink)}
 .mark{font-weight:bold}
 .bar{fill:var(--bar);stroke:var(--edge)}
 .blamed{fill:var(--blamed);stroke:var(--bad);stroke-width:2}
-.said,.cross{text-anchor:middle;stroke:var(--ground);stroke-width:4;paint-order:stroke}
+.said,.cross{text-anchor:middle;stroke:var(--ground);stroke-width:10;stroke-linejoin:round;paint-order:stroke}
 .cross{font-weight:bold}
 .bad{fill:var(--bad);font-weight:bold}
 .node{stroke:var(--faint)}
@@ -28,7 +27,8 @@ text{font:11px 'DejaVu Sans Mono',Menlo,Consolas,monospace;fill:var(--ink)}
 .back{stroke:var(--edge)}
 .again{stroke-dasharray:6 3}
 .lost{stroke-dasharray:2 7}
-.event{fill:transparent}
+rect,line,text{pointer-events:none}
+.event{fill:transparent;pointer-events:all}
 </style>
 ";
 

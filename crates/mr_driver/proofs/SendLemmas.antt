@@ -5,8 +5,6 @@ use denote.Struct.Declared.{shape}
 use Rattle.std.proofs.Crossing.{crosses}
 use Rattle.mr_text.specs.contracts.item.Item as item
 use Rattle.mr_text.proofs.item.Item.TheSendSync as of_item
-use Rattle.mr_text.specs.contracts.request.Request as request
-use Rattle.mr_text.proofs.request.Request.TheSendSync as of_request
 use Rattle.mr_text.specs.contracts.reading.begun_item.BegunItem as begun_item
 use Rattle.mr_text.proofs.reading.begun_item.BegunItem.TheSendSync as of_begun_item
 use Rattle.mr_text.specs.contracts.reading.begun_set.BegunSet as begun_set
@@ -31,8 +29,8 @@ use Rattle.mr_loop.specs.contracts.link_counts.LinkCounts as link_counts
 use Rattle.mr_loop.proofs.link_counts.LinkCounts.TheSendSync as of_link_counts
 use Rattle.mr_loop.specs.contracts.counts.LoopCounts as loop_counts
 use Rattle.mr_loop.proofs.counts.LoopCounts.TheSendSync as of_loop_counts
-use Rattle.mr_loop.specs.contracts.counts.ClientCounts as client_counts
-use Rattle.mr_loop.proofs.counts.ClientCounts.TheSendSync as of_client_counts
+use Rattle.mr_counting.specs.contracts.client_counts.ClientCounts as client_counts
+use Rattle.mr_counting.proofs.client_counts.ClientCounts.TheSendSync as of_client_counts
 use Rattle.mr_loop.specs.contracts.asker.Limits as limits
 use Rattle.mr_loop.proofs.asker.Limits.TheSendSync as of_limits
 use Rattle.mr_loop.specs.contracts.sending.Scratch as scratch
@@ -56,9 +54,6 @@ use Rattle.mr_loop.specs.contracts.node.node_loop.NodeLoop.TheInside as inside
 -- what the crates below show of their own types, and this one of its
 item_send : IsSend item.the_row
 item_send = of_item.the_send
-
-request_send : IsSend request.the_field.row
-request_send = of_request.the_field_send
 
 begun_item_send : IsSend begun_item.the_field.row
 begun_item_send = of_begun_item.the_send

@@ -14,6 +14,10 @@ pause_after pause stood =
 abbrev pub tick_of : ℕ → ℕ
 tick_of bound = max 1000 (min (bound / 8) 25000)
 
+-- an eighth of a bound, and a second at most
+abbrev pub sweep_of : ℕ → ℕ
+sweep_of bound = min (bound / 8) 1000000
+
 -- the moment that is so much later
 abbrev pub next_at : ℕ → ℕ → ℕ
 next_at now span = min (now + span) (2 ^ 64 - 1)

@@ -38,19 +38,19 @@ pub trait Machine: Drop + Send {
         requires { place < place_count self.old };
 
     /// Bytes of a client came, at a reading of the machine's clock, in seconds since the epoch, and at a time, in microseconds of a
-    /// clock that never goes back. The answer says what the client needs: where that is there, the call may be made again without
-    /// bytes. For want of memory for the bytes nothing changes.
+    /// clock that never goes back. Where there is no reading, each request that is whole comes to that. The answer says what the
+    /// client needs: where that is there, the call may be made again without bytes. For want of memory for the bytes nothing changes.
     fn on_client_bytes(
         &mut self,
         place: usize,
-        reading: u64,
+        reading: Option<u64>,
         now: u64,
         bytes: &[u8],
     ) -> Result<Pause, AllocError>
         requires { place < place_count self.old };
 
-    /// A client sends no more.
-    fn on_client_ended(&mut self, place: usize, reading: u64, now: u64) -> Pause
+    /// A client sends no more. What is whole of what it sent comes to the same as by `on_client_bytes`.
+    fn on_client_ended(&mut self, place: usize, reading: Option<u64>, now: u64) -> Pause
         requires { place < place_count self.old };
 
     /// Puts what is there for a client behind the bytes that may be written to it. For want of memory some is left.

@@ -2,8 +2,8 @@
 ghost use Rattle.std.specs.Prelude.{◌≡◌, IfOk};
 ghost use Rattle.mr_driver.specs.Reports.{link_reports, TellsOf};
 
-use mr_counting::ProxyCounts;
-use mr_loop::{ClientCounts, LinkCounts, ProxyLoop};
+use mr_counting::{ClientCounts, ProxyCounts};
+use mr_loop::{LinkCounts, ProxyLoop};
 use std::alloc::{AllocError, Global};
 
 /// What a loop tells of the link to a node.

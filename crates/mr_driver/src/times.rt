@@ -1,7 +1,7 @@
 //! How long things take, in microseconds.
 ghost use Rattle.std.specs.Prelude.{◌≡◌};
 ghost use Rattle.std.specs.Duration.{as_nanos};
-ghost use Rattle.mr_driver.specs.Times.{bound_of, pause_after, tick_of, next_at, has_passed, nanos_until};
+ghost use Rattle.mr_driver.specs.Times.{bound_of, pause_after, sweep_of, tick_of, next_at, has_passed, nanos_until};
 
 use std::time::Duration;
 
@@ -16,6 +16,9 @@ pub const MOST_TICK: u64 = 25_000;
 
 /// After how long it is looked at the earliest.
 pub const LEAST_TICK: u64 = 1_000;
+
+/// After how long it is looked at the latest whether a client was silent for too long.
+const MOST_SWEEP: u64 = 1_000_000;
 
 /// A bound of so many milliseconds, of which 0 is none.
 pub fn bound_of(millis: u64) -> u64
@@ -48,6 +51,14 @@ pub fn tick_of(bound: u64) -> u64
     ensures { result ≡ tick_of bound }
 {
     (bound / 8).clamp(LEAST_TICK, MOST_TICK)
+}
+
+/// How often it is looked whether a client was silent for longer than a bound: eight times within it, but each `MOST_SWEEP` at
+/// least.
+pub(crate) fn sweep_of(bound: u64) -> u64
+    ensures { result ≡ sweep_of bound }
+{
+    (bound / 8).min(MOST_SWEEP)
 }
 
 /// The moment that is so much later.

@@ -9,7 +9,7 @@ use crate::flow::signs_of;
 use crate::hearing::{Hears, LoopEvent};
 use crate::link_side::LinkSide;
 use crate::machine::Machine;
-use crate::times::{next_at, tick_of};
+use crate::times::{next_at, sweep_of, tick_of};
 use crate::tokens::{Origin, origin_of};
 use crate::waits::{Waits, late_turns_after};
 use crossbeam_channel::{Receiver, Sender};
@@ -27,9 +27,6 @@ const EVENTS: usize = 1_024;
 
 /// How many bytes of a socket are read in one turn, so that each other one has its turn too.
 const SHARE: usize = 65_536;
-
-/// How often it is looked whether a client was silent for too long, in microseconds.
-const SWEEP: u64 = 1_000_000;
 
 /// A loop that isn't started yet.
 #[derive(Drop)]
@@ -96,7 +93,7 @@ impl<'a, R: Net + Clock, E: Hears, M: Machine> EventLoop<'a, R, E, M> {
         if self.late_turns > 0 || self.engine.now < self.next_sweep {
             return;
         }
-        self.next_sweep = next_at(self.engine.now, SWEEP);
+        self.next_sweep = next_at(self.engine.now, sweep_of(self.engine.timing.idle_bound));
         self.clients.sweep_all(&mut self.engine);
     }
 

@@ -62,6 +62,3 @@ pushed history entry formed fits = record {
         subst (λ e. Fits (take place (history ++ entry ∷ [])) e) (sym new.1) (subst (λ h. Fits h entry) before fits)
   ];
 }
-
-pub empty : IsWellFormed []
-empty = record { fits = λ place entry there. (let g = there.gets in cc) }

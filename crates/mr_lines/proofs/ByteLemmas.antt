@@ -1,5 +1,6 @@
 -- The place of a byte, as a search finds it and as it splits the bytes.
-use Rattle.std.proofs.Common.{◌≡◌, ℕ, zero, suc, ◌+◌, ◌<◌, ◌==◌, Bool, true, false, List, [], ◌∷◌, ◌++◌, Option, Some, None, length, get_or, take, drop, refl, ap, sym, ◌∙◌, arith, option_map, if◌then◌else◌, add-one, Contains, eqb-true, eq-eqb}
+use Rattle.std.proofs.Common.{◌≡◌, ℕ, zero, suc, ◌+◌, ◌<◌, ◌==◌, Bool, true, false, List, [], ◌∷◌, ◌++◌, Option, Some, None, length, get_or, take, drop, refl, ap, sym, ◌∙◌, arith, option_map, if◌then◌else◌, add-one, Contains, eqb-true, eq-eqb, not, cond, ◌≤◌}
+use Rattle.std.specs.List.{prefix_len}
 use Rattle.memchr.specs.Find.{IsFirstByte, is_byte}
 use Rattle.mr_lines.specs.Lines.{byte_place}
 
@@ -89,3 +90,38 @@ none_place wanted (b ∷ bs) h = go (none_place wanted bs (λ c. h (suc c.0, let
     go : byte_place wanted bs ≡ None → (t : Bool) → (b == wanted) ≡ t → (if t then Some 0 else option_map (λ place. place + 1) (byte_place wanted bs)) ≡ None
     go more true is = absurd (h (0, omega arith, eqb-true b wanted is))
     go more false is = rw more refl
+
+-- such a byte among the first ones
+pub place_by_run : (wanted n : ℕ) (bytes : List ℕ) (run : ℕ) → run ≡ prefix_len (λ byte. not (byte == wanted)) (take n bytes) → run < n → n ≤ length bytes
+    → Some run ≡ byte_place wanted bytes
+place_by_run wanted zero bytes run e low long = absurd (omega arith)
+place_by_run wanted (suc n) [] run e low long = absurd (omega arith)
+place_by_run wanted (suc n) (b ∷ bs) run e low long = go (place_by_run wanted n bs) (b == wanted) refl run e low
+  where
+    go : ((r : ℕ) → r ≡ prefix_len (λ byte. not (byte == wanted)) (take n bs) → r < n → n ≤ length bs → Some r ≡ byte_place wanted bs)
+        → (t : Bool) → (b == wanted) ≡ t → (r : ℕ) → r ≡ cond (not t) (1 + prefix_len (λ byte. not (byte == wanted)) (take n bs)) 0 → r < suc n
+        → Some r ≡ (if t then Some 0 else option_map (λ place. place + 1) (byte_place wanted bs))
+    go more true is r e low = ap Some e
+    go more false is r e low =
+        rw (← more (prefix_len (λ byte. not (byte == wanted)) (take n bs)) refl (omega arith) (omega arith)) (ap Some (omega arith))
+
+-- none such among the first ones
+pub place_past_run : (wanted n : ℕ) (bytes : List ℕ) → n ≤ prefix_len (λ byte. not (byte == wanted)) (take n bytes) → n ≤ length bytes
+    → option_map (λ place. n + place) (byte_place wanted (drop n bytes)) ≡ byte_place wanted bytes
+place_past_run wanted zero bytes e long = go (byte_place wanted bytes)
+  where
+    go : (o : Option ℕ) → option_map (λ place. 0 + place) o ≡ o
+    go None = refl
+    go (Some k) = ap Some (omega arith)
+place_past_run wanted (suc n) [] e long = absurd (omega arith)
+place_past_run wanted (suc n) (b ∷ bs) e long = go (place_past_run wanted n bs) (b == wanted) refl e
+  where
+    shift : (o : Option ℕ) → option_map (λ place. suc n + place) o ≡ option_map (λ place. place + 1) (option_map (λ place. n + place) o)
+    shift None = refl
+    shift (Some k) = ap Some (omega arith)
+
+    go : (n ≤ prefix_len (λ byte. not (byte == wanted)) (take n bs) → n ≤ length bs → option_map (λ place. n + place) (byte_place wanted (drop n bs)) ≡ byte_place wanted bs)
+        → (t : Bool) → (b == wanted) ≡ t → suc n ≤ cond (not t) (1 + prefix_len (λ byte. not (byte == wanted)) (take n bs)) 0
+        → option_map (λ place. suc n + place) (byte_place wanted (drop n bs)) ≡ (if t then Some 0 else option_map (λ place. place + 1) (byte_place wanted bs))
+    go more true is e = absurd (omega arith)
+    go more false is e = shift (byte_place wanted (drop n bs)) ∙ ap (option_map (λ place. place + 1)) (more (omega arith) (omega arith))

@@ -25,9 +25,6 @@ number-take-le word i = let h = number-append-le (take i word) (drop i word) in 
 abbrev chosen : Bool → Bool → Bool → ℕ → Option ℕ
 chosen a b c n = if a && b && c then Some n else None
 
-none_first : (b c : Bool) (n : ℕ) → chosen false b c n ≡ None
-none_first b c n = refl
-
 none_second : (a c : Bool) (n : ℕ) → chosen a false c n ≡ None
 none_second true c n = refl
 none_second false c n = refl

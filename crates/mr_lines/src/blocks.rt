@@ -14,6 +14,7 @@ pub enum BlockEnd {
 }
 
 /// What stands behind the block of this length at the front of the bytes.
+#[inline(always)]
 #[tactic(auto, unfolding(crate::specs::Blocks::block_end))]
 pub fn block_end(block_length: usize, bytes: &[u8]) -> BlockEnd
     requires { block_length + 2 < 2 ^ 64 }

@@ -6,6 +6,7 @@ ghost use Rattle.mr_lines.specs.Words.{words_of, drop_spaces};
 use crate::lines::place_of_byte;
 
 /// The bytes from the first that isn't a space.
+#[inline(always)]
 fn without_spaces(mut bytes: &[u8]) -> &[u8]
     ensures bytes { result.now ≡ drop_spaces bytes.entry.now }
     ensures words { words_of result.now ≡ words_of bytes.entry.now }
@@ -19,6 +20,7 @@ fn without_spaces(mut bytes: &[u8]) -> &[u8]
 }
 
 /// The first word, and what follows it; None where there is no word.
+#[inline(always)]
 pub fn next_word(bytes: &[u8]) -> Option<(&[u8], &[u8])>
     ensures words { MatchOption result (words_of bytes.now ≡ []) (λ w. words_of bytes.now ≡ w.0.now ∷ words_of w.1.now) }
     ensures behind { IfSome result (λ w. w.1.now ≡ drop (length w.0.now) (drop_spaces bytes.now)) }
@@ -33,6 +35,7 @@ pub fn next_word(bytes: &[u8]) -> Option<(&[u8], &[u8])>
 }
 
 /// Whether the word is this text.
+#[inline(always)]
 pub fn is_text(word: &[u8], text: &[u8]) -> bool
     ensures { result ≡ bytes_eq word.now text.now }
 {

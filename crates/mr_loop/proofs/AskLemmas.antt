@@ -9,14 +9,14 @@ use Rattle.mr_text.specs.declared.request.Request.{Request}
 use Rattle.mr_loop.specs.declared.asker.Asker.{Asker}
 use Rattle.mr_loop.specs.declared.asking.Pause.{Pause}
 use Rattle.mr_loop.specs.declared.asking.Pause.TheVariants.{NeedsBytes, NeedsRoom, NeedsReader, NeedsQueue, NeedsMemory, IsDone}
-use Rattle.mr_loop.specs.declared.counts.ClientCounts.{ClientCounts}
+use Rattle.mr_counting.specs.ClientCounts.{held_once}
+use Rattle.mr_counting.specs.declared.client_counts.ClientCounts.{ClientCounts}
 use Rattle.mr_loop.specs.declared.inbox.Fetched.TheVariants.{Came, NoMemory}
 use Rattle.mr_loop.specs.declared.inbox.Inbox.{Inbox}
 use Rattle.mr_loop.specs.declared.inbox.Input.{Input}
 use Rattle.mr_loop.specs.declared.inbox.Input.TheVariants as input
 use Rattle.mr_loop.specs.declared.link.Link.{Link}
 use Rattle.mr_loop.specs.Asking.{Asking, StopsFor, HoldsBack, is_behind}
-use Rattle.mr_loop.specs.Counts.{held_once}
 use Rattle.mr_loop.specs.Events.{FrontView}
 use Rattle.mr_loop.specs.Inboxes.{FetchIs, ReadsOne, TakesHeld, holding, waiting, going_on}
 use Rattle.mr_loop.specs.steps.Asking.{AnswersSo}

@@ -3,7 +3,7 @@ use Rattle.std.proofs.Common.{◌≡◌, ℕ, zero, suc, ◌+◌, ◌&&◌, Bool
 use Rattle.mr_text.specs.declared.request.Request.{Request}
 use Rattle.mr_text.specs.declared.request.Request.TheVariants as asked
 use Rattle.mr_history.specs.declared.op_id.OpId.{OpId}
-use Rattle.mr_node.specs.declared.command.NodeCommand.TheVariants.{Get, Delete}
+use Rattle.mr_node.specs.declared.command.NodeCommand.TheVariants.{Get}
 use Rattle.mr_phases.specs.Pools.{pool_number}
 use Rattle.mr_phases.specs.Schedule.{Hop, hop_of, phase_of}
 use Rattle.mr_phases.specs.Sides.{read_side_of}
@@ -13,7 +13,7 @@ use Rattle.mr_proxy.specs.Sheets.{sheets_by, sheets_from, targets_of}
 use Rattle.mr_loop.specs.declared.link.Link.{Link}
 use Rattle.mr_proxy.specs.declared.sheet.LegSheet.{LegSheet}
 use Rattle.mr_loop.specs.Links.{first_full, has_place, has_place_in, link_of, link_of_key}
-use Rattle.mr_loop.specs.steps.Clearing.{full_of_keys, full_of_sides, have_places}
+use Rattle.mr_loop.specs.steps.Clearing.{full_of_keys, have_places}
 
 -- the legs of a get are those of its keys
 pub keys_same : (most : ℕ) (routing : RoutingView) (hop : ℕ) (op : OpId) (place : ℕ) (side : Side) (keys : List (List ℕ)) (links : List Link)
@@ -23,15 +23,6 @@ keys_same most routing hop op place side [] links = refl
 keys_same most routing hop op place side (key ∷ keys) links =
     ap (λ o. cond (has_place most links (link_of_key routing (pool_number hop side) key)) o (Some (link_of_key routing (pool_number hop side) key)))
     (keys_same most routing hop op (place + 1) side keys links)
-
--- the legs of a delete are those of its sides
-pub sides_same : (most : ℕ) (routing : RoutingView) (hop : ℕ) (op : OpId) (place : ℕ) (sides : List Side) (key : List ℕ) (links : List Link)
-    → full_of_sides most routing hop sides key links
-    ≡ first_full most routing (sheets_from routing hop op place (targets_of sides (Delete key ∷ []))) links
-sides_same most routing hop op place [] key links = refl
-sides_same most routing hop op place (side ∷ sides) key links =
-    ap (λ o. cond (has_place most links (link_of_key routing (pool_number hop side) key)) o (Some (link_of_key routing (pool_number hop side) key)))
-    (sides_same most routing hop op (place + 1) sides key links)
 
 -- the legs of a get that is judged by a reading
 pub get_same : (most : ℕ) (routing : RoutingView) (hops : List Hop) (op : OpId) (u : ℕ) (hop pool : ℕ) (side : Side) (keys : List (List ℕ)) (request : Request) (links : List Link)

@@ -1,5 +1,5 @@
 -- What is there for a first request is told.
-use Rattle.std.proofs.Common.{◌≡◌, ℕ, ◌<◌, List, [], ◌∷◌, ◌++◌, Some, None, drop, length, slice_set, refl, sym, ap, ◌∙◌, arith, append_assoc}
+use Rattle.std.proofs.Common.{◌≡◌, ℕ, List, [], ◌∷◌, ◌++◌, Some, None, slice_set, refl, sym, ap, ◌∙◌}
 use Rattle.std.specs.Prelude.{slice_get, Result, Ok, Err, OnOk, OnErr}
 use Rattle.std.proofs.lemmas.List.{append-nil, set-set}
 use Rattle.mr_proxy.specs.ProxyView.{ProxyView}
@@ -15,33 +15,6 @@ client_of turns out = record { turns = turns; out = out }
 
 same_client : (a b : List Turn) (s t : List ℕ) → a ≡ b → s ≡ t → client_of a s ≡ client_of b t
 same_client a b s t p q = ap (λ x. client_of x s) p ∙ ap (λ x. client_of b x) q
-
-behind_step : (turns : List Turn) (turn : Turn) (text : List ℕ) → slice_get turns 0 ≡ Some turn → text_of_turn turn ≡ Some text
-    → behind_front turns ≡ behind_front (drop 1 turns)
-behind_step [] turn text h e = absurd (let no : None ≡ Some turn = h in cc)
-behind_step (first ∷ turns) turn text h e =
-    let same : first ≡ turn = cc in
-    ap (λ o. left_behind o (first ∷ turns) (behind_front turns)) (ap text_of_turn same ∙ e)
-
-text_step : (turns : List Turn) (turn : Turn) (text : List ℕ) → slice_get turns 0 ≡ Some turn → text_of_turn turn ≡ Some text
-    → front_text turns ≡ text ++ front_text (drop 1 turns)
-text_step [] turn text h e = absurd (let no : None ≡ Some turn = h in cc)
-text_step (first ∷ turns) turn text h e =
-    let same : first ≡ turn = cc in
-    ap (λ o. text_before o (front_text turns)) (ap text_of_turn same ∙ e)
-
--- the text of the first turn is told, and it leaves
-pub told : (turns : List Turn) (out : List ℕ) (turn : Turn) (text : List ℕ) → slice_get turns 0 ≡ Some turn → text_of_turn turn ≡ Some text
-    → flushed (record { turns = drop 1 turns; out = out ++ text }) ≡ flushed (record { turns = turns; out = out })
-told turns out turn text h e =
-    same_client _ _ _ _ (sym (behind_step turns turn text h e))
-    (append_assoc out text (front_text (drop 1 turns)) ∙ ap (λ t. out ++ t) (sym (text_step turns turn text h e)))
-
--- nothing is to be told of the first turn, and it leaves
-pub left_silent : (turns : List Turn) (out : List ℕ) (turn : Turn) → slice_get turns 0 ≡ Some turn → text_of_turn turn ≡ Some []
-    → flushed (record { turns = drop 1 turns; out = out }) ≡ flushed (record { turns = turns; out = out })
-left_silent turns out turn h e =
-    same_client _ _ _ _ (sym (behind_step turns turn [] h e)) (ap (λ t. out ++ t) (sym (text_step turns turn [] h e)))
 
 behind_waits : (turns : List Turn) (turn : Turn) → slice_get turns 0 ≡ Some turn → text_of_turn turn ≡ None → behind_front turns ≡ turns
 behind_waits [] turn h e = refl
@@ -69,10 +42,6 @@ pub nothing : (c : Client) → slice_get c.turns 0 ≡ None → c ≡ flushed c
 nothing c h =
     let e = empty_behind c.turns h in
     same_client _ _ _ _ (sym e.0) (sym (ap (λ t. c.out ++ t) e.1 ∙ append-nil c.out))
-
-pub shorter : (turns : List Turn) (turn : Turn) → slice_get turns 0 ≡ Some turn → length (drop 1 turns) < length turns
-shorter [] turn h = absurd (let no : None ≡ Some turn = h in cc)
-shorter (first ∷ turns) turn h = grind arith
 
 -- a client that was told a part is told the rest
 pub flushed_part : (clients : List Client) (place : ℕ) (old new : Client) → slice_get clients place ≡ Some old → flushed new ≡ flushed old

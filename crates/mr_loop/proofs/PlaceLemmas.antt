@@ -1,5 +1,5 @@
 -- Elements of lists that grow and that are written to.
-use Rattle.std.proofs.Common.{◌≡◌, ℕ, ◌+◌, ◌<◌, ◌-◌, suc, zero, List, [], ◌∷◌, ◌++◌, Some, None, length, take, get_or, slice_set, refl, sym, ap, ◌∙◌, arith, length-append}
+use Rattle.std.proofs.Common.{◌≡◌, ℕ, ◌+◌, ◌<◌, ◌-◌, suc, zero, List, [], ◌∷◌, ◌++◌, Some, length, take, get_or, slice_set, refl, sym, ap, ◌∙◌, arith, length-append}
 use Rattle.std.specs.Prelude.{slice_get}
 use Rattle.std.proofs.lemmas.List.{take_at}
 use Rattle.std.proofs.lemmas.Option.{slice_get-get_or}
@@ -36,11 +36,6 @@ last_set xs x y =
 pub changes : (clients : List Client) (place : ℕ) (client : Client) (change : Client → Client)
     → slice_get clients place ≡ Some client → changed place change clients ≡ slice_set clients place (change client)
 changes clients place client change e = ap (λ o. changed_in o place change clients) e
-
--- nobody is there to change
-pub changes_none : (clients : List Client) (place : ℕ) (change : Client → Client)
-    → slice_get clients place ≡ None → changed place change clients ≡ clients
-changes_none clients place change e = ap (λ o. changed_in o place change clients) e
 
 -- what stands at a place, whatever would be there past the end
 pub get_any : {X : Type 0} (xs : List X) (n : ℕ) (d e : X) → n < length xs → get_or xs n d ≡ get_or xs n e

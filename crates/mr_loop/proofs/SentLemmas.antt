@@ -1,5 +1,5 @@
 -- Legs that go over their links, and are taken back.
-use Rattle.std.proofs.Common.{◌≡◌, ℕ, suc, zero, ◌≤◌, ◌-◌, List, [], ◌∷◌, ◌++◌, Bool, true, false, ◌&&◌, cond, Option, Some, None, length, take, slice_set, refl, sym, ap, ◌∙◌, arith}
+use Rattle.std.proofs.Common.{◌≡◌, ℕ, suc, zero, ◌-◌, List, [], ◌∷◌, ◌++◌, Bool, true, false, ◌&&◌, cond, Option, Some, None, length, take, slice_set, refl, sym, ap, ◌∙◌}
 use Rattle.std.specs.Prelude.{slice_get}
 use Rattle.std.proofs.lemmas.List.{set-set}
 use Rattle.std.proofs.Math.Seq.{take-append_seam}
@@ -11,7 +11,7 @@ use Rattle.mr_loop.specs.declared.link.Link.{Link}
 use Rattle.mr_loop.specs.declared.sending.Mark.{Mark}
 use Rattle.mr_loop.specs.declared.sent_legs.SentLeg.{SentLeg}
 use Rattle.mr_loop.specs.Counts.{leg_unsent}
-use Rattle.mr_loop.specs.Links.{link_of, sent_by, with_leg, after_sending, is_up_in, is_up_at, sent_over, sent_over_in, all_sent, all_up}
+use Rattle.mr_loop.specs.Links.{link_of, sent_by, with_leg, after_sending, is_up_at, sent_over, sent_over_in, all_sent, all_up}
 use Rattle.mr_loop.specs.steps.Sending.{mark_of, without_last, undone, undone_one, undone_in}
 use Rattle.mr_loop.proofs.PlaceLemmas.{set_same, set_there, last_taken}
 
@@ -46,18 +46,6 @@ undone_leg links number link sent e =
 pub undone_more : (marks : List Mark) (mark : Mark) (links : List Link) → undone (marks ++ mark ∷ []) links ≡ undone marks (undone_one mark links)
 undone_more [] mark links = refl
 undone_more (first ∷ marks) mark links = ap (λ l. undone_one first l) (undone_more marks mark links)
-
-none_past : {X : Type 0} (xs : List X) (n : ℕ) → length xs ≤ n → slice_get xs n ≡ None
-none_past [] n h = refl
-none_past (x ∷ xs) zero h = absurd (omega arith)
-none_past (x ∷ xs) (suc n) h = none_past xs n (omega arith)
-
--- there is no link to go over
-pub sent_past : (links : List Link) (number : ℕ) (sent : SentLeg) → length links ≤ number → links ≡ sent_over number sent links
-sent_past links number sent h = sym (ap (λ o. sent_over_in o number sent links) (none_past links number h))
-
-pub down_past : (links : List Link) (number : ℕ) → length links ≤ number → false ≡ is_up_at links number
-down_past links number h = sym (ap is_up_in (none_past links number h))
 
 -- one more leg goes
 pub all_sent_more : (asker : Asker) (routing : RoutingView) (sheets : List LegSheet) (sheet : LegSheet) (links : List Link)
@@ -109,17 +97,6 @@ up_after_all asker routing [] links other = refl
 up_after_all asker routing (sheet ∷ sheets) links other =
     up_after_all asker routing sheets (sent_over (link_of routing sheet) (sent_by asker sheet) links) other
     ∙ up_after links (link_of routing sheet) (sent_by asker sheet) other
-
--- a leg was put to its link
-pub went_over : (links : List Link) (number : ℕ) (link new : Link) (sent : SentLeg) → slice_get links number ≡ Some link
-    → new ≡ after_sending sent link → slice_set links number new ≡ sent_over number sent links
-went_over links number link new sent there e =
-    ap (λ l. slice_set links number l) e ∙ sym (ap (λ o. sent_over_in o number sent links) there)
-
--- whether it went
-pub went_up : (links : List Link) (number : ℕ) (link : Link) (went : Bool) → slice_get links number ≡ Some link → went ≡ link.is_up
-    → went ≡ is_up_at links number
-went_up links number link went there e = e ∙ sym (ap is_up_in there)
 
 -- it is taken back by its mark
 pub went_back : (links : List Link) (number : ℕ) (mark : Mark) (link new : Link) (sent : SentLeg) (marks marks' : List Mark)

@@ -16,18 +16,18 @@ use Rattle.mr_node.specs.declared.ended.Ended.TheVariants as how
 use Rattle.mr_node.specs.Output.{Exchange, IsServed, ReadsExchanges, SpellsExchange, output_of, reply_to_refusal, text_of_answer, text_of_exchange}
 use Rattle.mr_node.specs.Output.Exchange.{Asked, Unknown}
 use Rattle.mr_node.proofs.ServiceLemmas.{served_unless_quit, served_is_not_quit}
-use Rattle.mr_loop.specs.declared.inbox.Fetched.TheVariants.{Came, Nothing, NoMemory, Done}
+use Rattle.mr_loop.specs.declared.inbox.Fetched.TheVariants.{Came, NoMemory, Done}
 use Rattle.mr_loop.specs.declared.inbox.Inbox.{Inbox}
 use Rattle.mr_loop.specs.declared.inbox.Input.{Input}
 use Rattle.mr_loop.specs.declared.inbox.Input.TheVariants as input
 use Rattle.mr_loop.specs.declared.node.client.NodeClient.{NodeClient}
 use Rattle.mr_loop.specs.declared.node.counts.ServedCounts.{ServedCounts}
-use Rattle.mr_loop.specs.declared.node.serving.NodePause.TheVariants.{NeedsBytes, NeedsMemory, IsDone}
+use Rattle.mr_loop.specs.declared.node.serving.NodePause.TheVariants.{NeedsMemory, IsDone}
 use Rattle.mr_loop.specs.Inboxes.{FetchIs, ReadsOne}
 use Rattle.mr_loop.specs.node.Cache.{Does}
 use Rattle.mr_loop.specs.node.Counts.{all_counted, exchange_counted}
 use Rattle.mr_loop.specs.node.Serving.{AsksOnce, AsksInOrder, AreBegunWithin, EndsThere, LeavesSo, Seat, ServesSome, ServesOn, IsOver, IsReady, IsSound, seat, to_tell}
-use Rattle.mr_loop.specs.steps.Serving.{IsAsked, ServesRequest, ServesRefusal, ServesInput}
+use Rattle.mr_loop.specs.steps.Serving.{ServesRequest, ServesRefusal, ServesInput}
 
 -- a client that was told what was due, and has no more unread than the bound
 pub is_ready : {E : Type 0} (most unread : ℕ) (client : NodeClient) (result : Result (Unit {0}) E) → false ≡ is_err result
@@ -62,11 +62,6 @@ refused_next : (old new : Inbox) (refusal : TextError) → old.held ≡ None →
     → ReadsOne old (Err refusal) (not (skips_line refusal)) new × (refusal ≢ Closed) × (refusal ≢ OutOfMemory)
 refused_next old new refusal none (inl taken) = (let some = taken.held in let both : None ≡ Some (input.Refused refusal) = sym none ∙ some in cc)
 refused_next old new refusal none (inr read) = read
-
--- what comes asks something
-pub asked_served : (old new : Inbox) (it : Input) → old.held ≡ None → FetchIs old (Came it) new → IsAsked it
-asked_served old new (input.Asks request) none came = served_unless_quit request (asked_next old new request none came).1
-asked_served old new (input.Refused refusal) none came = tt
 
 -- an inbox after one reading
 sound_read : (old new : Inbox) (rest : List ℕ) (closed : Bool) → IsSound old → new.held ≡ None → new.has_ended ≡ old.has_ended
@@ -303,25 +298,6 @@ module _ {C : Type 0} (does : Does C) (reading most : ℕ) (old : Seat C) where
   went now inbox (input.Refused refusal) new way ready came served =
       let read = refused_next now.client.inbox inbox refusal way.sound.none_held came in
       went_refused now inbox refusal new way ready read.0 read.1 read.2 served
-
-  -- nothing is whole
-  pub stops_bytes : (now : Seat C) (inbox : Inbox) → UnderWay now → IsReady most now.client → FetchIs now.client.inbox Nothing inbox
-      → ServesOn does reading most NeedsBytes old (seat now.cache (record now.client { inbox = inbox }) now.counts) × IsSound inbox
-  stops_bytes now inbox way ready fetched =
-      let read = fetched.0 in
-      let still : IsStillOpen now = still_open now way.serves read.goes_on in
-      let becomes : Becomes inbox.reader still.some.rest old.client.inbox.reader.ended false = record {
-        stands = read.next.3.stands ∙ still.becomes.stands;
-        is_ended = read.next.3.is_ended ∙ still.becomes.is_ended;
-        is_closed = read.next.3.is_closed;
-      } in (
-        record {
-          serves = inl (moved now (seat now.cache (record now.client { inbox = inbox }) now.counts) still.some refl refl refl
-              (inl (read.done, becomes, still.none)) read.same_end);
-          stops = (ready, read.done, read.same_end ∙ fetched.1, rw read.next.3.stands read.next.1);
-        },
-        sound_read now.client.inbox inbox now.client.inbox.reader.kept false way.sound read.same_held read.same_end read.next.3 (λ e. refl),
-      )
 
   -- there was no memory for a request that is whole
   pub stops_memory : (now : Seat C) (inbox : Inbox) → UnderWay now → IsReady most now.client → FetchIs now.client.inbox NoMemory inbox

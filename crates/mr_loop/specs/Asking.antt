@@ -18,13 +18,13 @@ use Rattle.mr_loop.specs.declared.asker.Limits.{Limits}
 use Rattle.mr_loop.specs.declared.asking.Pause.{Pause}
 use Rattle.mr_loop.specs.declared.asking.Pause.TheVariants.{NeedsBytes, NeedsRoom, NeedsReader, NeedsQueue, NeedsMemory, IsDone}
 use Rattle.mr_loop.specs.declared.client.Client.{Client}
-use Rattle.mr_loop.specs.declared.counts.ClientCounts.{ClientCounts}
+use Rattle.mr_counting.specs.ClientCounts.{held_once}
+use Rattle.mr_counting.specs.declared.client_counts.ClientCounts.{ClientCounts}
 use Rattle.mr_loop.specs.declared.inbox.Fetched.TheVariants.{Came, Nothing, NoMemory, Done}
 use Rattle.mr_loop.specs.declared.inbox.Inbox.{Inbox}
 use Rattle.mr_loop.specs.declared.inbox.Input.{Input}
 use Rattle.mr_loop.specs.declared.inbox.Input.TheVariants as input
 use Rattle.mr_loop.specs.declared.link.Link.{Link}
-use Rattle.mr_loop.specs.Counts.{held_once}
 use Rattle.mr_loop.specs.Events.{FrontView, Event, after_all}
 use Rattle.mr_loop.specs.Inboxes.{FetchIs, holding, waiting, going_on}
 use Rattle.mr_loop.specs.Links.{all_sent, all_up, first_full}

@@ -1,42 +1,15 @@
 -- What a loop counts, and what a link does.
-use Rattle.std.specs.Prelude.{◌≡◌, ℕ, ◌+◌, ◌-◌, ◌^◌, min, Bool, List, [], ◌∷◌, ◌++◌, replicate, Option, Some, None, slice_index, slice_set, if◌then◌else◌}
+use Rattle.std.specs.Prelude.{◌≡◌, ℕ, ◌-◌, Bool, List, [], ◌∷◌, ◌++◌, Option, Some, None, if◌then◌else◌}
 use Rattle.mr_text.specs.declared.cause.Cause.{Cause}
 use Rattle.mr_phases.specs.Schedule.{Hop, phase_of}
 use Rattle.mr_proxy.specs.Answer.{AnswerView}
 use Rattle.mr_counting.specs.Counting.{one_more}
-use Rattle.mr_counting.specs.LegTimes.{bounds, place_in}
+use Rattle.mr_counting.specs.LegTimes.{no_times, timed}
+use Rattle.mr_counting.specs.LoopTotals.{no_answers, no_requests}
 use Rattle.mr_counting.specs.ProxyCounts.{request_counted, answer_counted, cause_counted, later_of}
-use Rattle.mr_counting.specs.declared.answer_counts.AnswerCounts.{AnswerCounts}
-use Rattle.mr_counting.specs.declared.request_counts.PhaseCounts.{PhaseCounts}
-use Rattle.mr_counting.specs.declared.request_counts.RequestCounts.{RequestCounts}
-use Rattle.mr_loop.specs.declared.counts.ClientCounts.{ClientCounts}
 use Rattle.mr_loop.specs.declared.counts.LoopCounts.{LoopCounts}
-use Rattle.mr_loop.specs.declared.link_counts.LegTimes.{LegTimes}
 use Rattle.mr_loop.specs.declared.link_counts.LinkCounts.{LinkCounts}
 use Rattle.mr_loop.specs.declared.sent_legs.SentLeg.{SentLeg}
-
--- no request in any phase
-abbrev pub no_phases : PhaseCounts
-no_phases = record { old_only = 0; both_read_old = 0; both_read_new = 0; new_only = 0 }
-
--- no request of any command
-abbrev pub no_requests : RequestCounts
-no_requests = record { gets = no_phases; sets = no_phases; deletes = no_phases }
-
--- no answer of any kind
-abbrev pub no_answers : AnswerCounts
-no_answers = record {
-  hits = 0;
-  misses = 0;
-  stored = 0;
-  deleted = 0;
-  not_found = 0;
-  leg_lost = 0;
-  busy = 0;
-  out_of_memory = 0;
-  clock_fault = 0;
-  other_fault = 0;
-}
 
 -- no request came to an answer yet
 abbrev pub no_counts : LoopCounts
@@ -58,29 +31,6 @@ counted_if hops (Some answer) counts = with_counted hops answer counts
 -- a request was not begun for this cause
 abbrev pub with_denied : Cause → LoopCounts → LoopCounts
 with_denied cause counts = record counts { answers = cause_counted cause counts.answers }
-
--- no client came yet
-abbrev pub no_clients : ClientCounts
-no_clients = record { came = 0; left = 0; held_back = 0 }
-
--- what stands first of a client is held back: it counts once, however often it is tried
-abbrev pub held_once : Bool → ClientCounts → ClientCounts
-held_once waits counts = if waits then counts else record counts { held_back = one_more counts.held_back }
-
--- no leg took any time
-abbrev pub no_times : LegTimes
-no_times = record { counts = replicate 16 0; micros = 0 }
-
--- the count at a place is one more
-abbrev pub one_more_at : ℕ → List ℕ → List ℕ
-one_more_at place counts = slice_set counts place (one_more (slice_index counts place))
-
--- a leg took so many microseconds
-abbrev pub timed : ℕ → LegTimes → LegTimes
-timed micros times = record {
-  counts = one_more_at (place_in bounds micros) times.counts;
-  micros = min (times.micros + micros) (2 ^ 64 - 1);
-}
 
 -- nothing happened to a link yet
 abbrev pub no_link_counts : LinkCounts

@@ -10,6 +10,7 @@ pub mod Asking
 pub mod Ticking
 pub mod Bounds
 pub mod LoopView
+pub mod NoReading
 pub mod Runs
 pub mod node
 pub mod steps

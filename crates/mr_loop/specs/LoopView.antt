@@ -7,14 +7,15 @@ use Rattle.mr_loop.specs.declared.asker.Asker.{Asker}
 use Rattle.mr_loop.specs.declared.asker.Limits.{Limits}
 use Rattle.mr_loop.specs.declared.asking.Pause.{Pause}
 use Rattle.mr_loop.specs.declared.client.Client.{Client}
-use Rattle.mr_loop.specs.declared.counts.ClientCounts.{ClientCounts}
+use Rattle.mr_counting.specs.ClientCounts.{no_clients}
+use Rattle.mr_counting.specs.declared.client_counts.ClientCounts.{ClientCounts}
 use Rattle.mr_loop.specs.declared.inbox.Inbox.{Inbox}
 use Rattle.mr_loop.specs.declared.link.Link.{Link}
 use Rattle.mr_loop.specs.declared.link.LinkEnd.{LinkEnd}
 use Rattle.mr_loop.specs.declared.link_counts.LinkCounts.{LinkCounts}
 use Rattle.mr_counting.specs.Counting.{one_more}
 use Rattle.mr_counting.specs.declared.proxy_counts.ProxyCounts.{ProxyCounts}
-use Rattle.mr_loop.specs.Counts.{no_link_counts, no_clients, dial_counted}
+use Rattle.mr_loop.specs.Counts.{no_link_counts, dial_counted}
 use Rattle.mr_loop.specs.Events.{FrontView, Event, after_all, after_event, fresh_front}
 use Rattle.mr_loop.specs.Turns.{fresh_client}
 use Rattle.mr_loop.specs.Links.{down_link, up_link}

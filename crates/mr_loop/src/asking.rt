@@ -5,13 +5,14 @@ ghost use Rattle.mr_loop.specs.steps.Asking.{AnswersSo, AsksSo, IsSentOff, Refus
 
 use crate::asker::Asker;
 use crate::clearing::first_full;
-use crate::counts::ClientCounts;
 use crate::front::{Begun, Front, denial};
 use crate::inbox::{Fetched, Inbox, Input};
 use crate::link::Link;
 use crate::sending::{Scratch, send_all};
+use mr_counting::ClientCounts;
+use mr_history::OpId;
 use mr_node::session::reply_to_refusal;
-use mr_proxy::Issued;
+use mr_proxy::{Issued, Leg};
 use mr_text::laws::{requests_leave_less, skipped_lines_leave_less};
 use mr_text::{Cause, Reply, Request, TextError};
 
@@ -35,18 +36,19 @@ pub enum Pause {
 
 /// Sends the legs of a request that was issued. Where one has no link, the request is given up at once; where memory for one
 /// is refused, none goes, and the client is told this in its turn. Whether all of them went.
+#[inline(always)]
 fn send_off(
     front: &mut Front,
     links: &mut [Link],
     scratch: &mut Scratch,
     asker: Asker,
-    issued: Issued,
+    op: OpId,
+    legs: &mut Vec<Leg>,
     denial: Option<Reply>,
 ) -> bool
-    ensures { IsSentOff asker front.old.core.routing issued.op issued.legs.items denial front.old links.old front.new links.new }
+    ensures { IsSentOff asker front.old.core.routing op legs.old.items denial front.old links.old front.new links.new }
 {
-    let op = issued.op;
-    match send_all(links, scratch, front.core().routing(), asker, issued.legs) {
+    match send_all(links, scratch, front.core().routing(), asker, legs) {
         Ok(true) => true,
         Ok(false) => {
             front.give_up(asker.client, op);
@@ -60,6 +62,7 @@ fn send_off(
 }
 
 /// Issues a request, and sends its legs. The request comes back where there was no memory for its turn.
+#[inline(always)]
 fn ask(
     front: &mut Front,
     links: &mut [Link],
@@ -76,13 +79,16 @@ fn ask(
         Begun::Later(request) => Err(request),
         Begun::Told => Ok(()),
         Begun::Issued(issued) => {
-            let _ = send_off(front, links, scratch, asker, issued, refused);
+            let Issued { op, mut legs } = issued;
+            let _ = send_off(front, links, scratch, asker, op, &mut legs, refused);
+            front.give_legs_back(legs);
             Ok(())
         }
     }
 }
 
 /// Does what a client sent. It comes back where it is held back, with the reason.
+#[inline(always)]
 fn answer(
     front: &mut Front,
     links: &mut [Link],
@@ -112,6 +118,7 @@ fn answer_refusal(front: &mut Front, asker: Asker, refusal: TextError) -> Result
 }
 
 /// Begins a request, unless there is no room for it or a link that it needs has too many legs.
+#[inline(always)]
 fn answer_request(
     front: &mut Front,
     links: &mut [Link],

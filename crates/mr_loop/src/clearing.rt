@@ -17,6 +17,7 @@ use mr_text::{Key, Request};
 const FEW_LINKS: usize = 16;
 
 /// Whether fewer legs than the bound await a reply over a link.
+#[inline(always)]
 fn has_place_in(link: &Link, most: usize) -> bool
     ensures { result ≡ has_place_in most (Some link.now) }
 {
@@ -24,6 +25,7 @@ fn has_place_in(link: &Link, most: usize) -> bool
 }
 
 /// Whether fewer legs than the bound await a reply over each link.
+#[inline(always)]
 fn have_places(links: &[Link], most: usize) -> bool
     ensures { result ≡ have_places most links.now }
 {
@@ -31,6 +33,7 @@ fn have_places(links: &[Link], most: usize) -> bool
 }
 
 /// Whether fewer legs than the bound await a reply over the link of a number.
+#[inline(always)]
 fn has_place(links: &[Link], most: usize, number: usize) -> bool
     ensures { result ≡ has_place most links.now number }
 {
@@ -94,6 +97,7 @@ fn used_reading(core: &ProxyCore, reading: u64) -> u64
 
 /// The first of the links that a request would go over, were it issued at this reading, that has as many legs as the bound, by
 /// its number. None where each has fewer. The keys are placed only where there are many links or one of them is full.
+#[inline(always)]
 #[tactic(auto, using(crate::proofs::ClearLemmas::none_full))]
 pub(crate) fn first_full(
     links: &[Link],

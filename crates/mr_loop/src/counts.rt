@@ -1,9 +1,8 @@
-//! What a loop counts of its requests and its clients, each count since the loop began and as far as 64 bits go.
+//! What a loop counts of its requests, each count since the loop began and as far as 64 bits go.
 ghost use Rattle.std.specs.Prelude.{◌≡◌};
-ghost use Rattle.mr_counting.specs.Counting.{one_more};
-ghost use Rattle.mr_loop.specs.Counts.{no_counts, with_counted, with_denied, no_clients, held_once};
+ghost use Rattle.mr_loop.specs.Counts.{no_counts, with_counted, with_denied};
 
-use mr_counting::{AnswerCounts, RequestCounts, later_of, one_more};
+use mr_counting::{AnswerCounts, RequestCounts, later_of};
 use mr_phases::{Schedule, judge};
 use mr_proxy::Answer;
 use mr_text::Cause;
@@ -32,6 +31,7 @@ impl LoopCounts {
     }
 
     /// Counts an answer, and its request in the phase of its own reading.
+    #[inline(always)]
     pub(crate) fn add_answer(&mut self, schedule: Schedule, answer: &Answer)
         ensures { self.new ≡ with_counted schedule answer.now self.old }
     {
@@ -46,53 +46,5 @@ impl LoopCounts {
         ensures { self.new ≡ with_denied cause.now self.old }
     {
         self.answers.add_cause(cause);
-    }
-}
-
-/// What is counted of the clients of a loop.
-#[derive(Clone, Copy, Debug, PartialEq, Eq)]
-pub struct ClientCounts {
-    /// How often a client came to a place of the loop.
-    pub came: u64,
-    /// How often one left its place.
-    pub left: u64,
-    /// How many requests were held back for want of room, of a place in the queue of a link, or of memory: each once, however
-    /// often it was tried.
-    pub held_back: u64,
-}
-
-impl ClientCounts {
-    /// Nothing yet.
-    pub(crate) fn new() -> ClientCounts
-        ensures { result ≡ no_clients }
-    {
-        ClientCounts {
-            came: 0,
-            left: 0,
-            held_back: 0,
-        }
-    }
-
-    /// A client came.
-    pub(crate) fn add_coming(&mut self)
-        ensures { self.new ≡ record self.old { came = one_more self.old.came } }
-    {
-        self.came = one_more(self.came);
-    }
-
-    /// A client left.
-    pub(crate) fn add_leaving(&mut self)
-        ensures { self.new ≡ record self.old { left = one_more self.old.left } }
-    {
-        self.left = one_more(self.left);
-    }
-
-    /// What stands first of a client is held back. It counts unless it was held back before.
-    pub(crate) fn add_held(&mut self, waits: bool)
-        ensures { self.new ≡ held_once waits self.old }
-    {
-        if !waits {
-            self.held_back = one_more(self.held_back);
-        }
     }
 }

@@ -2,8 +2,9 @@
 ghost use Rattle.std.specs.Prelude.{◌≡◌, ◌≢◌, ◌<◌, ◌≤◌, true, false, [], ◌∷◌, ◌++◌, length, slice_get, slice_set, IfOk, OnOk, OnErr};
 ghost use Rattle.mr_proxy.specs.Issue.{next_op};
 ghost use Rattle.mr_proxy.specs.declared.step.Step.TheVariants.{GiveUp};
-ghost use Rattle.mr_loop.specs.Asking.{denial, is_behind, is_full};
-ghost use Rattle.mr_loop.specs.Events.{Event, after_event, changed, with_answer, fresh_front};
+ghost use Rattle.mr_text.specs.declared.cause.Cause.TheVariants.{ClockFault};
+ghost use Rattle.mr_loop.specs.Asking.{denial, is_behind, is_full, tells};
+ghost use Rattle.mr_loop.specs.Events.{Event, after_all, after_event, changed, with_answer, fresh_front};
 ghost use Rattle.mr_loop.specs.LoopView.{output_in, is_idle_in, is_waiting_in};
 ghost use Rattle.mr_loop.specs.Returning.{taking};
 ghost use Rattle.mr_loop.specs.Turns.{fresh_client};
@@ -18,7 +19,7 @@ use crate::turns::Turn;
 use mr_history::OpId;
 use mr_join::LegReply;
 use mr_node::session::is_silent;
-use mr_proxy::{Answer, Issued, ProxyCore, ProxyError, Taken};
+use mr_proxy::{Answer, Issued, Leg, ProxyCore, ProxyError, Taken};
 use mr_text::{Cause, FixedBuffer, Reply, Request};
 use std::alloc::{AllocError, Global};
 use std::marker::Model;
@@ -67,6 +68,7 @@ fn cause_of(refusal: ProxyError) -> Cause
 }
 
 /// What a client is told whose request isn't begun for this cause.
+#[inline(always)]
 pub(crate) fn denial(request: &Request, cause: Cause) -> Option<Reply>
     ensures { result ≡ denial request.now cause }
 {
@@ -92,6 +94,7 @@ impl Front {
     }
 
     /// The core.
+    #[inline(always)]
     pub fn core(&self) -> &ProxyCore
         ensures { result.now ≡ self.now.core }
     {
@@ -113,6 +116,7 @@ impl Front {
     }
 
     /// Notes an answer at the client who waits for it.
+    #[inline(always)]
     fn note(&mut self, client: usize, answer: Answer)
         ensures { self.new ≡ record self.old { clients = changed client (with_answer answer) self.old.clients } }
     {
@@ -122,6 +126,7 @@ impl Front {
     }
 
     /// Takes the reply of a leg.
+    #[inline(always)]
     pub(crate) fn take(&mut self, sent: SentLeg, said: LegReply)
         ensures { self.new ≡ after_event (taking sent said) self.old }
     {
@@ -147,6 +152,7 @@ impl Front {
     }
 
     /// Whether as many requests are under way as there is room for.
+    #[inline(always)]
     pub(crate) fn is_full(&self) -> bool
         ensures { result ≡ is_full self.now.core }
     {
@@ -158,6 +164,7 @@ impl Front {
 
     /// Whether the client has more of its answers unread than it may, those that wait in turn among them, or as many of its
     /// requests begun as it may that it wasn't told of.
+    #[inline(always)]
     pub(crate) fn is_behind(&self, limits: Limits, client: usize) -> bool
         ensures { result ≡ is_behind limits client self.now }
     {
@@ -179,7 +186,21 @@ impl Front {
         Ok(())
     }
 
+    /// A request of a client isn't begun, since the clock gives no reading. The client is told this in its turn, where it is told
+    /// anything. For want of memory nothing changes.
+    pub(crate) fn deny(&mut self, client: usize, denial: Option<Reply>) -> Result<(), AllocError>
+        ensures denied { OnOk result (self.new ≡ after_all (Event.Denies ClockFault ∷ tells client denial) self.old) }
+        ensures unchanged { OnErr result (self.new ≡ self.old) }
+    {
+        if let Some(reply) = denial {
+            self.tell(client, reply)?;
+        }
+        self.counts.add_denial(&Cause::ClockFault);
+        Ok(())
+    }
+
     /// The name that the next request gets.
+    #[inline(always)]
     fn next_op(&self) -> OpId
         ensures { result ≡ next_op self.now.core }
     {
@@ -224,6 +245,14 @@ impl Front {
         }
     }
 
+    /// The list of the legs of a request comes back to the core.
+    #[inline(always)]
+    pub(crate) fn give_legs_back(&mut self, legs: Vec<Leg>)
+        ensures { self.new ≡ self.old }
+    {
+        self.core.give_legs_back(legs);
+    }
+
     /// The request that was issued last is given up before any of its legs went, for want of memory: its client is told this
     /// in its turn.
     pub(crate) fn withdraw(&mut self, client: usize, op: OpId, denial: Option<Reply>)
@@ -250,7 +279,7 @@ impl Front {
         if client >= self.clients.len() {
             return Ok(());
         }
-        self.clients[client].flush(buffer)
+        self.clients[client].flush(&mut self.core, buffer)
     }
 
     /// One more place, for a client that asked nothing yet. For want of memory nothing changes.
@@ -271,6 +300,7 @@ impl Front {
     }
 
     /// The bytes that a client is to be told.
+    #[inline(always)]
     pub(crate) fn output(&self, client: usize) -> &[u8]
         requires { client < length self.now.clients }
         ensures { result.now ≡ output_in (slice_get self.now.clients client) }
@@ -279,6 +309,7 @@ impl Front {
     }
 
     /// Whether all that a client asked was told it, and written.
+    #[inline(always)]
     pub(crate) fn is_idle(&self, client: usize) -> bool
         requires { client < length self.now.clients }
         ensures { result ≡ is_idle_in (slice_get self.now.clients client) }
@@ -288,6 +319,7 @@ impl Front {
     }
 
     /// Whether a client took all that it was told, and waits for answers to what it asked.
+    #[inline(always)]
     pub(crate) fn is_waiting(&self, client: usize) -> bool
         requires { client < length self.now.clients }
         ensures { result ≡ is_waiting_in (slice_get self.now.clients client) }
@@ -297,6 +329,7 @@ impl Front {
     }
 
     /// So many bytes were written to a client.
+    #[inline(always)]
     pub(crate) fn written(&mut self, client: usize, count: usize)
         requires client { client < length self.old.clients }
         requires count { count ≤ length (output_in (slice_get self.old.clients client)) }
@@ -306,6 +339,7 @@ impl Front {
     }
 
     /// The place of a client to whose request the core gave an answer, each as often as it did.
+    #[inline(always)]
     pub(crate) fn next_touched(&mut self) -> Option<usize>
         ensures { TouchedIs self.old result self.new }
     {

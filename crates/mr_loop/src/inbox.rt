@@ -59,6 +59,7 @@ impl Inbox {
     }
 
     /// Takes bytes. For want of memory nothing changes.
+    #[inline(always)]
     pub(crate) fn feed(&mut self, piece: &[u8]) -> Result<(), AllocError>
         ensures taken { OnOk result (TakesPiece piece.now self.old self.new) }
         ensures unchanged { OnErr result (self.new ≡ self.old) }
@@ -82,6 +83,7 @@ impl Inbox {
     }
 
     /// Holds back what was fetched.
+    #[inline(always)]
     pub(crate) fn hold(&mut self, input: Input)
         ensures { self.new ≡ holding input self.old }
     {
@@ -97,6 +99,7 @@ impl Inbox {
     }
 
     /// What stood first is done.
+    #[inline(always)]
     pub(crate) fn go_on(&mut self)
         ensures { self.new ≡ going_on self.old }
     {
@@ -104,6 +107,7 @@ impl Inbox {
     }
 
     /// What stands next.
+    #[inline(always)]
     pub(crate) fn fetch(&mut self) -> Fetched
         ensures { FetchIs self.old result self.new }
     {
@@ -117,6 +121,7 @@ impl Inbox {
     }
 
     /// What the reader gives next.
+    #[inline(always)]
     fn read(&mut self) -> Fetched
         requires held { self.old.held ≡ None }
         requires goes_on { self.old.is_done ≡ false }

@@ -66,6 +66,7 @@ impl Link {
 
     /// A leg goes behind those that went, where the link is up; else it is lost. Whether it went. For want of memory nothing
     /// changes.
+    #[inline(always)]
     pub(crate) fn carry(
         &mut self,
         buffer: &mut FixedBuffer,
@@ -84,6 +85,7 @@ impl Link {
     }
 
     /// Puts a leg behind those that went, and the request for it behind theirs. For want of memory nothing changes.
+    #[inline(always)]
     fn send(&mut self, buffer: &mut FixedBuffer, sent: SentLeg) -> Result<(), AllocError>
         ensures sent { OnOk result (self.new ≡ with_leg sent self.old) }
         ensures unchanged { OnErr result (self.new ≡ self.old) }
@@ -135,6 +137,7 @@ impl Link {
     }
 
     /// Takes the replies that are whole, each as that of the first leg that has none.
+    #[inline(always)]
     fn take_replies(&mut self, front: &mut Front, now: u64) -> LinkEnd
         ensures { TakesReplies now self.old front.old result self.new front.new }
     {
@@ -165,6 +168,7 @@ impl Link {
     /// Takes bytes that came at this time. Each reply that is whole is that of the first leg that has none. What isn't a
     /// reply, a reply that no leg awaits or that is no answer to its leg, one that says that the node doesn't know what it was
     /// asked, and want of memory break the link.
+    #[inline(always)]
     pub(crate) fn take_bytes(
         &mut self,
         alloc: Global,

@@ -1,40 +1,9 @@
 //! What a link counts of its legs and its connections, each count since the loop began and as far as 64 bits go.
 ghost use Rattle.std.specs.Prelude.{◌≡◌};
-ghost use Rattle.mr_loop.specs.Counts.{no_times, timed, no_link_counts, leg_carried, leg_lost, leg_unsent, break_counted, dial_counted};
+ghost use Rattle.mr_loop.specs.Counts.{no_link_counts, leg_carried, leg_lost, leg_unsent, break_counted, dial_counted};
 
 use crate::sent_legs::SentLeg;
-use mr_counting::{BUCKETS, one_more, place_of_time};
-
-/// How long legs took.
-#[derive(Clone, Copy, Debug, PartialEq, Eq)]
-pub struct LegTimes {
-    /// How many took no longer than a bound, and longer than the one before it: by the bounds of
-    /// `mr_counting::LegTimes`, of which the last is none.
-    pub counts: [u64; BUCKETS],
-    /// How long they took in all, in microseconds.
-    pub micros: u64,
-}
-
-impl LegTimes {
-    /// None yet.
-    fn new() -> LegTimes
-        ensures { result ≡ no_times }
-    {
-        LegTimes {
-            counts: [0; BUCKETS],
-            micros: 0,
-        }
-    }
-
-    /// Counts a leg that took so many microseconds.
-    fn add(&mut self, micros: u64)
-        ensures { self.new ≡ timed micros self.old }
-    {
-        let place = place_of_time(micros);
-        self.counts[place] = one_more(self.counts[place]);
-        self.micros = self.micros.saturating_add(micros);
-    }
-}
+use mr_counting::{LegTimes, one_more};
 
 /// What became of the legs of a link, and of its connections.
 #[derive(Clone, Copy, Debug, PartialEq, Eq)]
@@ -61,16 +30,17 @@ impl LinkCounts {
             breaks: 0,
             carried: 0,
             lost: 0,
-            times: LegTimes::new(),
+            times: LegTimes::NONE,
         }
     }
 
     /// The reply of a leg came at this time.
+    #[inline(always)]
     pub(crate) fn add_carried(&mut self, now: u64, sent: &SentLeg)
         ensures { self.new ≡ leg_carried now sent.now self.old }
     {
         self.carried = one_more(self.carried);
-        self.times.add(now.saturating_sub(sent.sent_at));
+        self.times.add_leg(now.saturating_sub(sent.sent_at));
     }
 
     /// A leg went, and at this time no reply can come any more that answers it.
@@ -78,7 +48,7 @@ impl LinkCounts {
         ensures { self.new ≡ leg_lost now sent.now self.old }
     {
         self.lost = one_more(self.lost);
-        self.times.add(now.saturating_sub(sent.sent_at));
+        self.times.add_leg(now.saturating_sub(sent.sent_at));
     }
 
     /// A leg couldn't go.

@@ -5,6 +5,7 @@ mod cache;
 mod client;
 mod counting_cache;
 mod counts;
+mod no_reading;
 mod node_loop;
 mod serving;
 

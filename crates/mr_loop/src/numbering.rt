@@ -9,6 +9,7 @@ use mr_proxy::LegSheet;
 use mr_text::Key;
 
 /// How many nodes the pools before the pool of a number have.
+#[inline(always)]
 fn nodes_before(routing: &Routing, number: usize) -> usize
     ensures count { result ≡ nodes_before routing.now.pools number }
     ensures few { result ≤ 8192 }
@@ -31,6 +32,7 @@ pub(crate) fn nodes_of(routing: &Routing) -> usize
 }
 
 /// The number of the link that a leg goes over.
+#[inline(always)]
 pub(crate) fn link_of(routing: &Routing, sheet: &LegSheet) -> usize
     ensures { result ≡ link_of routing.now sheet.now }
 {

@@ -62,6 +62,7 @@ impl OutBuffer {
     }
 
     /// What waits.
+    #[inline(always)]
     pub fn as_slice(&self) -> &[u8]
         ensures { result.now ≡ self.now }
     {
@@ -69,6 +70,7 @@ impl OutBuffer {
     }
 
     /// How many bytes wait.
+    #[inline(always)]
     pub fn len(&self) -> usize
         ensures { result ≡ length self.now }
     {
@@ -76,6 +78,7 @@ impl OutBuffer {
     }
 
     /// So many bytes were written.
+    #[inline(always)]
     pub(crate) fn advance(&mut self, count: usize)
         requires { count ≤ length self.old }
         ensures { self.new ≡ drop count self.old }
@@ -100,6 +103,7 @@ impl OutBuffer {
     }
 
     /// Nothing waits any more.
+    #[inline(always)]
     pub(crate) fn clear(&mut self)
         ensures { self.new ≡ [] }
     {
@@ -122,6 +126,7 @@ impl OutBuffer {
     }
 
     /// Puts the request for a command behind what waits. For want of memory nothing changes.
+    #[inline(always)]
     pub(crate) fn put_command(
         &mut self,
         command: &NodeCommand,
@@ -139,6 +144,7 @@ impl OutBuffer {
     }
 
     /// Puts the text of an answer behind what waits. For want of memory nothing changes.
+    #[inline(always)]
     pub(crate) fn put_answer(
         &mut self,
         answer: &Answer,
@@ -156,6 +162,7 @@ impl OutBuffer {
     }
 
     /// Puts the text of a reply behind what waits. For want of memory nothing changes.
+    #[inline(always)]
     pub(crate) fn put_reply(
         &mut self,
         reply: &Reply,

@@ -32,6 +32,7 @@ impl OutSink {
 impl Sink for OutSink {
     ghost told = { λ s. record { written = s.bytes.items; handed = s.handed; calls = s.calls; failures = s.failures; last_failed = s.last_failed; contents = None } };
 
+    #[inline(always)]
     fn write_all(&mut self, bytes: &[u8]) -> Result<(), WriteFault> {
         self.calls.add_one();
         self.handed.extend(bytes);

@@ -4,18 +4,20 @@ ghost use Rattle.mr_loop.specs.Events.{after_all};
 ghost use Rattle.mr_loop.specs.Counts.{no_link_counts};
 ghost use Rattle.mr_loop.specs.Links.{is_up_at, down_link};
 ghost use Rattle.mr_loop.specs.LoopView.{LinkBytes, LinkBreaks, LinkWrote, LinkComesUp, LinkDialed, ClientBytes, ClientEnds, ClientRead, fresh_loop, client_flushed, refreshed, after_coming, after_leaving, told_counts, with_place, after_tick, output_in, is_idle_in, is_waiting_in, link_output_in, link_counts_in, is_done_in, asker_of, IsAsked};
+ghost use Rattle.mr_loop.specs.NoReading.{ClientBytesDenied, ClientEndDenied};
 ghost use Rattle.mr_loop.specs.Ticking.{ticked, ticks, given_up_at};
 
 use crate::asker::{Asker, Limits};
 use crate::asking::{Pause, ask_on};
-use crate::counts::{ClientCounts, LoopCounts};
+use crate::counts::LoopCounts;
+use crate::denying::deny_on;
 use crate::front::Front;
 use crate::inbox::Inbox;
 use crate::link::{Link, LinkEnd};
 use crate::link_counts::LinkCounts;
 use crate::numbering::nodes_of;
 use crate::sending::{Scratch, is_up};
-use mr_counting::ProxyCounts;
+use mr_counting::{ClientCounts, ProxyCounts};
 use mr_proxy::ProxyCore;
 use std::alloc::{AllocError, Global};
 use std::marker::Model;
@@ -69,7 +71,7 @@ impl ProxyLoop {
             inboxes: Vec::new(alloc),
             links,
             limits,
-            client_counts: ClientCounts::new(),
+            client_counts: ClientCounts::NONE,
             scratch,
         })
     }
@@ -224,6 +226,44 @@ impl ProxyLoop {
             inbox,
             &mut self.client_counts,
             asker,
+        )
+    }
+
+    /// Bytes of a client came while the clock gives no reading. No request of it is begun: of each that is whole it is told so in
+    /// its turn, as far as it may be; the rest is kept, and the answer says what it needs, as that of `on_client_bytes` does. For
+    /// want of memory for the bytes nothing changes.
+    pub fn deny_client_bytes(&mut self, client: usize, piece: &[u8]) -> Result<Pause, AllocError>
+        requires { client < length self.old.front.clients }
+        ensures denied { IfOk result (λ pause. ClientBytesDenied client piece.now self.old pause self.new) }
+        ensures unchanged { OnErr result (self.new ≡ self.old) }
+    {
+        let inbox = &mut self.inboxes[client];
+        match inbox.feed(piece) {
+            Ok(()) => Ok(deny_on(
+                &mut self.front,
+                inbox,
+                &mut self.client_counts,
+                self.limits,
+                client,
+            )),
+            Err(error) => Err(error),
+        }
+    }
+
+    /// A client sends no more, while the clock gives no reading. Of what is whole of what it sent it is told, as by
+    /// `deny_client_bytes`.
+    pub fn deny_client_ended(&mut self, client: usize) -> Pause
+        requires { client < length self.old.front.clients }
+        ensures { ClientEndDenied client self.old result self.new }
+    {
+        let inbox = &mut self.inboxes[client];
+        inbox.end();
+        deny_on(
+            &mut self.front,
+            inbox,
+            &mut self.client_counts,
+            self.limits,
+            client,
         )
     }
 

@@ -43,6 +43,7 @@ impl Scratch {
 }
 
 /// Whether there is a connection to the node of a number.
+#[inline(always)]
 pub(crate) fn is_up(links: &[Link], number: usize) -> bool
     ensures { result ≡ is_up_at links.now number }
 {
@@ -50,6 +51,7 @@ pub(crate) fn is_up(links: &[Link], number: usize) -> bool
 }
 
 /// The mark of a link as it stands.
+#[inline(always)]
 fn mark_of(link: &Link, number: usize) -> Mark
     ensures { result ≡ mark_of number link.now }
 {
@@ -62,6 +64,7 @@ fn mark_of(link: &Link, number: usize) -> Mark
 
 /// A leg goes over the link of a number, where that is up; else it is lost. Whether it went. For want of memory nothing
 /// changes.
+#[inline(always)]
 fn send_leg(
     links: &mut [Link],
     number: usize,
@@ -102,27 +105,29 @@ fn take_all_back(links: &mut [Link], scratch: &mut Scratch)
 }
 
 /// Whether both hold.
+#[inline(always)]
 fn both(one: bool, other: bool) -> bool
     ensures { result ≡ one && other }
 {
     one && other
 }
 
-/// Each leg goes over its link, if that is up. Whether all are. For want of memory none goes.
+/// Each leg goes out of the list and over its link, if that is up. Whether all are. For want of memory none goes.
 pub(crate) fn send_all(
     links: &mut [Link],
     scratch: &mut Scratch,
     routing: &Routing,
     asker: Asker,
-    legs: Vec<Leg>,
+    legs: &mut Vec<Leg>,
 ) -> Result<bool, AllocError>
-    ensures up { IfOk result (λ all. all ≡ all_up routing.now legs.items links.old) }
-    ensures sent { OnOk result (links.new ≡ all_sent asker routing.now legs.items links.old) }
+    ensures up { IfOk result (λ all. all ≡ all_up routing.now legs.old.items links.old) }
+    ensures sent { OnOk result (links.new ≡ all_sent asker routing.now legs.old.items links.old) }
     ensures unchanged { OnErr result (links.new ≡ links.old) }
 {
     scratch.marks.clear();
+    legs.reverse();
     let mut all = true;
-    for leg in legs {
+    while let Some(leg) = legs.pop() {
         let number = link_of(routing, leg.sheet());
         let sent = SentLeg {
             client: asker.client,

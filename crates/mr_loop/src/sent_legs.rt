@@ -44,6 +44,7 @@ impl SentLegs {
     }
 
     /// How many replies are awaited.
+    #[inline(always)]
     pub fn len(&self) -> usize
         ensures { result ≡ length self.now }
     {
@@ -51,6 +52,7 @@ impl SentLegs {
     }
 
     /// Lends the leg that the next reply is of.
+    #[inline(always)]
     pub fn first(&self) -> Option<&SentLeg>
         ensures { option_copied result ≡ slice_get self.now 0 }
     {
@@ -58,6 +60,7 @@ impl SentLegs {
     }
 
     /// One more leg behind the others. For want of memory nothing changes.
+    #[inline(always)]
     pub(crate) fn push(&mut self, sent: SentLeg) -> Result<(), AllocError>
         ensures pushed { OnOk result (self.new ≡ self.old ++ sent ∷ []) }
         ensures unchanged { OnErr result (self.new ≡ self.old) }
@@ -74,6 +77,7 @@ impl SentLegs {
     }
 
     /// Takes the leg out that the next reply is of.
+    #[inline(always)]
     pub(crate) fn pop(&mut self) -> Option<SentLeg>
         ensures { MatchOption result ((self.old ≡ []) × (self.new ≡ [])) (λ sent. self.old ≡ sent ∷ self.new) }
     {

@@ -26,6 +26,7 @@ impl Turn {
     ghost use Rattle.mr_loop.specs.Held.{held_by_turn};
 
     /// Whether it is that of the request of this name, which is under way.
+    #[inline(always)]
     fn is_of(&self, op: OpId) -> bool
         ensures { result ≡ is_turn_of op self.now }
     {
@@ -37,6 +38,7 @@ impl Turn {
     }
 
     /// How many bytes of its answer are there.
+    #[inline(always)]
     fn held(&self) -> u64
         ensures { result ≡ held_by_turn self.now }
     {
@@ -97,6 +99,7 @@ impl Turns {
     }
 
     /// How many requests wait.
+    #[inline(always)]
     pub fn len(&self) -> usize
         ensures { result ≡ length self.now }
     {
@@ -104,6 +107,7 @@ impl Turns {
     }
 
     /// How many bytes of answers are there.
+    #[inline(always)]
     pub fn held(&self) -> u128
         ensures held { result ≡ sum_by held_by_turn self.now }
         ensures small { result ≤ (2 ^ 64 - 1) * (2 ^ 64 - 1) }
@@ -113,6 +117,7 @@ impl Turns {
     }
 
     /// One more request. For want of memory nothing changes.
+    #[inline(always)]
     pub(crate) fn push(&mut self, turn: Turn) -> Result<(), AllocError>
         ensures pushed { OnOk result (self.new ≡ self.old ++ turn ∷ []) }
         ensures unchanged { OnErr result (self.new ≡ self.old) }
@@ -149,6 +154,7 @@ impl Turns {
     }
 
     /// Where the turn of the request of this name stands.
+    #[inline(always)]
     fn find(&self, op: OpId) -> Option<usize>
         ensures { result ≡ position (is_turn_of op) self.now }
     {
@@ -156,6 +162,7 @@ impl Turns {
     }
 
     /// Another turn stands at a place.
+    #[inline(always)]
     fn set(&mut self, at: usize, turn: Turn)
         requires { at < length self.old }
         ensures { self.new ≡ slice_set self.old at turn }
@@ -169,6 +176,7 @@ impl Turns {
     }
 
     /// Notes an answer at the turn of its request.
+    #[inline(always)]
     pub(crate) fn note(&mut self, answer: Answer)
         ensures { self.new ≡ noted answer self.old }
     {
@@ -178,6 +186,7 @@ impl Turns {
     }
 
     /// Lends the first request.
+    #[inline(always)]
     pub fn front(&self) -> Option<&Turn>
         ensures { option_copied result ≡ slice_get self.now 0 }
     {
@@ -185,11 +194,12 @@ impl Turns {
     }
 
     /// The first request leaves.
-    pub(crate) fn pop(&mut self)
+    #[inline(always)]
+    pub(crate) fn pop(&mut self) -> Option<Turn>
         ensures { self.new ≡ drop 1 self.old }
     {
-        if let Some(turn) = self.queue.pop_front() {
-            self.held -= u128::from(turn.held());
-        }
+        let turn = self.queue.pop_front()?;
+        self.held -= u128::from(turn.held());
+        Some(turn)
     }
 }

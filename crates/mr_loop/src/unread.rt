@@ -9,6 +9,7 @@ use mr_proxy::{Answer, Slot};
 const BESIDE: u64 = 29;
 
 /// What a leg adds to the text of its request's answer: where its key was found, its item, as long as it may be.
+#[inline(always)]
 fn held_by_slot(slot: &Slot) -> u64
     ensures { result ≡ held_by_slot slot.now }
 {

@@ -3,10 +3,9 @@ use Rattle.std.proofs.Common.{◌≡◌, ◌∙◌, ℕ, List, [], ◌∷◌, �
 use Rattle.std.specs.Option.{option_to_list}
 use Rattle.std.proofs.lemmas.List.{append-nil}
 use Rattle.mr_text.specs.Key.{HasKey}
-use Rattle.mr_text.specs.declared.cause.Cause.{Cause}
 use Rattle.mr_text.specs.declared.cause.Cause.TheVariants.{OutOfMemory}
 use Rattle.mr_text.specs.declared.item.Item.{Item}
-use Rattle.mr_node.specs.Outcome.{Did, Refused, Gets, LooksUp, FailsToLookUp, StopsAtKey}
+use Rattle.mr_node.specs.Outcome.{Did, Refused, Gets, LooksUp, StopsAtKey}
 
 -- nothing is performed where memory is lacking from the start
 pub stops_at_once : {P : Type 0} (did : Did P) (refused : Refused P)
@@ -21,22 +20,6 @@ stops_at_once did refused old now (key ∷ later) some = record {
   splits = refl;
   gets = Gets.begins;
   fails = inr (refl, inl refl);
-}
-
--- the next key fails
-pub stops_next : {P : Type 0} (did : Did P) (refused : Refused P)
-    (old between new : P) (now : ℕ) (keys done later : List (List ℕ)) (key : List ℕ) (found : List Item) (cause : Cause)
-    → keys ≡ done ++ (key ∷ later) → Gets did now old done found between → FailsToLookUp did refused between now key cause new
-    → StopsAtKey did refused old now keys cause new
-stops_next did refused old between new now keys done later key found cause splits gets fails = record {
-  done = done;
-  key = key;
-  later = later;
-  found = found;
-  between = between;
-  splits = splits;
-  gets = gets;
-  fails = fails;
 }
 
 pub gets_nothing : {P : Type 0} (did : Did P) (now : ℕ) (old : P) (items : List Item)

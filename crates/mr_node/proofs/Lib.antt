@@ -6,6 +6,5 @@ pub mod StepLemmas
 pub mod ReadLemmas
 pub mod SessionLemmas
 pub mod CountLemmas
-pub mod FaultLemmas
 pub mod ServiceLemmas
 pub mod GetLemmas

@@ -17,7 +17,7 @@ use Rattle.mr_node.specs.declared.session.SessionFault.TheVariants.{OutOfMemory,
 use Rattle.mr_node.specs.declared.session.SessionStep.{SessionStep}
 use Rattle.mr_node.specs.declared.session.SessionStep.TheVariants.{Served, Waits, Ends}
 use Rattle.mr_node.specs.Output.{Exchange, ReadsExchanges, SpellsExchange, answer_to, output_of, text_of_answer, text_of_exchange}
-use Rattle.mr_node.specs.Session.{Station, Answers, StopsAnswering, Performs, DoesExchange, HasNoBuffer, StopsForMemory, ServesInTurn, SessionServes, SessionIs, PieceIs, LastWriteFailed, NoWriteFailed}
+use Rattle.mr_node.specs.Session.{Station, Answers, Performs, DoesExchange, ServesInTurn, SessionServes, SessionIs, PieceIs}
 use Rattle.mr_node.specs.steps.Step.{StepIs}
 use Rattle.mr_node.specs.Outcome.{Outcomes}
 
@@ -25,13 +25,6 @@ use Rattle.mr_node.specs.Outcome.{Outcomes}
 answered : (answer : Option Reply) (old new : SinkView) → Answers answer old new → HasWritten (text_of_answer answer) old new
 answered None old new is = subst (λ (w : SinkView). HasWritten [] old w) (sym is) (written_none old)
 answered (Some reply) old new is = is.0
-
-answered_well : (answer : Option Reply) (old new : SinkView) → Answers answer old new → new.failures ≡ old.failures
-answered_well answer old new is = (answered answer old new is).steady
-
-stopped : (answer : Option Reply) (old new : SinkView) → StopsAnswering answer old new → (new.failures ≡ old.failures + 1) × (new.last_failed ≡ true)
-stopped None old new is = absurd is
-stopped (Some reply) old new is = (is.0.failed, is.0.last)
 
 module _ {C P : Type 0} (Does : Outcomes C P) (reader : SourceView) (old : Station C P) where
   serves_nothing : SessionServes Does reader reader old old []
@@ -110,10 +103,6 @@ module _ {C P : Type 0} (Does : Outcomes C P) (reader : SourceView) (old : Stati
     serves = so;
     came = omega (arith, ap (λ (l : List ℕ). length l) so.takes, length-append reader.taken (so.bytes ++ rest), length-append so.bytes rest);
   })
-
-  -- there was no memory for the buffer
-  pub no_buffer : SessionIs Does reader reader old old (Err OutOfMemory)
-  no_buffer = inl (record { unread = refl; idle = refl })
 
   -- a service under way
   pub record UnderWay (reader' : SourceView) (now : Station C P) (requests : ReaderView) (ended : Bool) : Type 0 where
@@ -228,29 +217,6 @@ module _ {C P : Type 0} (Does : Outcomes C P) (reader : SourceView) (old : Stati
         (stops_for_memory reader'' new (so.rest ++ lacks.1.0)
         (let some = lacks.1.4 in omega (arith, length-append so.rest lacks.1.0))
         (serves_fed reader' reader'' new so.rest lacks.1.0 (waits step) step.1 once lacks.1.1 lacks.1.2))
-
-  -- the writer failed once where a fault of it ends the service, and the call that failed was the last
-  pub write_fails : (reader' : SourceView) (new : Station C P) (result : Result Ended SessionFault) → SessionIs Does reader reader' old new result
-      → result ≡ Err WriteFault → LastWriteFailed old.writer new.writer
-  write_fails reader' new result is fault = failed (subst (SessionIs Does reader reader' old new) fault is)
-    where
-      failed : SessionIs Does reader reader' old new (Err WriteFault) → LastWriteFailed old.writer new.writer
-      failed (rest, between, so, inl next) =
-          let stop = stopped (answer_to next.0) between.writer new.writer next.6 in
-          (stop.0 ∙ ap (λ n. n + 1) so.writes.steady, stop.1)
-      failed (rest, between, so, inr next) =
-          let stop = stopped _ between.writer new.writer next.5 in
-          (stop.0 ∙ ap (λ n. n + 1) so.writes.steady, stop.1)
-
-  -- the writer failed nowhere else
-  pub writes_well : (reader' : SourceView) (new : Station C P) (result : Result Ended SessionFault) → SessionIs Does reader reader' old new result
-      → result ≢ Err WriteFault → NoWriteFailed old.writer new.writer
-  writes_well reader' new (Ok _) is other = answered_well is.1 is.2.writer new.writer is.7 ∙ is.3.writes.steady
-  writes_well reader' new (Err OutOfMemory) (inl none) other = ap (λ (s : Station C P). s.writer.failures) none.idle
-  writes_well reader' new (Err OutOfMemory) (inr stop) other = stop.serves.writes.steady
-  writes_well reader' new (Err ReadFault) is other = is.1.writes.steady
-  writes_well reader' new (Err WriteFault) is other = absurd (other refl)
-  writes_well reader' new (Err TurnsSpent) is other = is.1.writes.steady
 
 -- a read that fails is a fault of the reader where it says so
 pub reader_fails : (room : ℕ) (rest : List ℕ) (requests : ReaderView) (old new : SourceView) (e : SessionFault)

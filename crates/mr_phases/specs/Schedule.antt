@@ -75,16 +75,6 @@ start_at hops number = start_in (slice_get hops number)
 abbrev pub interval_at : List Hop → ℕ → ℕ
 interval_at hops number = interval_in (slice_get hops number)
 
--- the start of the first hop, or 0 without one
-abbrev pub first_start : List Hop → ℕ
-first_start [] = 0
-first_start (h ∷ hs) = h.start
-
--- the interval of the first hop, or 0 without one
-abbrev pub first_interval : List Hop → ℕ
-first_interval [] = 0
-first_interval (h ∷ hs) = h.interval
-
 -- the least interval of this hop and those behind it
 abbrev pub least_from : Hop → List Hop → ℕ
 least_from h [] = h.interval

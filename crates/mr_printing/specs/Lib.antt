@@ -1,4 +1,5 @@
 pub mod CheckText
+pub mod Drawing
 pub mod ExplainText
 pub mod HopText
 pub mod PlanText

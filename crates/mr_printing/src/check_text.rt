@@ -23,7 +23,7 @@ fn push_premise(text: &mut Vec<u8>, name: &[u8], holds: bool) -> Result<(), Allo
 }
 
 /// Adds the line of the premises.
-fn push_premises_line(text: &mut Vec<u8>, premises: Premises) -> Result<(), AllocError>
+pub(crate) fn push_premises_line(text: &mut Vec<u8>, premises: Premises) -> Result<(), AllocError>
     ensures { OnOk result (text.new.items ≡ text.old.items ++ premises_line premises) }
 {
     push_premise(text, b"premises same ", premises.same)?;
@@ -69,7 +69,7 @@ fn push_invented_line(text: &mut Vec<u8>, get: OpId) -> Result<(), AllocError>
 }
 
 /// Adds the line of the verdict.
-fn push_verdict_line(text: &mut Vec<u8>, verdict: &KeptVerdict) -> Result<(), AllocError>
+pub(crate) fn push_verdict_line(text: &mut Vec<u8>, verdict: &KeptVerdict) -> Result<(), AllocError>
     ensures { OnOk result (text.new.items ≡ text.old.items ++ verdict_line verdict.now) }
 {
     match verdict {
@@ -90,7 +90,7 @@ fn push_refused_line(text: &mut Vec<u8>, index: usize) -> Result<(), AllocError>
 }
 
 /// Adds the line of the outcome.
-fn push_outcome_line(text: &mut Vec<u8>, outcome: Outcome) -> Result<(), AllocError>
+pub(crate) fn push_outcome_line(text: &mut Vec<u8>, outcome: Outcome) -> Result<(), AllocError>
     ensures { OnOk result (text.new.items ≡ text.old.items ++ outcome_line outcome) }
 {
     match outcome {

@@ -3,6 +3,7 @@
 #![tactic(auto)]
 
 mod check_text;
+mod drawing;
 mod explain;
 mod line;
 mod plan;
@@ -10,6 +11,7 @@ mod printing;
 mod timeline;
 
 pub use check_text::write_check;
+pub use drawing::write_drawing;
 pub use explain::write_explanation;
 pub use line::push_number;
 pub use plan::write_plan;

@@ -3,13 +3,18 @@ use Rattle.std.proofs.Common.{◌≡◌, ℕ, suc, ◌+◌, ◌<◌, ◌≤◌, 
 use Rattle.std.proofs.lemmas.List.{map-append, take_more, length-take-le}
 use Rattle.std.proofs.lemmas.List.Sums.{sum_by-cons}
 use Rattle.mr_text.specs.Key.{FitLine}
+use Rattle.mr_text.specs.declared.request.Request.{Request}
+use Rattle.mr_text.specs.declared.request.Request.TheVariants as request
 use Rattle.mr_history.specs.declared.op_id.OpId.{OpId}
+use Rattle.mr_phases.specs.Schedule.{Hop, hop_of, phase_of}
+use Rattle.mr_phases.specs.Sides.{read_side_of, sides_at}
+use Rattle.mr_phases.specs.declared.side.RequestKind.TheVariants as kind
 use Rattle.mr_phases.specs.declared.side.Side.{Side}
 use Rattle.mr_pools.specs.Routing.{RoutingView}
 use Rattle.mr_node.specs.declared.command.NodeCommand.{NodeCommand}
-use Rattle.mr_node.specs.declared.command.NodeCommand.TheVariants.{Get}
+use Rattle.mr_node.specs.declared.command.NodeCommand.TheVariants.{Get, Delete}
 use Rattle.mr_proxy.specs.declared.sheet.LegSheet.{LegSheet}
-use Rattle.mr_proxy.specs.Sheets.{Target, targets_of, sheet_at, sheets_from}
+use Rattle.mr_proxy.specs.Sheets.{Target, legs_of, targets_of, sheet_at, sheets_by, sheets_from}
 
 pub length-sheets_from : (routing : RoutingView) (hop : ℕ) (op : OpId) (place : ℕ) (targets : List Target) → length (sheets_from routing hop op place targets) ≡ length targets
 length-sheets_from routing hop op place [] = refl
@@ -91,7 +96,7 @@ get_count routing hop op side keys i now e within =
     let targets : List Target = targets_of (side ∷ []) (map Get (take i keys)) in
     ap length e ∙ length-sheets_from routing hop op 0 targets ∙ length-gets side (take i keys) ∙ length-take-le i keys (omega arith)
 
-pub get_length : (routing : RoutingView) (hop : ℕ) (op : OpId) (side : Side) (keys : List (List ℕ))
+get_length : (routing : RoutingView) (hop : ℕ) (op : OpId) (side : Side) (keys : List (List ℕ))
     → length (sheets_from routing hop op 0 (targets_of (side ∷ []) (map Get keys))) ≡ length keys
 get_length routing hop op side keys = length-sheets_from routing hop op 0 (targets_of (side ∷ []) (map Get keys)) ∙ length-gets side keys
 
@@ -106,6 +111,14 @@ delete_count routing hop op sides command i now e within =
     let targets : List Target = targets_of (take i sides) (command ∷ []) in
     ap length e ∙ length-sheets_from routing hop op 0 targets ∙ length-deletes (take i sides) command ∙ length-take-le i sides (omega arith)
 
-pub delete_length : (routing : RoutingView) (hop : ℕ) (op : OpId) (sides : List Side) (command : NodeCommand)
+delete_length : (routing : RoutingView) (hop : ℕ) (op : OpId) (sides : List Side) (command : NodeCommand)
     → length (sheets_from routing hop op 0 (targets_of sides (command ∷ []))) ≡ length sides
 delete_length routing hop op sides command = length-sheets_from routing hop op 0 (targets_of sides (command ∷ [])) ∙ length-deletes sides command
+
+-- a request has a leg for each key and each side
+pub sheets_count : (routing : RoutingView) (hops : List Hop) (op : OpId) (u : ℕ) (q : Request)
+    → length (sheets_by routing hops op u q) ≡ legs_of q (length (sides_at hops kind.Delete u))
+sheets_count routing hops op u (request.Get keys) = get_length routing (hop_of hops u) op (read_side_of (phase_of hops u)) keys
+sheets_count routing hops op u (request.Set key flags exptime block noreply) = refl
+sheets_count routing hops op u (request.Delete key noreply) = delete_length routing (hop_of hops u) op (sides_at hops kind.Delete u) (Delete key)
+sheets_count routing hops op u request.Quit = refl

@@ -1,12 +1,10 @@
 -- What a reply makes of the list of requests under way, and what becomes of the reply.
-use Rattle.std.proofs.Common.{◌≡◌, ◌∙◌, ℕ, zero, suc, Bool, true, false, List, [], ◌∷◌, get_or, remove, slice_get, slice_set, Option, Some, None, unwrap_or, if◌then◌else◌, refl, sym, ap}
+use Rattle.std.proofs.Common.{◌≡◌, ◌∙◌, ℕ, zero, suc, true, List, [], ◌∷◌, get_or, remove, slice_get, slice_set, Option, Some, None, Ok, unwrap_or, refl, sym, ap}
 use Rattle.std.specs.Option.{option_and_then}
 use Rattle.std.proofs.lemmas.Option.{slice_get_within, slice_get-get_or}
 use Rattle.std.proofs.lemmas.List.Folds.{position_or_len-set}
 use Rattle.mr_history.specs.OpIds.{is_same_op}
 use Rattle.mr_join.specs.declared.leg_reply.LegReply.{LegReply}
-use Rattle.mr_proxy.specs.declared.pending.Noted.TheVariants as noted
-use Rattle.mr_proxy.specs.declared.outstanding.Settled.TheVariants as settled
 use Rattle.mr_proxy.specs.declared.sheet.LegId.{LegId}
 use Rattle.mr_proxy.specs.Pending.{PendingView, is_complete, with_reply}
 use Rattle.mr_proxy.specs.Transitions.{place_of_op, pending_with}
@@ -56,36 +54,12 @@ written_is list id pending reply got =
     written_by list (place_of_op list id.op) pending (with_reply pending id.place reply) got
     ∙ ap (written_at list (place_of_op list id.op)) (sym (noted_is list id pending reply got))
 
-not_stranger : (t : Bool) (back : LegReply) → noted.Stranger back ≡ (if t then noted.Last else noted.Waiting) → ⊥
-not_stranger true back e = cc
-not_stranger false back e = cc
-
-same_back : (back reply : LegReply) → noted.Stranger back ≡ noted.Stranger reply → back ≡ reply
-same_back back reply e = cc
-
-pub settled_stranger : (reply back : LegReply) (w : Option PendingView) → noted.Stranger back ≡ noted_as reply w → settled.Stranger back ≡ settled_as reply w
-settled_stranger reply back None e = ap settled.Stranger (same_back back reply e)
-settled_stranger reply back (Some n) e = absurd (not_stranger (is_complete n) back e)
-
-stranger_at : (list : List PendingView) (place : ℕ) (reply back : LegReply) (w : Option PendingView) → noted.Stranger back ≡ noted_as reply w
-    → written_at list place w ≡ settled_at list place w
-stranger_at list place reply back None e = refl
-stranger_at list place reply back (Some n) e = absurd (not_stranger (is_complete n) back e)
-
-pub list_stranger : (list : List PendingView) (id : LegId) (reply back : LegReply) → noted.Stranger back ≡ noted_as reply (noted_in list id reply)
-    → list_noted list id reply ≡ list_settled list id reply
-list_stranger list id reply back e = stranger_at list (place_of_op list id.op) reply back (noted_in list id reply) e
-
-lasts : (t : Bool) → noted.Last ≡ (if t then noted.Last else noted.Waiting) → t ≡ true
-lasts true e = refl
-lasts false e = cc
-
 -- a request whose last reply came: it is found as it then is, and leaves
 pub record HasLast (list : List PendingView) (id : LegId) (reply : LegReply) : Type 0 where
   pub noted : PendingView
   pub found : pending_with (list_noted list id reply) id.op ≡ Some noted
   pub left : remove (list_noted list id reply) (place_of_op (list_noted list id reply) id.op) ≡ list_settled list id reply
-  pub settled : settled.Last noted ≡ settled_as reply (noted_in list id reply)
+  pub settled : Ok (Some noted) ≡ settled_as reply (noted_in list id reply)
 
 last_in : (list : List PendingView) (id : LegId) (reply : LegReply) (pending n : PendingView) → pending_with list id.op ≡ Some pending
     → with_reply pending id.place reply ≡ Some n → is_complete n ≡ true → HasLast list id reply
@@ -115,18 +89,18 @@ last_in list id reply pending n got is complete =
     left_by_complete : (list : List PendingView) (place : ℕ) (n : PendingView) → is_complete n ≡ true → settled_at list place (Some n) ≡ remove list place
     left_by_complete list place n e = rw e
 
-    settled_complete : (reply : LegReply) (n : PendingView) → is_complete n ≡ true → settled_as reply (Some n) ≡ settled.Last n
+    settled_complete : (reply : LegReply) (n : PendingView) → is_complete n ≡ true → settled_as reply (Some n) ≡ Ok (Some n)
     settled_complete reply n e = rw e
 
 last_noted : (list : List PendingView) (id : LegId) (reply : LegReply) (pending : PendingView) (w : Option PendingView) → pending_with list id.op ≡ Some pending
-    → with_reply pending id.place reply ≡ w → noted.Last ≡ noted_as reply w → HasLast list id reply
+    → with_reply pending id.place reply ≡ w → Ok true ≡ noted_as reply w → HasLast list id reply
 last_noted list id reply pending None got is e = cc
-last_noted list id reply pending (Some n) got is e = last_in list id reply pending n got is (lasts (is_complete n) e)
+last_noted list id reply pending (Some n) got is e = let complete : is_complete n ≡ true = cc in last_in list id reply pending n got is complete
 
 last_of : (list : List PendingView) (id : LegId) (reply : LegReply) (o : Option PendingView) → pending_with list id.op ≡ o
-    → noted.Last ≡ noted_as reply (option_and_then (λ (x : PendingView). with_reply x id.place reply) o) → HasLast list id reply
+    → Ok true ≡ noted_as reply (option_and_then (λ (x : PendingView). with_reply x id.place reply) o) → HasLast list id reply
 last_of list id reply None got e = cc
 last_of list id reply (Some pending) got e = last_noted list id reply pending (with_reply pending id.place reply) got refl e
 
-pub has_last : (list : List PendingView) (id : LegId) (reply : LegReply) → noted.Last ≡ noted_as reply (noted_in list id reply) → HasLast list id reply
+pub has_last : (list : List PendingView) (id : LegId) (reply : LegReply) → Ok true ≡ noted_as reply (noted_in list id reply) → HasLast list id reply
 has_last list id reply e = last_of list id reply (pending_with list id.op) refl e

@@ -1,5 +1,5 @@
 -- What taking a reply, giving a request up and an issue leave.
-use Rattle.std.proofs.Common.{◌≡◌, ◌≢◌, ℕ, ◌<◌, ◌≤◌, Bool, true, false, List, [], ◌∷◌, length, map, get_or, remove, slice_get, All, AllPairs, count_by, Option, Some, None, refl, sym, ap, subst, ◌∙◌, zero, suc, arith}
+use Rattle.std.proofs.Common.{◌≡◌, ◌≢◌, ℕ, ◌<◌, ◌≤◌, Bool, true, false, List, [], ◌∷◌, length, map, get_or, remove, slice_get, All, AllPairs, count_by, Option, Some, None, Result, Ok, Err, refl, sym, ap, subst, ◌∙◌, zero, suc, arith}
 use Rattle.std.specs.Option.{option_map, IfSome}
 use Rattle.std.proofs.lemmas.Option.{slice_get_within}
 use Rattle.std.proofs.lemmas.List.{length-map}
@@ -7,8 +7,6 @@ use Rattle.mr_text.specs.declared.request.Request.{Request}
 use Rattle.mr_text.specs.declared.request.Request.TheVariants as request
 use Rattle.mr_history.specs.declared.op_id.OpId.{OpId}
 use Rattle.mr_join.specs.declared.leg_reply.LegReply.{LegReply}
-use Rattle.mr_proxy.specs.declared.outstanding.Settled.{Settled}
-use Rattle.mr_proxy.specs.declared.outstanding.Settled.TheVariants as settled
 use Rattle.mr_proxy.specs.declared.sheet.LegId.{LegId}
 use Rattle.mr_proxy.specs.declared.sheet.LegSheet.{LegSheet}
 use Rattle.mr_proxy.specs.declared.slot.Slot.{Slot}
@@ -51,10 +49,10 @@ pub taken_sound : (p : ProxyView) (id : LegId) (reply : LegReply) → IsSound p 
 taken_sound p id reply s = subst IsSound (sym (taken_list p id reply)) (steps_keep_sound_lem p (after_take p id reply) s (takes id reply))
 
 -- what a proxy says of what became of a reply
-abbrev pub taken_as : Settled → Taken
-taken_as (settled.Stranger reply) = taken.Stranger reply
-taken_as settled.Waiting = taken.Waiting
-taken_as (settled.Last pending) = taken.Answered (answer_of pending false)
+abbrev pub taken_as : Result (Option PendingView) LegReply → Taken
+taken_as (Err reply) = taken.Stranger reply
+taken_as (Ok None) = taken.Waiting
+taken_as (Ok (Some pending)) = taken.Answered (answer_of pending false)
 
 as_taken_by : (reply : LegReply) (n : PendingView) (t : Bool) → is_complete n ≡ t → taken_as (settled_as reply (Some n)) ≡ taken_by reply (Some n)
 as_taken_by reply n true e = rw e refl
@@ -64,14 +62,14 @@ as_taken : (reply : LegReply) (w : Option PendingView) → taken_as (settled_as 
 as_taken reply None = refl
 as_taken reply (Some n) = as_taken_by reply n (is_complete n) refl
 
-pub became : (p : ProxyView) (id : LegId) (reply : LegReply) (what : Settled) → what ≡ settled_as reply (noted_by p id reply) → taken_as what ≡ taken_of p id reply
+pub became : (p : ProxyView) (id : LegId) (reply : LegReply) (what : Result (Option PendingView) LegReply) → what ≡ settled_as reply (noted_by p id reply) → taken_as what ≡ taken_of p id reply
 became p id reply what is = ap taken_as is ∙ as_taken reply (noted_by p id reply)
 
 -- the answer to a request whose last reply came
 pub last_answers : (p : ProxyView) (id : LegId) (reply : LegReply) (pending : PendingView) → IsSound p
-    → settled.Last pending ≡ settled_as reply (noted_by p id reply) → IsSoundAnswer p (answer_of pending false)
+    → Ok (Some pending) ≡ settled_as reply (noted_by p id reply) → IsSoundAnswer p (answer_of pending false)
 last_answers p id reply pending s is =
-    last_reply_answers_lem p id reply (answer_of pending false) s (sym (became p id reply (settled.Last pending) is))
+    last_reply_answers_lem p id reply (answer_of pending false) s (sym (became p id reply (Ok (Some pending)) is))
 
 -- a proxy once a request is given up, and its answer
 pub record HasGivenUp (p : ProxyView) (op : OpId) (list : List PendingView) (out : PendingView) : Type 0 where

@@ -1,4 +1,5 @@
 pub mod ProxyError
+pub mod WorldError
 pub mod Slots
 pub mod Pending
 pub mod Answer

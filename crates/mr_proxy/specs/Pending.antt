@@ -1,11 +1,11 @@
 -- A request that is under way.
-use Rattle.std.specs.Prelude.{ℕ, Bool, not, List, Option, Some, None, map, slice_get, slice_set, if◌then◌else◌}
+use Rattle.std.specs.Prelude.{ℕ, Bool, not, List, Option, Some, None, slice_get, slice_set, if◌then◌else◌}
 use Rattle.std.specs.List.{list_any}
 use Rattle.mr_text.specs.declared.request.Request.{Request}
 use Rattle.mr_history.specs.declared.op_id.OpId.{OpId}
 use Rattle.mr_join.specs.declared.leg_reply.LegReply.{LegReply}
 use Rattle.mr_proxy.specs.declared.slot.Slot.{Slot}
-use Rattle.mr_proxy.specs.Slots.{is_open, is_awaiting, reply_of_slot}
+use Rattle.mr_proxy.specs.Slots.{is_open, is_awaiting}
 
 -- the request with the reading by which it was judged, and its legs in order of place
 pub record PendingView : Type 0 where
@@ -17,10 +17,6 @@ pub record PendingView : Type 0 where
 -- no leg is left that may answer yet
 abbrev pub is_complete : PendingView → Bool
 is_complete pending = not (list_any is_open pending.slots)
-
--- what each leg came to
-abbrev pub outcomes_of : PendingView → List LegReply
-outcomes_of pending = map reply_of_slot pending.slots
 
 -- the request with this reply noted for this leg, where there is one and it awaits the reply
 abbrev pub with_reply_in : PendingView → ℕ → LegReply → Option Slot → Option PendingView

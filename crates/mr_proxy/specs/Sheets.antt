@@ -59,6 +59,13 @@ commands_of (request.Set key flags exptime block noreply) = Set key flags exptim
 commands_of (request.Delete key noreply) = Delete key ∷ []
 commands_of request.Quit = []
 
+-- how many legs a request has, of which a delete goes to so many sides
+abbrev pub legs_of : Request → ℕ → ℕ
+legs_of (request.Get keys) sides = length keys
+legs_of (request.Set key flags exptime block noreply) sides = 1
+legs_of (request.Delete key noreply) sides = sides
+legs_of request.Quit sides = 0
+
 -- a command, and the side that is told it
 pub record Target : Type 0 where
   pub side : Side

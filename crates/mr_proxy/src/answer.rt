@@ -9,7 +9,7 @@ use crate::pending::Pending;
 use crate::slot::Slot;
 use crate::writing::write_joined;
 use mr_history::OpId;
-use mr_text::{FixedBuffer, Reply, Request, Sink, WriteFault};
+use mr_text::{FixedBuffer, Item, Reply, Request, Sink, WriteFault};
 use std::alloc::AllocError;
 use std::marker::Model;
 
@@ -37,6 +37,7 @@ impl Answer {
     ghost use Rattle.mr_proxy.specs.Whole.{IsWholeAnswer};
 
     /// The answer to a request as it stands.
+    #[inline(always)]
     pub(crate) fn of(pending: Pending, given_up: bool) -> Answer
         requires { IsWholeAnswer (answer_of pending given_up) }
         ensures { result ≡ answer_of pending given_up }
@@ -45,6 +46,7 @@ impl Answer {
     }
 
     /// The request's name.
+    #[inline(always)]
     pub fn op(&self) -> OpId
         ensures { result ≡ self.now.op }
     {
@@ -52,6 +54,7 @@ impl Answer {
     }
 
     /// The request.
+    #[inline(always)]
     pub fn request(&self) -> &Request
         ensures { result.now ≡ self.now.request }
     {
@@ -59,6 +62,7 @@ impl Answer {
     }
 
     /// The reading by which the request was judged, in seconds since the epoch.
+    #[inline(always)]
     pub fn reading(&self) -> u64
         ensures { result ≡ self.now.reading }
     {
@@ -67,6 +71,7 @@ impl Answer {
 
     /// The legs in order of place, each with its reply. A leg without one counts as lost. An answer has a leg, its
     /// legs are those of its request, each reply is of its leg's kind, and it was given up where a leg is silent.
+    #[inline(always)]
     pub fn slots(&self) -> &[Slot]
         ensures slots { result.now ≡ self.now.slots }
         ensures whole { IsWholeAnswer self.now }
@@ -94,6 +99,7 @@ impl Answer {
 
     /// Writes what the client is told, as `write` does, through a buffer that is lent to it. What stands in that before is
     /// forgotten.
+    #[inline(always)]
     pub fn send<W: Sink>(&self, buffer: &mut FixedBuffer, writer: &mut W) -> Result<(), WriteFault>
         ensures text { Writes (canonical_reply (reply_of self.now)) (W.told writer.old) result (W.told writer.new) }
         ensures calls { TakesFewCalls (canonical_reply (reply_of self.now))
@@ -108,6 +114,13 @@ impl Answer {
     {
         let (request, slots, items) = self.pending.into_parts();
         join_replies(request, slots, items)
+    }
+
+    /// The lists of an answer that isn't needed any more.
+    pub(crate) fn into_lists(self) -> (Vec<Slot>, Vec<Item>) {
+        let (request, slots, items) = self.pending.into_parts();
+        drop(request);
+        (slots, items)
     }
 
     /// Whether the other answer is equal. It takes no memory.

@@ -15,6 +15,7 @@ use mr_text::{
 /// Writes the request of a command, which wants an answer, as `mr_text` writes requests: gathered in the buffer, in which what
 /// stood before is forgotten. The command isn't copied. At a fault a beginning of the request is written, and the call that
 /// failed is the last.
+#[inline(always)]
 pub fn write_command<W: Sink>(
     command: &NodeCommand,
     buffer: &mut FixedBuffer,
@@ -36,6 +37,7 @@ pub fn write_command<W: Sink>(
 }
 
 /// What a node's reply says of the command's leg. None where it is no answer to the command.
+#[inline(always)]
 pub fn leg_reply_of(command: &NodeCommand, reply: Reply) -> Option<LegReply>
     ensures { MatchOption result ((said : LegReply) → ¬ IsAnswer command.now reply said) (IsAnswer command.now reply) }
 {
@@ -52,6 +54,7 @@ pub fn leg_reply_of(command: &NodeCommand, reply: Reply) -> Option<LegReply>
 }
 
 /// What the items of a reply say of a get of one key: a miss where there are none, a hit where there is one of that key.
+#[inline(always)]
 fn reply_to_get(key: &Key, items: ItemList) -> Option<LegReply>
     ensures { MatchOption result ((said : LegReply) → ¬ FindsItemOf key.now items said) (FindsItemOf key.now items) }
 {

@@ -10,6 +10,7 @@ use mr_join::LegReply;
 use mr_text::{Cause, Item, ItemList, Key, Reply, Request};
 
 /// The place of the leg that came to the worst: of those that are as bad, the first.
+#[inline(always)]
 pub(crate) fn place_of_worst(slots: &[Slot]) -> usize
     requires { 1 ≤ length slots.now }
     ensures within { result < length slots.now }

@@ -21,6 +21,7 @@ impl Model for Leg {
 
 impl Leg {
     /// A leg of this sheet.
+    #[inline(always)]
     pub(crate) fn of(sheet: LegSheet) -> Leg
         ensures { result ≡ sheet }
     {
@@ -28,6 +29,7 @@ impl Leg {
     }
 
     /// Looks at what is sent.
+    #[inline(always)]
     pub fn sheet(&self) -> &LegSheet
         ensures { result.now ≡ self.now }
     {

@@ -8,6 +8,8 @@ ghost use Rattle.mr_phases.specs.Schedule.{hop_of};
 ghost use Rattle.mr_proxy.specs.Sheets.{sheet_at, sheets_from, sheets_by, targets_of, HasHop, HaveAsManyHops};
 
 use crate::leg::Leg;
+use crate::leg_count::legs_of;
+use crate::lists::Lists;
 use crate::sheet::{LegId, LegSheet};
 use crate::slot::Slot;
 use mr_history::OpId;
@@ -15,10 +17,11 @@ use mr_node::NodeCommand;
 use mr_phases::{RequestKind, Schedule, Side, judge};
 use mr_pools::Routing;
 use mr_text::{Block, Key, Request};
-use std::alloc::{AllocError, Global};
+use std::alloc::AllocError;
 use std::marker::Model;
 
 /// What the node is told for a set.
+#[inline(always)]
 fn set_command(
     key: &Key,
     flags: u32,
@@ -57,16 +60,21 @@ impl Model for LegsDraft {
 
 impl LegsDraft {
     /// No legs yet, and room for so many.
-    fn new(alloc: Global, legs: usize) -> Result<LegsDraft, AllocError>
+    #[inline(always)]
+    fn new(lists: &mut Lists, count: usize) -> Result<LegsDraft, AllocError>
         ensures { IfOk result (λ draft. draft ≡ []) }
     {
-        Ok(LegsDraft {
-            slots: Vec::with_capacity(alloc, legs)?,
-            legs: Vec::with_capacity(alloc, legs)?,
-        })
+        let mut slots = lists.take_slots();
+        let mut legs = lists.take_legs();
+        slots.clear();
+        legs.clear();
+        slots.reserve_exact(count)?;
+        legs.reserve_exact(count)?;
+        Ok(LegsDraft { slots, legs })
     }
 
     /// Adds the next leg. The slot's sheet and the leg's are two, since the leg travels.
+    #[inline(always)]
     fn add(
         &mut self,
         routing: &Routing,
@@ -90,61 +98,62 @@ impl LegsDraft {
         Ok(())
     }
 
-    /// A get's legs: one for each key.
+    /// A get's legs, in an empty draft: one for each key.
     #[tactic(auto, using(crate::proofs::DraftLemmas::get_count))]
     fn of_gets(
-        alloc: Global,
+        mut draft: LegsDraft,
         routing: &Routing,
         hop: u32,
         op: OpId,
         side: Side,
         keys: &[Key],
     ) -> Result<LegsDraft, AllocError>
+        requires empty { draft ≡ [] }
         requires room { length keys.now < 2 ^ 32 }
         requires hop { HasHop routing.now hop }
         ensures { IfOk result
             (λ draft. draft ≡ sheets_from routing.now hop op 0 (targets_of (side ∷ []) (map Get keys.now))) }
     {
-        let mut draft = LegsDraft::new(alloc, keys.len())?;
         for key in keys {
             draft.add(routing, hop, op, side, NodeCommand::Get(key.copy()?))?;
         }
         Ok(draft)
     }
 
-    /// The one leg of a command that goes to one side.
+    /// The one leg of a command that goes to one side, in an empty draft.
+    #[inline(always)]
     fn of_one(
-        alloc: Global,
+        mut draft: LegsDraft,
         routing: &Routing,
         hop: u32,
         op: OpId,
         side: Side,
         command: NodeCommand,
     ) -> Result<LegsDraft, AllocError>
-        requires { HasHop routing.now hop }
+        requires empty { draft ≡ [] }
+        requires hop { HasHop routing.now hop }
         ensures { IfOk result (λ draft. draft ≡ sheets_from routing.now hop op 0 (targets_of (side ∷ []) (command ∷ []))) }
     {
-        let mut draft = LegsDraft::new(alloc, 1)?;
         draft.add(routing, hop, op, side, command)?;
         Ok(draft)
     }
 
-    /// A delete's legs: one for each side.
+    /// A delete's legs, in an empty draft: one for each side.
     #[tactic(auto, using(crate::proofs::DraftLemmas::delete_count))]
     fn of_deletes(
-        alloc: Global,
+        mut draft: LegsDraft,
         routing: &Routing,
         hop: u32,
         op: OpId,
         sides: &[Side],
         key: &Key,
     ) -> Result<LegsDraft, AllocError>
+        requires empty { draft ≡ [] }
         requires room { length sides.now < 2 ^ 32 }
         requires hop { HasHop routing.now hop }
         ensures { IfOk result
             (λ draft. draft ≡ sheets_from routing.now hop op 0 (targets_of sides.now (Delete key.now ∷ []))) }
     {
-        let mut draft = LegsDraft::new(alloc, sides.len())?;
         for side in sides {
             draft.add(routing, hop, op, *side, NodeCommand::Delete(key.copy()?))?;
         }
@@ -154,7 +163,7 @@ impl LegsDraft {
     /// The legs of a request that is judged by this reading.
     #[tactic(auto, using(crate::proofs::DraftLemmas::few_keys))]
     pub(crate) fn of(
-        alloc: Global,
+        lists: &mut Lists,
         routing: &Routing,
         schedule: Schedule,
         op: OpId,
@@ -168,9 +177,11 @@ impl LegsDraft {
     {
         let judged = judge(schedule, reading);
         let hop = judged.hop();
+        let sides = judged.sides(RequestKind::Delete);
+        let draft = LegsDraft::new(lists, legs_of(request, sides.count()))?;
         match request {
             Request::Get { keys } => {
-                LegsDraft::of_gets(alloc, routing, hop, op, judged.read_side(), keys.as_slice())
+                LegsDraft::of_gets(draft, routing, hop, op, judged.read_side(), keys.as_slice())
             }
             Request::Set {
                 key,
@@ -180,17 +191,17 @@ impl LegsDraft {
                 noreply: _,
             } => {
                 let command = set_command(key, *flags, *exptime, block)?;
-                LegsDraft::of_one(alloc, routing, hop, op, judged.read_side(), command)
+                LegsDraft::of_one(draft, routing, hop, op, judged.read_side(), command)
             }
             Request::Delete { key, noreply: _ } => {
-                let sides = judged.sides(RequestKind::Delete);
-                LegsDraft::of_deletes(alloc, routing, hop, op, sides.as_slice(), key)
+                LegsDraft::of_deletes(draft, routing, hop, op, sides.as_slice(), key)
             }
-            Request::Quit => LegsDraft::new(alloc, 0),
+            Request::Quit => Ok(draft),
         }
     }
 
     /// The slots, and the legs.
+    #[inline(always)]
     pub(crate) fn into_parts(self) -> (Vec<Slot>, Vec<Leg>)
         ensures slots { result.0.items ≡ map open_slot self }
         ensures legs { result.1.items ≡ self }

@@ -7,7 +7,7 @@ ghost use Rattle.mr_proxy.specs.Transitions.{place_of_op, pending_with};
 ghost use Rattle.mr_proxy.specs.steps.Outstanding.{named, noted_in, list_noted, list_settled, settled_as};
 ghost use Rattle.mr_proxy.specs.steps.Noted.{noted_as};
 
-use crate::pending::{Noted, Pending};
+use crate::pending::Pending;
 use crate::sheet::LegId;
 use mr_history::OpId;
 use mr_join::LegReply;
@@ -23,17 +23,6 @@ pub(crate) struct Outstanding {
     incarnation: u64,
     numbers: VecDeque<u64>,
     pendings: HashMap<OpId, Pending>,
-}
-
-/// What became of a reply that was handed to the requests under way.
-#[derive(Debug, Drop)]
-pub(crate) enum Settled {
-    /// No leg awaits it: here it is back, and nothing changed.
-    Stranger(LegReply),
-    /// It was noted, and other legs of its request may answer yet.
-    Waiting,
-    /// It was noted as the last one: its request is no longer under way.
-    Last(Pending),
 }
 
 impl Model for Outstanding {
@@ -69,11 +58,6 @@ impl Outstanding {
         }
     }
 
-    /// What memory is taken from.
-    pub(crate) fn allocator(&self) -> Global {
-        *self.numbers.allocator()
-    }
-
     /// The proxy's number in its fleet.
     pub(crate) fn proxy(&self) -> u32
         ensures { result ≡ self.now.proxy }
@@ -89,6 +73,7 @@ impl Outstanding {
     }
 
     /// How many requests are under way.
+    #[inline(always)]
     pub(crate) fn len(&self) -> usize
         ensures { result ≡ length self.now.list }
     {
@@ -96,6 +81,7 @@ impl Outstanding {
     }
 
     /// The name of the request of this number.
+    #[inline(always)]
     pub(crate) fn op(&self, number: u64) -> OpId
         ensures { result ≡ named self.now.proxy self.now.incarnation number }
     {
@@ -143,6 +129,7 @@ impl Outstanding {
     }
 
     /// Makes room for one more request, in both parts before either is changed.
+    #[inline(always)]
     pub(crate) fn reserve(&mut self) -> Result<(), AllocError>
         ensures proxy { self.new.proxy ≡ self.old.proxy }
         ensures incarnation { self.new.incarnation ≡ self.old.incarnation }
@@ -155,6 +142,7 @@ impl Outstanding {
     }
 
     /// Adds a request, which was issued after all others and for which there is room.
+    #[inline(always)]
     pub(crate) fn add(&mut self, pending: Pending)
         requires room { 1 ≤ self.old.spare }
         requires name { pending.op ≡ named self.old.proxy self.old.incarnation pending.op.number }
@@ -168,8 +156,10 @@ impl Outstanding {
         let _ = self.pendings.insert(op, pending);
     }
 
-    /// Hands a reply to the request of its leg, which stays under way.
-    fn note(&mut self, id: LegId, reply: LegReply) -> Noted
+    /// Hands a reply to the request of its leg, which stays under way, and says whether no leg of it is left that may answer. A reply
+    /// that no leg awaits comes back, and nothing changes.
+    #[inline(always)]
+    fn note(&mut self, id: LegId, reply: LegReply) -> Result<bool, LegReply>
         ensures noted { result ≡ noted_as reply (noted_in self.old.list id reply) }
         ensures proxy { self.new.proxy ≡ self.old.proxy }
         ensures incarnation { self.new.incarnation ≡ self.old.incarnation }
@@ -177,27 +167,29 @@ impl Outstanding {
     {
         match self.pendings.get_mut(&id.op) {
             Some(pending) => pending.take(id.place, reply),
-            None => Noted::Stranger(reply),
+            None => Err(reply),
         }
     }
 
-    /// Hands a reply to the request of its leg, which leaves with its last one. The last one costs as a removal does, any other
-    /// as much whatever the number of requests.
-    pub(crate) fn take(&mut self, id: LegId, reply: LegReply) -> Settled
+    /// Hands a reply to the request of its leg, which leaves with its last one. A reply that no leg awaits comes back, and nothing
+    /// changes. The last one costs as a removal does, any other as much whatever the number of requests.
+    #[inline(always)]
+    pub(crate) fn take(&mut self, id: LegId, reply: LegReply) -> Result<Option<Pending>, LegReply>
         ensures settled { result ≡ settled_as reply (noted_in self.old.list id reply) }
         ensures proxy { self.new.proxy ≡ self.old.proxy }
         ensures incarnation { self.new.incarnation ≡ self.old.incarnation }
         ensures list { self.new.list ≡ list_settled self.old.list id reply }
     {
-        match self.note(id, reply) {
-            Noted::Stranger(reply) => Settled::Stranger(reply),
-            Noted::Waiting => Settled::Waiting,
-            Noted::Last => Settled::Last(self.remove(id.op).unwrap()),
+        if self.note(id, reply)? {
+            Ok(self.remove(id.op))
+        } else {
+            Ok(None)
         }
     }
 
     /// Takes a request out. Its number is searched by halves, and the numbers on the shorter side of it move by one place:
     /// none where it was issued first or last.
+    #[inline(always)]
     pub(crate) fn remove(&mut self, op: OpId) -> Option<Pending>
         ensures value { result ≡ pending_with self.old.list op }
         ensures proxy { self.new.proxy ≡ self.old.proxy }

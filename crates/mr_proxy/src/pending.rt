@@ -22,17 +22,6 @@ pub(crate) struct Pending {
     items: Vec<Item>,
 }
 
-/// What became of a reply that was handed to a request.
-#[derive(Debug, Drop)]
-pub(crate) enum Noted {
-    /// No leg awaits it: here it is back, and nothing changed.
-    Stranger(LegReply),
-    /// It was noted, and other legs may answer yet.
-    Waiting,
-    /// It was noted, and no leg is left that may answer.
-    Last,
-}
-
 impl Model for Pending {
     ghost use Rattle.std.specs.Prelude.{◌≡◌, count_by, vec_capacity};
     ghost use Rattle.mr_proxy.specs.Slots.{is_open};
@@ -53,6 +42,7 @@ impl Pending {
     ghost use Rattle.mr_proxy.specs.steps.Noted.{noted_as};
 
     /// A request whose legs were just sent. The room is made by the caller.
+    #[inline(always)]
     pub(crate) fn new(
         op: OpId,
         request: Request,
@@ -76,6 +66,7 @@ impl Pending {
     }
 
     /// The request's name.
+    #[inline(always)]
     pub(crate) fn op(&self) -> OpId
         ensures { result ≡ self.now.op }
     {
@@ -83,6 +74,7 @@ impl Pending {
     }
 
     /// The request.
+    #[inline(always)]
     pub(crate) fn request(&self) -> &Request
         ensures { result.now ≡ self.now.request }
     {
@@ -97,6 +89,7 @@ impl Pending {
     }
 
     /// The legs in order of place.
+    #[inline(always)]
     pub(crate) fn slots(&self) -> &[Slot]
         ensures { result.now ≡ self.now.slots }
     {
@@ -111,6 +104,7 @@ impl Pending {
     }
 
     /// Whether the leg of that place awaits the reply.
+    #[inline(always)]
     fn awaits(&self, place: u32, reply: &LegReply) -> bool
         ensures { result ≡ is_some (with_reply self.now place reply.now) }
     {
@@ -119,6 +113,7 @@ impl Pending {
     }
 
     /// Notes a reply that the leg of that place awaits.
+    #[inline(always)]
     fn note(&mut self, place: u32, reply: LegReply)
         requires { is_some (with_reply self.old place reply) ≡ true }
         ensures { with_reply self.old place reply ≡ Some self.new }
@@ -128,21 +123,19 @@ impl Pending {
         self.awaited -= 1;
     }
 
-    /// Notes a reply that the leg of that place awaits, and hands any other back.
+    /// Notes a reply that the leg of that place awaits, and says whether no leg is left that may answer. It hands any other back, and
+    /// nothing changes.
+    #[inline(always)]
     #[tactic(auto, using(crate::proofs::OpenLemmas::noted_last))]
-    pub(crate) fn take(&mut self, place: u32, reply: LegReply) -> Noted
+    pub(crate) fn take(&mut self, place: u32, reply: LegReply) -> Result<bool, LegReply>
         ensures noted { result ≡ noted_as reply (with_reply self.old place reply) }
         ensures state { self.new ≡ unwrap_or (with_reply self.old place reply) self.old }
     {
         if !self.awaits(place, &reply) {
-            return Noted::Stranger(reply);
+            return Err(reply);
         }
         self.note(place, reply);
-        if self.awaited == 0 {
-            Noted::Last
-        } else {
-            Noted::Waiting
-        }
+        Ok(self.awaited == 0)
     }
 
     /// The request, the legs, and the room for the items of the answer.
@@ -174,7 +167,7 @@ impl Pending {
             slots.push(slot.copy()?)?;
         }
         let request = self.request.copy()?;
-        let items = room_for(alloc, &request)?;
+        let items = room_for(Vec::new(alloc), &request)?;
         Ok(Pending {
             op: self.op,
             request,

@@ -8,8 +8,11 @@ ghost use Rattle.mr_pools.specs.Routing.{IsRouting};
 use crate::answer::Answer;
 use crate::error::ProxyError;
 use crate::issued::Issued;
+use crate::leg::Leg;
+use crate::leg_count::legs_of;
 use crate::legs_draft::LegsDraft;
-use crate::outstanding::{Outstanding, Settled};
+use crate::lists::Lists;
+use crate::outstanding::Outstanding;
 use crate::pending::Pending;
 use crate::room::room_for;
 use crate::sheet::{LegId, LegSheet};
@@ -26,6 +29,7 @@ use std::marker::Model;
 #[derive(Debug, Drop)]
 pub struct ProxyCore {
     outstanding: Outstanding,
+    lists: Lists,
     next: u64,
     last: Option<u64>,
     routing: Routing,
@@ -97,6 +101,7 @@ impl ProxyCore {
         are_sound(&routing, &schedule);
         ProxyCore {
             outstanding: Outstanding::new(alloc, number, incarnation),
+            lists: Lists::new(alloc),
             next: 0,
             last: None,
             routing,
@@ -106,6 +111,7 @@ impl ProxyCore {
     }
 
     /// The larger of a reading and the last one.
+    #[inline(always)]
     fn reading_used(&self, reading: u64) -> u64
         ensures { result ≡ used_reading self.now.last reading }
     {
@@ -117,6 +123,7 @@ impl ProxyCore {
 
     /// Why the next request would be refused, memory aside: NumbersSpent where no number is left for it, or else NoRoom
     /// where as many requests are under way as there is room for. None where it would be accepted.
+    #[inline(always)]
     pub fn refusal(&self) -> Option<ProxyError>
         ensures { result ≡ refusal_of self.now }
     {
@@ -130,6 +137,7 @@ impl ProxyCore {
     }
 
     /// The name that the next request gets.
+    #[inline(always)]
     fn next_op(&self) -> OpId
         ensures { result ≡ next_op self.now }
     {
@@ -153,14 +161,19 @@ impl ProxyCore {
         if let Some(refusal) = self.refusal() {
             return Err((refusal, request));
         }
-        let alloc = self.outstanding.allocator();
         let op = self.next_op();
         let used = self.reading_used(reading);
-        let Ok(draft) = LegsDraft::of(alloc, &self.routing, self.schedule, op, used, &request)
-        else {
+        let Ok(draft) = LegsDraft::of(
+            &mut self.lists,
+            &self.routing,
+            self.schedule,
+            op,
+            used,
+            &request,
+        ) else {
             return Err((ProxyError::OutOfMemory, request));
         };
-        let Ok(items) = room_for(alloc, &request) else {
+        let Ok(items) = room_for(self.lists.take_items(), &request) else {
             return Err((ProxyError::OutOfMemory, request));
         };
         if self.outstanding.reserve().is_err() {
@@ -174,6 +187,24 @@ impl ProxyCore {
         Ok(Issued { op, legs })
     }
 
+    /// A list of legs comes back that an issue gave, and what is left in it is dropped. The next request takes no memory for its
+    /// own list then, unless it has more legs.
+    pub fn give_legs_back(&mut self, legs: Vec<Leg>)
+        ensures { self.new ≡ self.old }
+    {
+        self.lists.keep_legs(legs);
+    }
+
+    /// An answer comes back that isn't needed any more, and is dropped. The next request takes no memory for its own lists then, as
+    /// with `give_legs_back`.
+    pub fn give_answer_back(&mut self, answer: Answer)
+        ensures { self.new ≡ self.old }
+    {
+        let (slots, items) = answer.into_lists();
+        self.lists.keep_slots(slots);
+        self.lists.keep_items(items);
+    }
+
     /// Takes the reply of a leg. A reply that no leg awaits is a stranger, and changes nothing. The legs of an answer
     /// are those of the reading by which its request was judged. The last reply of a request looks for its number by halves
     /// among those under way, and moves the numbers on the shorter side of it by one place; any other costs the same,
@@ -184,9 +215,9 @@ impl ProxyCore {
         ensures sound { (answer : AnswerView) → result ≡ Taken.Answered answer → IsSoundAnswer self.old answer }
     {
         match self.outstanding.take(id, reply) {
-            Settled::Stranger(reply) => Taken::Stranger(reply),
-            Settled::Waiting => Taken::Waiting,
-            Settled::Last(pending) => Taken::Answered(Answer::of(pending, false)),
+            Err(stranger) => Taken::Stranger(stranger),
+            Ok(None) => Taken::Waiting,
+            Ok(Some(pending)) => Taken::Answered(Answer::of(pending, false)),
         }
     }
 
@@ -249,6 +280,7 @@ impl ProxyCore {
     }
 
     /// The pools, and the hash that places keys in them.
+    #[inline(always)]
     pub fn routing(&self) -> &Routing
         ensures { result.now ≡ self.now.routing }
     {
@@ -256,6 +288,7 @@ impl ProxyCore {
     }
 
     /// When the migration goes from phase to phase.
+    #[inline(always)]
     pub fn schedule(&self) -> Schedule
         ensures { result ≡ self.now.schedule }
     {
@@ -270,6 +303,7 @@ impl ProxyCore {
     }
 
     /// How many requests are under way. Whoever holds a proxy knows that it is sound.
+    #[inline(always)]
     pub fn outstanding(&self) -> usize
         ensures count { result ≡ length self.now.outstanding }
         ensures sound { IsSound self.now }
@@ -320,7 +354,7 @@ impl ProxyCore {
     }
 
     /// How many legs an issue would make, or why it would be refused: NumbersSpent, or else NoRoom.
-    #[tactic(auto, using(crate::proofs::DraftLemmas::get_length, crate::proofs::DraftLemmas::delete_length))]
+    #[tactic(auto, using(crate::proofs::DraftLemmas::sheets_count))]
     pub fn would_issue(&self, reading: u64, request: &Request) -> Result<u64, ProxyError>
         requires { request.now ≢ Request.Quit }
         ensures legs { IfOk result
@@ -330,15 +364,9 @@ impl ProxyCore {
         if let Some(refusal) = self.refusal() {
             return Err(refusal);
         }
-        Ok(match request {
-            Request::Get { keys } => keys.as_slice().len() as u64,
-            Request::Set { .. } => 1,
-            Request::Delete { .. } => {
-                let judged = judge(self.schedule, self.reading_used(reading));
-                judged.sides(RequestKind::Delete).count() as u64
-            }
-            Request::Quit => 0,
-        })
+        let judged = judge(self.schedule, self.reading_used(reading));
+        let sides = judged.sides(RequestKind::Delete);
+        Ok(legs_of(request, sides.count()) as u64)
     }
 
     /// Lends the sheet of a leg that may answer yet.

@@ -36,6 +36,7 @@ impl LegSheet {
     ghost use Rattle.mr_proxy.specs.Sheets.{pool_at, placed, node_name, IsPlaced, HasHop};
 
     /// The sheet of a leg to the node, in that side's pool of the hop, that keeps the command's key.
+    #[inline(always)]
     pub(crate) fn for_leg(
         routing: &Routing,
         hop: u32,
@@ -60,6 +61,7 @@ impl LegSheet {
     }
 
     /// The number of the pool that has the node, counted from 0 in the order of the migrations.
+    #[inline(always)]
     pub fn pool_number(&self) -> usize
         ensures { result ≡ pool_at self.now }
     {
@@ -88,6 +90,7 @@ impl LegSheet {
     }
 
     /// An equal sheet.
+    #[inline(always)]
     pub fn copy(&self) -> Result<LegSheet, AllocError>
         ensures { IfOk result (λ sheet. sheet ≡ self.now) }
     {

@@ -24,6 +24,7 @@ pub struct Slot {
 }
 
 /// Whether a node may answer this command so: any command may fail.
+#[inline(always)]
 pub fn is_of_kind(command: &NodeCommand, reply: &LegReply) -> bool
     ensures { result ≡ is_of_kind command.now reply.now }
 {
@@ -38,6 +39,7 @@ pub fn is_of_kind(command: &NodeCommand, reply: &LegReply) -> bool
 
 impl Slot {
     /// A leg that was sent.
+    #[inline(always)]
     pub(crate) fn open(sheet: LegSheet) -> Slot
         ensures { result ≡ open_slot sheet }
     {
@@ -45,6 +47,7 @@ impl Slot {
     }
 
     /// Whether no reply came yet.
+    #[inline(always)]
     pub fn is_open(&self) -> bool
         ensures { result ≡ is_open self.now }
     {
@@ -52,6 +55,7 @@ impl Slot {
     }
 
     /// Whether the leg awaits this reply: none came yet, and a node may answer its command so.
+    #[inline(always)]
     pub fn awaits(&self, reply: &LegReply) -> bool
         ensures { result ≡ is_awaiting self.now reply.now }
     {
@@ -60,6 +64,7 @@ impl Slot {
 
     /// What the leg came to: the reply, or that the leg was lost where none came. What is lent then is the caller's,
     /// since no constant that has something to drop can be lent.
+    #[inline(always)]
     pub(crate) fn outcome<'a>(&'a self, lost: &'a LegReply) -> &'a LegReply
         requires { lost.now ≡ Failed LegLost }
         ensures { result.now ≡ reply_of_slot self.now }
@@ -76,6 +81,7 @@ impl Slot {
     }
 
     /// Whether the leg failed, or no reply came.
+    #[inline(always)]
     pub fn has_failed(&self) -> bool
         ensures { result ≡ has_failed self.now }
     {
@@ -83,6 +89,7 @@ impl Slot {
     }
 
     /// Whether the leg came to what is worse than what the other one came to.
+    #[inline(always)]
     pub(crate) fn is_worse_than(&self, other: &Slot) -> bool
         ensures { result ≡ nat_lt (badness_of (reply_of_slot other.now)) (badness_of (reply_of_slot self.now)) }
     {

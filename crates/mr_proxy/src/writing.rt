@@ -16,6 +16,7 @@ use mr_text::{
 };
 
 /// Writes the joined reply of the legs of a request, through a buffer that is lent to it.
+#[inline(always)]
 #[tactic(auto, using(crate::proofs::JoinLemmas::found_by_worst, crate::proofs::JoinLemmas::failed_by_worst))]
 pub(crate) fn write_joined<W: Sink>(
     request: &Request,
@@ -39,6 +40,7 @@ pub(crate) fn write_joined<W: Sink>(
 }
 
 /// The items that the legs of these keys found.
+#[inline(always)]
 fn write_found<W: Sink>(
     keys: &[Key],
     slots: &[Slot],
@@ -56,6 +58,7 @@ fn write_found<W: Sink>(
 }
 
 /// Puts the items, and what stands behind them.
+#[inline(always)]
 fn put_found<W: Sink>(
     keys: &[Key],
     slots: &[Slot],
@@ -72,6 +75,7 @@ fn put_found<W: Sink>(
 }
 
 /// Puts what the legs of these keys found.
+#[inline(always)]
 #[tactic(auto, using(crate::proofs::WritingLemmas::hits_keys, crate::proofs::WritingLemmas::hits_slots))]
 fn put_hits<W: Sink>(
     keys: &[Key],
@@ -94,6 +98,7 @@ fn put_hits<W: Sink>(
 }
 
 /// Puts what the leg of this key found, if it did.
+#[inline(always)]
 fn put_hit<W: Sink>(
     key: &Key,
     slot: &Slot,

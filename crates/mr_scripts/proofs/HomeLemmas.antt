@@ -8,7 +8,7 @@ use Rattle.mr_phases.specs.Schedule.{most_hops}
 use Rattle.mr_pools.specs.Routing.{RoutingView}
 use Rattle.mr_pools.specs.declared.hash.NamedHash.{NamedHash}
 use Rattle.mr_world.specs.Setup.{SetupView}
-use Rattle.mr_world.specs.declared.error.WorldError.TheVariants.{NoSuchNode}
+use Rattle.mr_proxy.specs.declared.world_error.WorldError.TheVariants.{NoSuchNode}
 use Rattle.mr_world.specs.declared.setup.HeldItem.{HeldItem}
 use Rattle.mr_world.specs.declared.setup.ProxySetup.{ProxySetup}
 use Rattle.mr_shown.specs.declared.format.Format.{Format}

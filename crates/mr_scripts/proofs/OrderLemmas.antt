@@ -60,11 +60,6 @@ below_all key other (member name value members) less h =
 turned : (key other : List ℕ) → slice_cmp nat_cmp key other ≡ Greater → slice_cmp nat_cmp other key ≡ Less
 turned key other greater = nat_list_cmp_total.antisymm other key ∙ ap ordering_reverse greater
 
-same_below : (key other : List ℕ) (members : Members) → slice_cmp nat_cmp key other ≡ Equal → IsBelow other members → IsBelow key members
-same_below key other no_members same h = tt
-same_below key other (member name value members) same h =
-    (nat_list_cmp_total.congr key other name same ∙ h.0, same_below key other members same h.1)
-
 -- what is below the members and below a key is below them with that key
 below_chosen : (low : List ℕ) (o : Ordering) (a b c : Members) → IsBelow low a → IsBelow low b → IsBelow low c → IsBelow low (match_ordering o a b c)
 below_chosen low Less a b c x y z = x

@@ -4,7 +4,7 @@ use Rattle.std.specs.Str.{bytes_eq}
 use Rattle.std.proofs.lemmas.Slice.Eq.{bytes_eq-Decides}
 use Rattle.std.proofs.lemmas.Bool.{le-leb}
 use Rattle.mr_world.specs.Setup.{SetupView, CanBeMade, IsNamed}
-use Rattle.mr_world.specs.declared.error.WorldError.TheVariants.{NoSuchNode}
+use Rattle.mr_proxy.specs.declared.world_error.WorldError.TheVariants.{NoSuchNode}
 use Rattle.mr_world.specs.declared.setup.HeldItem.{HeldItem}
 use Rattle.mr_world.specs.declared.setup.ProxySetup.{ProxySetup}
 use Rattle.mr_configs.specs.Fields.{Text, is_one_of}

@@ -8,7 +8,7 @@ use Rattle.std.specs.Str.{bytes_eq}
 use Rattle.std.proofs.lemmas.Slice.Eq.{bytes_eq-Decides}
 use Rattle.mr_proxy.specs.Sheets.{HaveAsManyHops}
 use Rattle.mr_world.specs.Setup.{SetupView, CanBeMade, HasHomes, ChainsMatch, IsNamed}
-use Rattle.mr_world.specs.declared.error.WorldError.TheVariants.{NoSuchNode}
+use Rattle.mr_proxy.specs.declared.world_error.WorldError.TheVariants.{NoSuchNode}
 use Rattle.mr_world.specs.declared.event.Event.{Event}
 use Rattle.mr_world.specs.declared.setup.HeldItem.{HeldItem}
 use Rattle.mr_world.specs.declared.setup.ProxySetup.{ProxySetup}

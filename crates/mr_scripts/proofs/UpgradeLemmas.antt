@@ -23,7 +23,7 @@ use Rattle.mr_configs.specs.Checking.{◌>>=◌}
 use Rattle.mr_configs.specs.Config.{ConfigView, IsJson, config_of}
 use Rattle.mr_configs.specs.Fields.{Text, object_check, field, whole_number, text_of, list_of}
 use Rattle.mr_configs.specs.declared.error.PlanError.{PlanError}
-use Rattle.mr_configs.specs.declared.error.PlanError.TheVariants.{MissingKey, WrongKind, TooLarge, OutOfMemory}
+use Rattle.mr_configs.specs.declared.error.PlanError.TheVariants.{MissingKey, WrongKind, TooLarge}
 use Rattle.mr_configs.proofs.CheckingLemmas.{taken, there}
 use Rattle.mr_scripts.specs.Events.{event_of, event_of_kind, event_at, events_of, clock_of, client_keys, client_of, deliver_of, return_of, give_up_of, node_restart_of, proxy_restart_of}
 use Rattle.mr_scripts.specs.Lists.{all_of}
@@ -459,7 +459,3 @@ upgrade_refused bytes text script made reads is written back utf8 large =
     let whole : has_float made ≡ false = rw is (read_whole text (upgraded script.format value) (in_two parts) json kept) in
     let compact : text ≡ compact_text (upgraded script.format value) = written whole ∙ ap compact_text is in
     inr (value, parts, reads.0, reads.1, reads.2.says, inl (refl, rw compact at large))
-
-pub upgrade_wants_memory : (bytes : List ℕ) (script : ScriptView) → ReadsScript bytes (Ok script) → RefusesUpgrade bytes OutOfMemory
-upgrade_wants_memory bytes script reads =
-    inr (view script.json, record { format = script.format; setup = script.setup; events = script.events }, reads.0, reads.1, reads.2.says, inr refl)

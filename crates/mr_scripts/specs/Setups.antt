@@ -3,7 +3,7 @@ use Rattle.std.specs.Prelude.{ℕ, ◌&&◌, ◌||◌, List, [], ◌∷◌, Bool
 use Rattle.serde_json.specs.Data.{Data}
 use Rattle.serde_json.specs.Find.{get}
 use Rattle.mr_world.specs.Setup.{SetupView}
-use Rattle.mr_world.specs.declared.error.WorldError.TheVariants.{NoSuchNode}
+use Rattle.mr_proxy.specs.declared.world_error.WorldError.TheVariants.{NoSuchNode}
 use Rattle.mr_world.specs.declared.setup.HeldItem.{HeldItem}
 use Rattle.mr_world.specs.declared.setup.ProxySetup.{ProxySetup}
 use Rattle.mr_shown.specs.declared.format.Format.{Format}

@@ -1,5 +1,5 @@
--- What a log says of what is heard of loops.
-use Rattle.std.specs.Prelude.{ℕ, Option, Some, None}
+-- What a log says of what is heard of loops, and of a clock that is looked at.
+use Rattle.std.specs.Prelude.{ℕ, ◌==◌, Bool, not, true, Option, Some, None}
 use Rattle.mr_driver.specs.declared.hearing.LinkTrouble.{LinkTrouble}
 use Rattle.mr_driver.specs.declared.hearing.LinkTrouble.TheVariants as heard
 use Rattle.mr_driver.specs.declared.hearing.LoopEvent.{LoopEvent}
@@ -27,3 +27,9 @@ happening_of event.NoMemory most = Some said.NoMemory
 happening_of event.NoDescriptors most = Some said.NoDescriptors
 happening_of event.NoClock most = Some said.NoClock
 happening_of event.ClockWentBack most = None
+
+-- whether it is worth a line, of a clock that went back so many times before a look, and so many by now: that it is behind is only where
+-- it went back since
+abbrev pub is_news : ℕ → ℕ → Happening → Bool
+is_news steps steps_by_now (said.ClockWentBack from to) = not (steps_by_now == steps)
+is_news steps steps_by_now _ = true

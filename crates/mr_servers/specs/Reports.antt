@@ -2,18 +2,10 @@
 use Rattle.std.specs.Prelude.{ℕ, ◌+◌, List, [], ◌∷◌, if◌then◌else◌}
 use Rattle.mr_counting.specs.Counting.{sum_of}
 use Rattle.mr_counting.specs.LoopTotals.{TotalsView, with_loop, with_link}
-use Rattle.mr_counting.specs.declared.client_totals.ClientTotals.{ClientTotals}
-use Rattle.mr_counting.specs.declared.leg_times.LegTimes as counting
 use Rattle.mr_counting.specs.declared.link_totals.LinkTotals.{LinkTotals}
 use Rattle.mr_driver.specs.declared.reports.LinkReport.{LinkReport}
 use Rattle.mr_driver.specs.declared.reports.LoopReport.{LoopReport}
 use Rattle.mr_loop.specs.LoopView.{LoopView}
-use Rattle.mr_loop.specs.declared.counts.ClientCounts.{ClientCounts}
-use Rattle.mr_loop.specs.declared.link_counts.LegTimes.{LegTimes}
-
--- what a loop counts of its clients
-abbrev pub clients_counted : ClientCounts → ClientTotals
-clients_counted clients = record { came = clients.came; left = clients.left; held_back = clients.held_back }
 
 -- what a loop counts of its link to a node
 abbrev pub link_counted : LinkReport → LinkTotals
@@ -25,19 +17,15 @@ link_counted link = record {
   dials = link.counts.dials;
 }
 
--- how long its legs took
-abbrev pub times_counted : LegTimes → counting.LegTimes
-times_counted times = record { counts = times.counts; micros = times.micros }
-
 -- the links of a loop are added, each to what is counted of its node, from the node of this number on
 abbrev pub with_links : ℕ → List LinkReport → TotalsView → TotalsView
 with_links number [] totals = totals
 with_links number (link ∷ links) totals =
-    with_links (number + 1) links (with_link number (link_counted link) (times_counted link.counts.times) totals)
+    with_links (number + 1) links (with_link number (link_counted link) link.counts.times totals)
 
 -- a loop is added by what it reports
 abbrev pub with_report : LoopReport → TotalsView → TotalsView
-with_report report totals = with_links 0 report.links.items (with_loop report.counts (clients_counted report.clients) totals)
+with_report report totals = with_links 0 report.links.items (with_loop report.counts report.clients totals)
 
 -- loops are added in order
 abbrev pub with_reports : List LoopReport → TotalsView → TotalsView

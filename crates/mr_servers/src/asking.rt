@@ -2,38 +2,31 @@
 ghost use Rattle.std.specs.Prelude.{◌≡◌, Ok, Err};
 ghost use Rattle.mr_servers.specs.Asking.{GivesAnswer};
 
+use crate::moments::moment_after;
 use crate::until::{UntilThen, left_until};
 use mr_http::{FetchFault, ask_stats, fetch_metrics};
 use mr_sockets::{address_of, node_address};
 use mr_text::{OverReader, OverWriter};
 use std::alloc::{AllocError, Global};
 use std::net::{Net, SocketAddr, SocketAddrV4, TcpStream};
-use std::time::{Clock, Duration, Instant};
+use std::time::{Clock, Instant};
 
 /// How long a service is asked at most, in milliseconds, from connecting to the end of its answer.
 const ASK_MILLIS: u64 = 1_000;
 
-/// When it is enough.
-fn end_of_asking<R: Clock>(rt: &R) -> Option<Instant> {
-    match Instant::now(rt) {
-        Ok(now) => now.checked_add(Duration::from_millis(ASK_MILLIS)),
-        Err(_) => None,
-    }
-}
-
-/// A connection to an address, which is made until then at most.
-fn connect_until<R: Net<Stream = TcpStream> + Clock>(
+/// A connection to an address, with the moment until which it may be asked, which is also the latest at which it may be made.
+fn connect<R: Net<Stream = TcpStream> + Clock>(
     rt: &R,
     address: SocketAddrV4,
-    until: Instant,
-) -> Option<TcpStream> {
+) -> Option<(TcpStream, Instant)> {
+    let until = moment_after(rt, ASK_MILLIS)?;
     let Ok(left) = left_until(rt, until) else {
         return None;
     };
     match TcpStream::connect_timeout(rt, &SocketAddr::V4(address), left) {
         Ok(stream) => {
             let _ = stream.set_nodelay(true);
-            Some(stream)
+            Some((stream, until))
         }
         Err(_) => None,
     }
@@ -57,13 +50,10 @@ pub(crate) fn metrics_at<R: Net<Stream = TcpStream> + Clock>(
     alloc: Global,
     text: &str,
 ) -> Result<Option<Vec<u8>>, AllocError> {
-    let Some(until) = end_of_asking(rt) else {
-        return Ok(None);
-    };
     let Some(address) = address_of(text) else {
         return Ok(None);
     };
-    let Some(stream) = connect_until(rt, address, until) else {
+    let Some((stream, until)) = connect(rt, address) else {
         return Ok(None);
     };
     let stream = &stream;
@@ -78,13 +68,10 @@ pub(crate) fn stats_at<R: Net<Stream = TcpStream> + Clock>(
     alloc: Global,
     name: &str,
 ) -> Result<Option<Vec<u8>>, AllocError> {
-    let Some(until) = end_of_asking(rt) else {
-        return Ok(None);
-    };
     let Some(address) = node_address(name) else {
         return Ok(None);
     };
-    let Some(stream) = connect_until(rt, address, until) else {
+    let Some((stream, until)) = connect(rt, address) else {
         return Ok(None);
     };
     let stream = &stream;

@@ -4,7 +4,7 @@ ghost use Rattle.mr_servers.specs.Driving.{fault_of};
 
 use crate::fault::OpenFault;
 use crate::hearing::Ears;
-use crate::host_servers::moment_now;
+use crate::moments::moment_now;
 use crate::saying::Speaker;
 use crate::scrapes::{ScrapeState, serve_scrapers};
 use mr_counting::ClockWatch;
@@ -75,41 +75,6 @@ pub(crate) fn fault_of(kind: io::ErrorKind) -> OpenFault
     }
 }
 
-/// Begins a thread that serves scrapers, if there is a socket for them.
-fn begin_scrapers<
-    's,
-    'e,
-    R: Net<Listener = TcpListener, Stream = TcpStream> + Threads + Wait + Clock + Sync,
-    T: Tells + Sync,
->(
-    rt: &'s R,
-    scope: &'s Scope<'s, &'e ()>,
-    alloc: Global,
-    scrapers: Option<TcpListener>,
-    teller: &'s T,
-    state: &'s ScrapeState,
-) {
-    if let Some(socket) = scrapers {
-        let _ = scope.spawn(move || serve_scrapers(rt, alloc, socket, teller, state));
-    }
-}
-
-/// Begins a thread that says what happens, if there is a voice.
-fn begin_speaker<
-    's,
-    'e,
-    R: Net<Listener = TcpListener, Stream = TcpStream> + Threads + Wait + Clock + Sync,
->(
-    scope: &'s Scope<'s, &'e ()>,
-    voice: Option<Stderr>,
-    speaker: &'s Speaker<'s, R>,
-    state: &'s ScrapeState,
-) {
-    if let Some(voice) = voice {
-        let _ = scope.spawn(move || speaker.speak(voice, state));
-    }
-}
-
 impl<
     'a,
     R: Net<Listener = TcpListener, Stream = TcpStream> + Threads + Wait + Clock + Sync,
@@ -161,8 +126,12 @@ fn serve_in<
 ) -> u64
     ensures { result ≤ bounds.clients }
 {
-    begin_scrapers(rt, scope, alloc, scrapers, teller, state);
-    begin_speaker(scope, site.voice, speaker, state);
+    if let Some(socket) = scrapers {
+        let _ = scope.spawn(move || serve_scrapers(rt, alloc, socket, teller, state));
+    }
+    if let Some(voice) = site.voice {
+        let _ = scope.spawn(move || speaker.speak(voice, state));
+    }
     let served = running.serve(rt, alloc, site.listener, bounds, watch, ears);
     state.end();
     served
@@ -222,7 +191,11 @@ pub(crate) fn serve_loops<
     log.lock(rt).note(Happening::Listens {
         loops: nature.loops,
     });
-    let ears = Ears::new(rt, log, bounds.most_clients);
+    let ears = Ears {
+        rt,
+        log,
+        most: bounds.most_clients,
+    };
     let speaker = Speaker {
         rt,
         alloc,

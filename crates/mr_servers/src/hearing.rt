@@ -41,9 +41,12 @@ fn happening_of(event: LoopEvent, most: u64) -> Option<Happening>
 
 /// Notes what is heard in a log. Its lock is held no longer than a note takes.
 pub(crate) struct Ears<'a, R: Wait> {
-    rt: &'a R,
-    log: &'a Mutex<Log>,
-    most: u64,
+    /// What may wait for the log's lock.
+    pub(crate) rt: &'a R,
+    /// Where what is heard is noted.
+    pub(crate) log: &'a Mutex<Log>,
+    /// How many clients are served at a time.
+    pub(crate) most: u64,
 }
 
 impl<'a, R: Wait> Drop for Ears<'a, R> {
@@ -53,13 +56,6 @@ impl<'a, R: Wait> Drop for Ears<'a, R> {
             log: _,
             most: _,
         } = self;
-    }
-}
-
-impl<'a, R: Wait> Ears<'a, R> {
-    /// What is heard is noted there, of a service that serves so many clients at a time.
-    pub(crate) fn new(rt: &'a R, log: &'a Mutex<Log>, most: u64) -> Ears<'a, R> {
-        Ears { rt, log, most }
     }
 }
 

@@ -1,5 +1,5 @@
 //! The services of this machine.
-ghost use Rattle.std.specs.Prelude.{◌≡◌, option_map};
+ghost use Rattle.std.specs.Prelude.{◌≡◌, None, if◌then◌else◌, option_map};
 ghost use Rattle.mr_proxy.specs.ProxyView.{IsFresh};
 ghost use Rattle.mr_servers.specs.Servers.{DrawsSeed, IsOneService, NodeAt, ProxyAt, LoopsAt, NodeLoopsAt, OpensBoth, clients_at};
 
@@ -10,6 +10,7 @@ use crate::drives::GhostDrives;
 use crate::driving::Site;
 use crate::fault::{OpenFault, SeedFault};
 use crate::listening::MachineListens;
+use crate::moments::{moment_now, passed_since};
 use crate::screen::Screen;
 use crate::seeds::GhostSeeds;
 use mr_driver::DriverBounds;
@@ -40,12 +41,11 @@ pub struct Telling<'a> {
     pub quiet: bool,
 }
 
-/// The moment now, by a clock that never goes back; None where it gives no reading.
-pub(crate) fn moment_now<R: time::Clock>(rt: &R) -> Option<Instant> {
-    match Instant::now(rt) {
-        Ok(now) => Some(now),
-        Err(_) => None,
-    }
+/// Where it is said what happens to a service, which may be quiet.
+fn voice_of(voice: Option<Stderr>, quiet: bool) -> Option<Stderr>
+    ensures { result ≡ (if quiet then None else voice) }
+{
+    if quiet { None } else { voice }
 }
 
 /// The sockets, the threads, the time and the random source of this machine, with what was asked of them and what ran as
@@ -197,13 +197,7 @@ impl<
 
     /// How many milliseconds have passed since this was made, by a clock that never goes back. 0 where it gives no reading.
     pub fn milliseconds(&self) -> u64 {
-        match (self.begun, moment_now(self.rt)) {
-            (Some(begun), Some(now)) => {
-                let passed = now.saturating_duration_since(begun).as_millis();
-                passed.min(u128::from(u64::MAX)) as u64
-            }
-            _ => 0,
-        }
+        passed_since(self.rt, self.begun).unwrap_or(0)
     }
 
     /// The second that the machine's clock says, since the epoch. 0 where it gives no reading.
@@ -388,12 +382,15 @@ impl<
         listen: &'s str,
         listener: &'s TcpListener,
         telling: Telling<'s>,
-    ) -> Site<'s> {
+    ) -> Site<'s>
+        ensures version { result.version.now ≡ telling.entry.version.now }
+        ensures listen { result.listen.now ≡ listen.entry.now }
+    {
         Site {
             version: telling.version,
             listen,
             listener,
-            voice: if telling.quiet { None } else { self.voice },
+            voice: voice_of(self.voice, telling.quiet),
         }
     }
 }

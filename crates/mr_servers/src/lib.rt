@@ -11,6 +11,7 @@ mod fault;
 mod hearing;
 mod host_servers;
 mod listening;
+mod moments;
 mod node_reports;
 mod node_teller;
 mod proxy_teller;

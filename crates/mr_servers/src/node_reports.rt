@@ -6,18 +6,6 @@ ghost use Rattle.mr_servers.specs.NodeTelling.{served_sum, with_served};
 use mr_counting::sum_of;
 use mr_loop::ServedCounts;
 
-/// What no loop counts.
-const NOTHING_SERVED: ServedCounts = ServedCounts {
-    came: 0,
-    left: 0,
-    hits: 0,
-    misses: 0,
-    stored: 0,
-    deleted: 0,
-    not_found: 0,
-    failed: 0,
-};
-
 /// What two loops count together.
 fn sum_served(counts: ServedCounts, more: &ServedCounts) -> ServedCounts
     ensures { result ≡ served_sum counts more.now }
@@ -38,7 +26,7 @@ fn sum_served(counts: ServedCounts, more: &ServedCounts) -> ServedCounts
 pub(crate) fn served_by(reports: &[ServedCounts]) -> ServedCounts
     ensures { result ≡ with_served reports.now nothing_served }
 {
-    let mut served = NOTHING_SERVED;
+    let mut served = ServedCounts::NONE;
     for report in reports {
         served = sum_served(served, report);
     }

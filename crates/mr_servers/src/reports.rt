@@ -1,24 +1,13 @@
 //! What the loops of a proxy report of themselves, added up.
 ghost use Rattle.std.specs.Prelude.{◌≡◌, IfOk};
 ghost use Rattle.mr_counting.specs.LoopTotals.{nodes_in, no_totals};
-ghost use Rattle.mr_servers.specs.Reports.{clients_counted, link_counted, times_counted, with_links, with_report, with_reports, room_of};
+ghost use Rattle.mr_servers.specs.Reports.{link_counted, with_links, with_report, with_reports, room_of};
 
-use mr_counting::{ClientTotals, LegTimes, LinkTotals, LoopTotals, sum_of};
+use mr_counting::{LinkTotals, LoopTotals, sum_of};
 use mr_driver::{LinkReport, LoopReport};
-use mr_loop::{ClientCounts, ProxyLoop};
+use mr_loop::ProxyLoop;
 use mr_pools::Routing;
 use std::alloc::{AllocError, Global};
-
-/// What a loop counts of its clients.
-fn clients_of(clients: &ClientCounts) -> ClientTotals
-    ensures { result ≡ clients_counted clients.now }
-{
-    ClientTotals {
-        came: clients.came,
-        left: clients.left,
-        held_back: clients.held_back,
-    }
-}
 
 /// What a loop counts of its link to a node.
 fn link_of(link: &LinkReport) -> LinkTotals
@@ -33,23 +22,13 @@ fn link_of(link: &LinkReport) -> LinkTotals
     }
 }
 
-/// How long the legs of a link took.
-fn times_of(link: &LinkReport) -> LegTimes
-    ensures { result ≡ times_counted link.now.counts.times }
-{
-    LegTimes {
-        counts: link.counts.times.counts,
-        micros: link.counts.times.micros,
-    }
-}
-
 /// Adds the links of a loop, each to what is counted of its node.
 fn add_links(totals: &mut LoopTotals, links: &[LinkReport])
     ensures { totals.new ≡ with_links 0 links.now totals.old }
 {
     let mut number: usize = 0;
     for link in links {
-        totals.add_link(number, link_of(link), &times_of(link));
+        totals.add_link(number, link_of(link), &link.counts.times);
         number += 1;
     }
 }
@@ -58,7 +37,7 @@ fn add_links(totals: &mut LoopTotals, links: &[LinkReport])
 fn add_report(totals: &mut LoopTotals, report: &LoopReport)
     ensures { totals.new ≡ with_report report.now totals.old }
 {
-    totals.add_loop(report.counts, clients_of(&report.clients));
+    totals.add_loop(report.counts, report.clients);
     add_links(totals, report.links.as_slice());
 }
 

@@ -1,5 +1,8 @@
 //! What a service on loops says on standard error while it runs. No contract speaks of what it does with time and threads.
+ghost use Rattle.std.specs.Prelude.{◌≡◌};
+ghost use Rattle.mr_servers.specs.Hearing.{is_news};
 
+use crate::moments::passed_since;
 use crate::scrapes::ScrapeState;
 use mr_clock::{Clock, SystemClock};
 use mr_counting::{ClockWatch, WatchedClock};
@@ -16,6 +19,17 @@ const SAY_MILLIS: u64 = 100;
 
 /// At how many of these looks it is looked at the clock too, once.
 const LOOKS: u64 = 10;
+
+/// Whether what was seen of a clock is worth a line that went back so many times before the look, and so many by now: that it is behind
+/// is only where it went back since.
+fn is_news(happening: Happening, steps: u64, steps_by_now: u64) -> bool
+    ensures { result ≡ is_news steps steps_by_now happening }
+{
+    match happening {
+        Happening::ClockWentBack { .. } => steps_by_now != steps,
+        _ => true,
+    }
+}
 
 /// What says the lines of a service.
 pub(crate) struct Speaker<'a, R: Wait + time::Clock> {
@@ -56,24 +70,14 @@ impl<'a, R: Wait + time::Clock> Speaker<'a, R> {
         clock.now().ok()
     }
 
-    /// How many milliseconds have passed since it began.
-    fn milliseconds(&self) -> Option<u64> {
-        let (Some(begun), Ok(now)) = (self.begun, Instant::now(self.rt)) else {
-            return None;
-        };
-        let passed = now.saturating_duration_since(begun).as_millis();
-        Some(passed.min(u128::from(u64::MAX)) as u64)
-    }
-
-    /// Looks at the clock, and notes what is worth a line. That it is behind is one only where it went back since so many times were
-    /// seen. Gives how many times it has by now.
+    /// Looks at the clock, which went back so many times before, and notes what is worth a line. Gives how many times it has by now.
     fn look(&self, watcher: &mut Watcher, steps: u64) -> u64 {
         let seen = watcher.look(self.reading());
         let steps_by_now = self.watch.steps_back();
-        match seen.clock {
-            Some(Happening::ClockWentBack { .. }) if steps_by_now == steps => {}
-            Some(happening) => self.note(happening),
-            None => {}
+        if let Some(happening) = seen.clock
+            && is_news(happening, steps, steps_by_now)
+        {
+            self.note(happening);
         }
         if let Some(phase) = seen.phase {
             self.note(phase);
@@ -100,7 +104,7 @@ impl<'a, R: Wait + time::Clock> Speaker<'a, R> {
 
     /// Says each line that is due.
     fn say_all(&self, voice: &Stderr) {
-        let Some(now) = self.milliseconds() else {
+        let Some(now) = passed_since(self.rt, self.begun) else {
             return;
         };
         for _ in 0..KINDS {

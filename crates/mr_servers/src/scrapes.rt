@@ -1,5 +1,6 @@
 //! The service of those that scrape metrics. No contract speaks of what it does with time and threads.
 
+use crate::moments::moment_after;
 use crate::until::UntilThen;
 use mr_http::{Tells, serve_scrape};
 use mr_text::{OverReader, OverWriter};
@@ -10,7 +11,7 @@ use std::sync::Wait;
 use std::sync::atomic::{AtomicU64, Ordering};
 use std::thread;
 use std::thread::{Scope, Threads};
-use std::time::{Clock, Duration, Instant};
+use std::time::{Clock, Duration};
 
 /// How often it is looked whether a scraper came, and whether the service has ended, in milliseconds.
 const LOOK_MILLIS: u64 = 5;
@@ -85,14 +86,11 @@ fn read_rest<R: Clock>(mut rest: UntilThen<'_, R>) {
     }
 }
 
-/// Serves a scraper until this moment at most.
-fn serve_until<T: Tells, R: Clock>(
-    rt: &R,
-    alloc: Global,
-    stream: &TcpStream,
-    teller: &T,
-    until: Instant,
-) {
+/// Serves a scraper, for a bounded time.
+fn serve_scraper<T: Tells, R: Clock>(rt: &R, alloc: Global, stream: &TcpStream, teller: &T) {
+    let Some(until) = moment_after(rt, SCRAPE_MILLIS) else {
+        return;
+    };
     let mut reader = OverReader::new(UntilThen { rt, stream, until });
     let mut writer = OverWriter::new(UntilThen { rt, stream, until });
     if serve_scrape(alloc, teller, &mut reader, &mut writer).is_err() {
@@ -100,16 +98,6 @@ fn serve_until<T: Tells, R: Clock>(
     }
     let _ = stream.shutdown(Shutdown::Write);
     read_rest(UntilThen { rt, stream, until });
-}
-
-/// Serves a scraper, for a bounded time.
-fn serve_scraper<T: Tells, R: Clock>(rt: &R, alloc: Global, stream: &TcpStream, teller: &T) {
-    let Ok(now) = Instant::now(rt) else {
-        return;
-    };
-    if let Some(until) = now.checked_add(Duration::from_millis(SCRAPE_MILLIS)) {
-        serve_until(rt, alloc, stream, teller, until);
-    }
 }
 
 /// Serves scrapers, each in a thread of its own, until the service has ended.

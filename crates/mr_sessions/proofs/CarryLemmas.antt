@@ -2,7 +2,7 @@
 use Rattle.std.proofs.Common.{◌≡◌, ◌∙◌, ℕ, ◌+◌, ◌≤◌, List, [], ◌∷◌, ◌++◌, length, Bool, true, false, Option, Some, None, option_map, is_some, ap, arith, append_assoc}
 use Rattle.mr_proxy.specs.declared.sheet.LegSheet.{LegSheet}
 use Rattle.mr_desks.specs.Carriers.{CarriersView, SendIs}
-use Rattle.mr_sessions.specs.Account.{StopsAtLeg, AreSent, IsGivenUpFor, AreCarried}
+use Rattle.mr_sessions.specs.Account.{AreSent, IsGivenUpFor, AreCarried}
 use Rattle.mr_sessions.specs.steps.Carrying.{IsSteady, CameBack, CameInVain}
 
 -- a leg that isn't handed back is sent
@@ -51,9 +51,6 @@ pub late : (recorded : Bool) (legs : List LegSheet) (old new : CarriersView) (gi
     → AreCarried recorded legs given_up old new
 late recorded legs old new true is for = for
 late recorded legs old new false is for = cc
-
-pub stopped : (recorded : Bool) (legs : List LegSheet) (old new : CarriersView) → StopsAtLeg legs old new → IsGivenUpFor recorded legs old new
-stopped recorded legs old new stops = IsGivenUpFor.handed_back stops
 
 -- no count falls
 pub record Rises (old new : CarriersView) : Type 0 where

@@ -1,5 +1,5 @@
 -- One request and its reply.
-use Rattle.std.proofs.Common.{◌≡◌, ℕ, List, true, Option, Some, None, Result, Ok, Err, sym, subst, inl, inr}
+use Rattle.std.proofs.Common.{◌≡◌, ℕ, List, true, Option, Some, None, Result, Ok, Err, sym, subst, inr}
 use Rattle.std.specs.Prelude.{MatchOption, ok_or}
 use Rattle.std.specs.Result.{is_ok}
 use Rattle.mr_text.specs.Gathering.{TakesFewCalls}
@@ -14,9 +14,8 @@ use Rattle.mr_node.specs.declared.command.NodeCommand.{NodeCommand}
 use Rattle.mr_proxy.specs.NodeReplies.{IsAnswer}
 use Rattle.mr_proxy.specs.NodeRequests.{text_for}
 use Rattle.mr_desks.specs.declared.error.WorkerError.{WorkerError}
-use Rattle.mr_desks.specs.declared.error.WorkerError.TheVariants.{LinkBroken, Mismatch, BookDiffers, ReadFault, WriteFault, TurnsSpent, OutOfMemory, NoThread}
-use Rattle.mr_sessions.specs.Exchange.{wire, HasAsked, HasFailed}
-use Rattle.mr_sessions.specs.Reading.{HasNoReply}
+use Rattle.mr_desks.specs.declared.error.WorkerError.TheVariants.{Mismatch}
+use Rattle.mr_sessions.specs.Exchange.{wire, HasAsked}
 use Rattle.mr_sessions.specs.steps.Exchange.{ExchangeIs}
 use Rattle.mr_sessions.specs.steps.Reading.{ReplyIs}
 
@@ -50,15 +49,3 @@ module _ (turns : ℕ) (command : NodeCommand) (reader reader' : SourceView) (wr
   answered reply said result came is becomes =
       subst (λ (r : Result LegReply WorkerError). ExchangeIs turns command (wire reader writer kept) r (wire reader' writer' replies.kept)) (sym becomes)
       (by_answer reply said came is)
-
-  -- no reply came
-  pub unanswered : (fault : WorkerError) → HasNoReply turns kept reader fault reader'
-      → HasFailed turns command (wire reader writer kept) (wire reader' writer' replies.kept) fault
-  unanswered LinkBroken is = record { asked = asked; none = is }
-  unanswered Mismatch is = inl (record { asked = asked; none = is })
-  unanswered BookDiffers is = absurd is
-  unanswered ReadFault is = record { asked = asked; none = is }
-  unanswered WriteFault is = absurd is
-  unanswered TurnsSpent is = record { asked = asked; none = is }
-  unanswered OutOfMemory is = record { asked = asked; none = is }
-  unanswered NoThread is = absurd is

@@ -4,6 +4,5 @@ pub mod AskLemmas
 pub mod CarryLemmas
 pub mod OwnLemmas
 pub mod SumLemmas
-pub mod EndLemmas
 pub mod ReadLemmas
 pub mod ExchangeLemmas

@@ -4,8 +4,8 @@ use Rattle.std.proofs.lemmas.List.{length-map}
 use Rattle.mr_text.specs.declared.request.Request.{Request}
 use Rattle.mr_text.specs.declared.request.Request.TheVariants as request
 use Rattle.mr_history.specs.declared.op_id.OpId.{OpId}
-use Rattle.mr_phases.specs.Schedule.{Hop, hop_of, phase_of}
-use Rattle.mr_phases.specs.Sides.{read_side_of, delete_sides_of}
+use Rattle.mr_phases.specs.Schedule.{Hop, phase_of}
+use Rattle.mr_phases.specs.Sides.{delete_sides_of}
 use Rattle.mr_phases.specs.declared.phase_name.PhaseName.{PhaseName}
 use Rattle.mr_phases.specs.declared.phase_name.PhaseName.TheVariants.{OldOnly, BothReadOld, BothReadNew, NewOnly}
 use Rattle.mr_pools.specs.Routing.{RoutingView}
@@ -14,20 +14,20 @@ use Rattle.mr_node.specs.declared.command.NodeCommand.TheVariants.{Get, Set, Del
 use Rattle.mr_proxy.specs.Answer.{AnswerView}
 use Rattle.mr_proxy.specs.Issue.{next_op, sheets_of, used_reading}
 use Rattle.mr_proxy.specs.ProxyView.{ProxyView}
-use Rattle.mr_proxy.specs.Sheets.{sheets_by}
+use Rattle.mr_proxy.specs.Sheets.{legs_of, sheets_by}
 use Rattle.mr_proxy.specs.Sound.{sheet_of}
 use Rattle.mr_proxy.specs.Whole.{IsCommandAt, IsLegAt, IsWholeAnswer}
 use Rattle.mr_proxy.specs.declared.sheet.LegId.{LegId}
 use Rattle.mr_proxy.specs.declared.sheet.LegSheet.{LegSheet}
 use Rattle.mr_proxy.specs.declared.slot.Slot.{Slot}
-use Rattle.mr_proxy.proofs.DraftLemmas.{get_length, delete_length}
+use Rattle.mr_proxy.proofs.DraftLemmas.{sheets_count}
 use Rattle.mr_proxy.proofs.SheetLemmas.{get_map, only, sheets_say_lem, gets_ask_in_order_lem}
 use Rattle.mr_desks.specs.Desk.{DeskIssues}
 use Rattle.mr_desks.specs.Issuing.{ClockCall}
 use Rattle.mr_desks.specs.Recorded.{Gave}
 use Rattle.mr_sessions.specs.declared.destinations.Destination.{Destination}
 use Rattle.mr_sessions.specs.Own.{IssuedView, issued_of, IsAnswerTo}
-use Rattle.mr_sessions.specs.steps.Destinations.{most_legs, destination_of, slot_destination, WentAs, IsLegOf, HasItsLegs}
+use Rattle.mr_sessions.specs.steps.Destinations.{destination_of, slot_destination, WentAs, IsLegOf, HasItsLegs}
 
 -- the sheet of a place is told what the request says of that place
 told_at : (routing : RoutingView) (hops : List Hop) (op : OpId) (u : ℕ) (q : Request) (place : ℕ) (sheet : LegSheet)
@@ -47,15 +47,17 @@ few_sides BothReadOld = omega arith
 few_sides BothReadNew = omega arith
 few_sides NewOnly = omega arith
 
-few_legs : (routing : RoutingView) (hops : List Hop) (op : OpId) (u : ℕ) (q : Request) → length (sheets_by routing hops op u q) ≤ most_legs q
-few_legs routing hops op u (request.Get keys) =
-    let all = get_length routing (hop_of hops u) op (read_side_of (phase_of hops u)) keys in omega (arith, all)
-few_legs routing hops op u (request.Set key flags exptime block noreply) = omega arith
-few_legs routing hops op u (request.Delete key noreply) =
-    let all = delete_length routing (hop_of hops u) op (delete_sides_of (phase_of hops u)) (Delete key) in
-    let few = few_sides (phase_of hops u) in
+most_legs : (q : Request) (sides : ℕ) → sides ≤ 2 → legs_of q sides ≤ legs_of q 2
+most_legs (request.Get keys) sides few = omega arith
+most_legs (request.Set key flags exptime block noreply) sides few = omega arith
+most_legs (request.Delete key noreply) sides few = few
+most_legs request.Quit sides few = omega arith
+
+few_legs : (routing : RoutingView) (hops : List Hop) (op : OpId) (u : ℕ) (q : Request) → length (sheets_by routing hops op u q) ≤ legs_of q 2
+few_legs routing hops op u q =
+    let all = sheets_count routing hops op u q in
+    let few = most_legs q (length (delete_sides_of (phase_of hops u))) (few_sides (phase_of hops u)) in
     omega (arith, all, few)
-few_legs routing hops op u request.Quit = omega arith
 
 -- the sheets of a request are its legs
 sheets_are_legs : (core : ProxyView) (t : ℕ) (q : Request) → 1 ≤ length (sheets_of core t q) → HasItsLegs (issued_of (next_op core) q (sheets_of core t q))

@@ -1,5 +1,5 @@
 -- What reads brought so far.
-use Rattle.std.proofs.Common.{◌≡◌, ◌∙◌, ℕ, ◌+◌, ◌<◌, ◌≤◌, ◌⊎◌, Bool, List, [], ◌++◌, true, false, Option, Some, None, Result, Ok, Err, refl, sym, ap, subst, inl, inr, arith, append_assoc}
+use Rattle.std.proofs.Common.{◌≡◌, ◌∙◌, ℕ, ◌+◌, ◌≤◌, ◌⊎◌, Bool, List, [], ◌++◌, true, false, Option, Some, None, Result, Ok, Err, refl, sym, ap, subst, inl, inr, arith, append_assoc}
 use Rattle.std.proofs.KnownBytes.{Consumes-nil, Consumes-trans}
 use Rattle.std.proofs.lemmas.List.{append-nil}
 use Rattle.mr_text.specs.Replies.{SpellsReply, RefusesReply, HoldsReply, HoldsPartOfReply, MayWantMemory, NextReplyIs}
@@ -11,16 +11,12 @@ use Rattle.mr_text.specs.declared.reply.Reply.{Reply}
 use Rattle.mr_desks.specs.declared.error.WorkerError.{WorkerError}
 use Rattle.mr_desks.specs.declared.error.WorkerError.TheVariants.{LinkBroken, Mismatch, BookDiffers, ReadFault, WriteFault, TurnsSpent, OutOfMemory, NoThread}
 use Rattle.mr_sessions.specs.Reading.{NeedsMore, BringsPiece, Brings, HasBrought, HasNoReply, read_length}
-use Rattle.mr_sessions.specs.steps.Reading.{IsOpen, ReplyIs, NextIs, ReplyPieceIs, fault_of}
+use Rattle.mr_sessions.specs.steps.Reading.{IsOpen, NextIs, ReplyPieceIs, fault_of}
 
 -- what memory is wanted for
 wanted : (ended : Bool) (bytes : List ℕ) → MayWantMemory ended bytes → HoldsReply bytes ⊎ HoldsPartOfReply bytes
 wanted ended bytes (inl whole) = inl whole
 wanted ended bytes (inr part) = inr part.1
-
-at_least : (bytes : List ℕ) (More : Type 0) → HoldsReply bytes ⊎ HoldsPartOfReply bytes → HoldsReply bytes ⊎ HoldsPartOfReply bytes ⊎ More
-at_least bytes More (inl whole) = inl whole
-at_least bytes More (inr part) = inr (inl part)
 
 -- one more read is offered as much
 still_offered : (least room : ℕ) (old new : Option ℕ) → least ≤ room → AreOffered least old → new ≡ least_with old room → AreOffered least new
@@ -141,42 +137,8 @@ module _ (turns : ℕ) (kept : List ℕ) (old : SourceView) where
     reading_stops NoThread replies' new last = absurd last
 
   module _ (left : ℕ) (replies : ReaderView) (now : SourceView) (so : Reading turns kept old left replies now) where
-    pub is_open : IsOpen replies
-    is_open = (so.becomes.is_ended, so.becomes.is_closed)
-
-    pub replied : (reply : Reply) (replies' : ReaderView) → NextIs replies.kept (Ok (Some reply)) replies' → ReplyIs turns kept old (Ok reply) replies' now
-    replied reply replies' next =
-        (so.came, so.brought, subst (λ (r : List ℕ). BeginsWith SpellsReply r reply replies'.kept) so.becomes.stands next.0, next.1)
-
     pub needs_more : (replies' : ReaderView) → NextIs replies.kept (Ok None) replies' → NeedsMore (kept ++ so.came)
     needs_more replies' next = subst NeedsMore so.becomes.stands next.0
-
-    pub spent : (replies' : ReaderView) → NextIs replies.kept (Ok None) replies' → left ≡ 0 → HasNoReply turns kept old TurnsSpent now
-    spent replies' next none = record {
-      came = so.came;
-      brought = so.brought;
-      needs = needs_more replies' next;
-      all = (let counted = so.counted in omega arith);
-    }
-
-    pub no_reply : (fault : WorkerError) (replies' : ReaderView) → NextIs replies.kept (Err fault) replies' → HasNoReply turns kept old fault now
-    no_reply Mismatch replies' next = record {
-      came = so.came;
-      brought = so.brought;
-      refusal = next.0;
-      refused = subst (RefusesReply next.0) so.becomes.stands next.1;
-    }
-    no_reply OutOfMemory replies' next = record {
-      came = so.came;
-      brought = so.brought;
-      wanted = at_least (kept ++ so.came) (old.reads < now.reads) (subst (λ (s : List ℕ). HoldsReply s ⊎ HoldsPartOfReply s) so.becomes.stands next);
-    }
-    no_reply LinkBroken replies' next = absurd next
-    no_reply BookDiffers replies' next = absurd next
-    no_reply ReadFault replies' next = absurd next
-    no_reply WriteFault replies' next = absurd next
-    no_reply TurnsSpent replies' next = absurd next
-    no_reply NoThread replies' next = absurd next
 
     -- the piece that a read brings stands behind what was kept and came before
     module _ (left' : ℕ) (is : left ≡ left' + 1) (replies' : ReaderView) (next : NextIs replies.kept (Ok None) replies') (replies'' : ReaderView)

@@ -1,7 +1,7 @@
 //! Where the legs of a request go, by which a session knows the request's own answer.
 ghost use Rattle.std.specs.Prelude.{◌≡◌, ◌↔◌, ◌≤◌, IsTrue, length, map, true, vec_capacity};
 ghost use Rattle.mr_proxy.specs.Whole.{IsWholeAnswer};
-ghost use Rattle.mr_sessions.specs.steps.Destinations.{destination_of, slot_destination, most_legs, WentAs};
+ghost use Rattle.mr_sessions.specs.steps.Destinations.{destination_of, slot_destination, WentAs};
 
 use mr_history::{OpId, is_same_op};
 use mr_phases::Side;
@@ -27,18 +27,6 @@ fn destination_of(sheet: &LegSheet) -> Destination
         hop: sheet.hop,
         side: sheet.side,
         node: sheet.node,
-    }
-}
-
-/// The most legs that a request may have: a get has one for each key, a set has one, and a delete one for each side.
-pub(crate) fn most_legs(request: &Request) -> usize
-    ensures { result ≡ most_legs request.now }
-{
-    match request {
-        Request::Get { keys } => keys.as_slice().len(),
-        Request::Set { .. } => 1,
-        Request::Delete { .. } => 2,
-        Request::Quit => 0,
     }
 }
 

@@ -5,13 +5,13 @@ ghost use Rattle.mr_text.specs.declared.request.Request.{Request};
 ghost use Rattle.mr_node.specs.Output.{is_silent, IsServed};
 ghost use Rattle.mr_node.specs.Session.{station, ReadsWithin, SpendsTurns, OneReadFailed, NoReadFailed, LastWriteFailed, NoWriteFailed};
 ghost use Rattle.mr_proxy.specs.Answer.{reply_of};
+ghost use Rattle.mr_proxy.specs.Sheets.{legs_of};
 ghost use Rattle.mr_desks.specs.declared.desk_error.DeskError.{DeskError};
 ghost use Rattle.mr_sessions.specs.Account.{account};
 ghost use Rattle.mr_sessions.specs.Asking.{desk_rules};
 ghost use Rattle.mr_sessions.specs.ClientSession.{ClientSessionIs, FewAreGivenUp, unanswered_count};
 ghost use Rattle.mr_sessions.specs.steps.ClientCounts.{ClientCounts};
 ghost use Rattle.mr_sessions.specs.steps.ClientStep.{AskedSo, AnsweredSo, RefusalToldSo, ClientRefusalIs, ClientRequestIs, ClientStepIs};
-ghost use Rattle.mr_sessions.specs.steps.Destinations.{most_legs};
 ghost use Rattle.mr_sessions.specs.steps.Standing.{standing};
 
 use crate::carrying::carry_request;
@@ -80,7 +80,7 @@ fn ask<C: Carrier, D: Desk<C>, K: Clock, W: Sink, L: Carriers<C>, R: Wait>(
     request: &Request,
 ) -> Result<(), WorkerError>
     requires asks { request.now ≢ Request.Quit }
-    requires legs { most_legs request.now ≤ vec_capacity log.old.destinations }
+    requires legs { legs_of request.now 2 ≤ vec_capacity log.old.destinations }
     requires answer { D.recorded ≡ true → length log.old.answers.items + 1 ≤ vec_capacity log.old.answers }
     ensures { AskedSo (desk_rules K.reads K.failures C.gave D.recorded)
         (standing clock.old log.old (L.told carriers.old) (W.told writer.old))

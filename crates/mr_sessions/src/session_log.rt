@@ -1,13 +1,17 @@
 //! What a session keeps of its own while it runs.
 ghost use Rattle.std.specs.Prelude.{◌≡◌, ◌≤◌, ◌+◌, true, length, map, OnOk, vec_capacity};
+ghost use Rattle.mr_proxy.specs.Sheets.{legs_of};
 ghost use Rattle.mr_sessions.specs.Account.{kept_with};
-ghost use Rattle.mr_sessions.specs.steps.Destinations.{most_legs, destination_of};
+ghost use Rattle.mr_sessions.specs.steps.Destinations.{destination_of};
 
-use crate::destinations::{Destination, most_legs, note_destinations};
+use crate::destinations::{Destination, note_destinations};
 use mr_desks::Share;
-use mr_proxy::{Answer, Leg};
+use mr_proxy::{Answer, Leg, legs_of};
 use mr_text::{FixedBuffer, Request};
 use std::alloc::AllocError;
+
+/// The most sides that a delete goes to.
+const SIDES: usize = 2;
 
 /// What a session that runs keeps: the answers that it took so far, the counts of what it issued and sent, where the legs of
 /// its last request went, and the buffer by which it reads and writes.
@@ -30,12 +34,12 @@ impl SessionLog {
     pub(crate) fn make_room(&mut self, recorded: bool, request: &Request) -> Result<(), AllocError>
         ensures share { self.new.share ≡ self.old.share }
         ensures answers { self.new.answers.items ≡ self.old.answers.items }
-        ensures legs { OnOk result (most_legs request.now ≤ vec_capacity self.new.destinations) }
+        ensures legs { OnOk result (legs_of request.now 2 ≤ vec_capacity self.new.destinations) }
         ensures answer { OnOk result (recorded ≡ true
             → length self.new.answers.items + 1 ≤ vec_capacity self.new.answers) }
     {
         self.destinations.clear();
-        self.destinations.reserve(most_legs(request))?;
+        self.destinations.reserve(legs_of(request, SIDES))?;
         if recorded {
             self.answers.reserve(1)?;
         }

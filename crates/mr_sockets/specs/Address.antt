@@ -48,10 +48,6 @@ GivesNodeAddresses [] (given ∷ others) = ⊥
 GivesNodeAddresses (name ∷ names) [] = ⊥
 GivesNodeAddresses (name ∷ names) (given ∷ others) = GivesNodeAddress name given × GivesNodeAddresses names others
 
--- there is an address that the text is, and one that the name is
-abbrev pub HasAddress : List ℕ → Type 0
-HasAddress text = (address : SocketAddrV4) × IsAddress text address
-
 -- the name is the address of a node
 abbrev pub HasNodeAddress : List ℕ → Type 0
 HasNodeAddress name = (address : SocketAddrV4) × IsNodeAddress name address

@@ -8,10 +8,6 @@ pub record ListenerView : Type 0 where
   -- how often none could be accepted
   pub failures : ℕ
 
--- a listener from which nothing was accepted yet
-abbrev pub fresh_listener : ListenerView
-fresh_listener = record { accepted = 0; failures = 0 }
-
 -- one connection more was accepted
 abbrev pub accepted_one : ListenerView → ListenerView
 accepted_one l = record l { accepted = l.accepted + 1 }

@@ -13,6 +13,7 @@ mod listener;
 mod listening;
 mod node_service;
 mod patience;
+mod patient_writer;
 mod proxy_service;
 mod runs;
 mod seeded_node;

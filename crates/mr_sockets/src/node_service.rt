@@ -6,6 +6,7 @@ ghost use Rattle.mr_sockets.specs.Serving.{NodeServing, run};
 use crate::bounds::ServiceBounds;
 use crate::connections::{Service, serve_connections};
 use crate::listener::{Listener, OverListener};
+use crate::patient_writer::PatientWriter;
 use crate::runs::GhostRuns;
 use crate::seeded_node::SeededNode;
 use mr_clock::{Clock, SystemClock};
@@ -26,6 +27,7 @@ struct NodeService<'a, K: Clock + Clone, R: Wait> {
     node: &'a SharedNode,
     began: &'a Option<Snapshot<SeededNode>>,
     turns: u64,
+    client_seconds: u64,
     clock: &'a K,
 }
 
@@ -37,6 +39,7 @@ impl<'a, K: Clock + Clone, R: Wait> Drop for NodeService<'a, K, R> {
             node: _,
             began: _,
             turns: _,
+            client_seconds: _,
             clock: _,
         } = self;
     }
@@ -70,7 +73,7 @@ impl<'a, K: Clock + Clone, R: Wait> Service for NodeService<'a, K, R> {
             return false;
         };
         let mut reader = OverReader::new(stream);
-        let mut writer = OverWriter::new(stream);
+        let mut writer = OverWriter::new(PatientWriter::new(stream, self.client_seconds));
         self.serve_stream(&mut clock, &mut reader, &mut writer)
             .is_ok()
     }
@@ -106,6 +109,7 @@ pub fn serve_node<
         node,
         began: &began,
         turns,
+        client_seconds: 0,
         clock,
     };
     let mut runs = GhostRuns::new();
@@ -141,6 +145,7 @@ pub fn run_node<R: Threads + Wait + time::Clock + Sync>(
         node: &node,
         began: &began,
         turns: bounds.turns,
+        client_seconds: bounds.patience.client_seconds,
         clock: &clock,
     };
     let (_, served) = serve_connections(rt, listener, &service, bounds.clients, runs);

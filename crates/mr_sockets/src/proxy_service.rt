@@ -10,6 +10,7 @@ use crate::carriers::node_carriers;
 use crate::connections::{Service, serve_connections};
 use crate::listener::{Listener, OverListener};
 use crate::patience::{Patience, leg_wait};
+use crate::patient_writer::PatientWriter;
 use crate::runs::GhostRuns;
 use crate::socket_carrier::SocketCarrier;
 use mr_clock::{Clock, SystemClock};
@@ -34,6 +35,7 @@ struct ProxyService<'a, N: Net + Copy, D: Desk<SocketCarrier<N>>, K: Clock + Clo
     began: &'a Option<Snapshot<ProxyCore>>,
     routing: &'a Routing,
     turns: u64,
+    client_seconds: u64,
     leg_millis: u64,
     clock: &'a K,
 }
@@ -49,6 +51,7 @@ impl<'a, N: Net + Copy, D: Desk<SocketCarrier<N>>, K: Clock + Clone, R: Wait> Dr
             began: _,
             routing: _,
             turns: _,
+            client_seconds: _,
             leg_millis: _,
             clock: _,
         } = self;
@@ -97,7 +100,7 @@ impl<'a, N: Net + Copy, D: Desk<SocketCarrier<N>>, K: Clock + Clone, R: Wait> Se
         };
         let mut carriers = DirectCarriers::new(self.alloc, pools);
         let mut reader = OverReader::new(stream);
-        let mut writer = OverWriter::new(stream);
+        let mut writer = OverWriter::new(PatientWriter::new(stream, self.client_seconds));
         self.serve_stream(&mut clock, &mut reader, &mut writer, &mut carriers)
             .ended
             .is_ok()
@@ -136,6 +139,7 @@ fn serve_desk<
         began,
         routing,
         turns: bounds.turns,
+        client_seconds: bounds.patience.client_seconds,
         leg_millis: bounds.patience.leg_millis,
         clock,
     };

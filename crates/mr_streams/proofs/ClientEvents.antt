@@ -1,27 +1,28 @@
--- What a client sends.
-use Rattle.std.proofs.Common.{◌≡◌, ℕ, inl, inr, List, [], ◌++◌, map, slice_set, refl, sym, ap, ◌∙◌, subst}
+-- What a client sends, and all that a proxy does.
+use Rattle.std.proofs.Common.{◌≡◌, ℕ, inl, inr, List, [], ◌++◌, length, map, slice_set, refl, sym, ap, ◌∙◌, subst}
 use Rattle.std.proofs.lemmas.List.{set-set}
 use Rattle.mr_history.specs.Places.{At}
 use Rattle.mr_history.specs.declared.entry.Entry.{Entry}
 use Rattle.mr_loop.specs.Asking.{AsksOn}
-use Rattle.mr_loop.specs.LoopView.{LoopView, TakesPiece, asker_of}
+use Rattle.mr_loop.specs.LoopView.{LoopView, ClientBytes, ClientEnds, TakesPiece, asker_of}
 use Rattle.mr_loop.specs.declared.asker.Asker.{Asker}
 use Rattle.mr_loop.specs.declared.asking.Pause.{Pause}
-use Rattle.mr_loop.specs.declared.counts.ClientCounts.{ClientCounts}
+use Rattle.mr_counting.specs.declared.client_counts.ClientCounts.{ClientCounts}
 use Rattle.mr_loop.specs.declared.inbox.Inbox.{Inbox}
 use Rattle.mr_loop.specs.declared.link.Link.{Link}
 use Rattle.mr_loop.specs.Events.{FrontView}
 use Rattle.mr_world.specs.WorldView.{WorldView}
 use Rattle.mr_streams.specs.Entries.{issued_in}
-use Rattle.mr_streams.specs.Steps.{ClientSends, ClientStops, left_if_down, with_loop, with_visit, with_entries}
-use Rattle.mr_streams.specs.StreamsView.{StreamsView}
+use Rattle.mr_streams.specs.Steps.{ProxyDoes, left_if_down, with_loop, with_entries}
+use Rattle.mr_streams.specs.StreamsView.{StreamsView, Visit}
 use Rattle.mr_streams.proofs.Asking.{asks_run}
 use Rattle.mr_streams.proofs.Connecting.{runs_behind}
 use Rattle.mr_streams.proofs.Fronts.{front_stays}
 use Rattle.mr_streams.proofs.Legal.{stops}
 use Rattle.mr_streams.proofs.Lists.{at_set, at_written}
-use Rattle.mr_streams.proofs.LoopEvents.{all_same}
-use Rattle.mr_streams.proofs.LoopMoves.{with_parts, core_there, own_links, moves_quietly, runs_in, runs_visited}
+use Rattle.mr_streams.proofs.LinkEvents.{restarted, answers}
+use Rattle.mr_streams.proofs.LoopEvents.{all_same, dialed, broken, tick, touched, refreshed_runs, place_added, hears}
+use Rattle.mr_streams.proofs.LoopMoves.{with_parts, core_there, own_links, moves_quietly, runs_in, no_gains}
 use Rattle.mr_streams.proofs.Mirrors.{MirrorsStreams, AreLegal, IsLegalInput, RunsTo}
 use Rattle.mr_streams.proofs.Placing.{SheetLaws}
 
@@ -65,24 +66,38 @@ takes_held : (piece : List ℕ) (old new : Inbox) → TakesPiece piece old new �
 takes_held piece old new (inl takes) = ap (λ (i : Inbox). i.held) takes.3
 takes_held piece old new (inr takes) = ap (λ (i : Inbox). i.held) takes.2
 
-pub client_sends : SheetLaws → (w : WorldView) (s s' : StreamsView) (p client now : ℕ) (piece : List ℕ) → MirrorsStreams w s → ClientSends s p client now piece s' → RunsTo w [] s'
-client_sends laws w s s' p client now piece m h =
-    let l = h.step in
-    let loop = h.loop in
-    let asker : Asker = asker_of loop client h.reading now in
-    let explicit : LoopView = asked_of laws w s p client loop asker h.pause l.fed l.inbox' l.front' l.links' l.counts' in
-    let legal : IsLegalInput l.fed.held = subst IsLegalInput (sym (takes_held piece l.inbox l.fed l.takes)) (m.legal p loop h.home client l.inbox (record { gets = l.there })) in
-    runs_in w [] _ s' (h.becomes ∙ ap (λ x. with_entries (issued_in l.asks.did) (with_visit p client (record h.visit { sent = h.visit.sent ++ piece }) (with_loop p x s))) l.becomes)
-    (runs_visited w [] (with_entries (issued_in l.asks.did) (with_loop p explicit s)) _
-    (asks_on laws w s p client loop asker h.pause l.fed l.inbox' l.front' l.links' l.counts' m h.home h.clock legal l.asks))
+client_sends : SheetLaws → (w : WorldView) (s : StreamsView) (p client reading now : ℕ) (piece : List ℕ) (loop loop' : LoopView) (pause : Pause) → MirrorsStreams w s → At s.loops p loop
+    → At s.readings.standing p reading → (step : ClientBytes (asker_of loop client reading now) piece loop pause loop') → RunsTo w [] (with_entries (issued_in step.asks.did) (with_loop p loop' s))
+client_sends laws w s p client reading now piece loop loop' pause m home clock l =
+    let asker : Asker = asker_of loop client reading now in
+    let legal : IsLegalInput l.fed.held = subst IsLegalInput (sym (takes_held piece l.inbox l.fed l.takes)) (m.legal p loop home client l.inbox (record { gets = l.there })) in
+    runs_in w [] _ _ (ap (λ x. with_entries (issued_in l.asks.did) (with_loop p x s)) l.becomes)
+    (asks_on laws w s p client loop asker pause l.fed l.inbox' l.front' l.links' l.counts' m home clock legal l.asks)
 
-pub client_stops : SheetLaws → (w : WorldView) (s s' : StreamsView) (p client now : ℕ) → MirrorsStreams w s → ClientStops s p client now s' → RunsTo w [] s'
-client_stops laws w s s' p client now m h =
-    let l = h.step in
-    let loop = h.loop in
-    let asker : Asker = asker_of loop client h.reading now in
-    let explicit : LoopView = asked_of laws w s p client loop asker h.pause l.ended l.inbox' l.front' l.links' l.counts' in
+client_stops : SheetLaws → (w : WorldView) (s : StreamsView) (p client reading now : ℕ) (loop loop' : LoopView) (pause : Pause) → MirrorsStreams w s → At s.loops p loop
+    → At s.readings.standing p reading → (step : ClientEnds (asker_of loop client reading now) loop pause loop') → RunsTo w [] (with_entries (issued_in step.asks.did) (with_loop p loop' s))
+client_stops laws w s p client reading now loop loop' pause m home clock l =
+    let asker : Asker = asker_of loop client reading now in
     let legal : IsLegalInput l.ended.held =
-    subst IsLegalInput (sym (ap (λ (i : Inbox). i.held) l.ends.becomes)) (m.legal p loop h.home client l.inbox (record { gets = l.there })) in
-    runs_in w [] _ s' (h.becomes ∙ ap (λ x. with_entries (issued_in l.asks.did) (with_loop p x s)) l.becomes)
-    (asks_on laws w s p client loop asker h.pause l.ended l.inbox' l.front' l.links' l.counts' m h.home h.clock legal l.asks)
+    subst IsLegalInput (sym (ap (λ (i : Inbox). i.held) l.ends.becomes)) (m.legal p loop home client l.inbox (record { gets = l.there })) in
+    runs_in w [] _ _ (ap (λ x. with_entries (issued_in l.asks.did) (with_loop p x s)) l.becomes)
+    (asks_on laws w s p client loop asker pause l.ended l.inbox' l.front' l.links' l.counts' m home clock legal l.asks)
+
+-- a proxy does something by itself or for its clients
+pub proxy_runs : SheetLaws → (w : WorldView) (s : StreamsView) (p reading : ℕ) (loop loop' : LoopView) (visits visits' : List Visit) (gains : List Entry) → MirrorsStreams w s
+    → At s.readings.standing p reading → At s.loops p loop → ProxyDoes reading loop visits loop' visits' gains → RunsTo w [] (with_entries gains (with_loop p loop' s))
+proxy_runs laws w s p reading loop loop' visits visits' gains m clock home (ProxyDoes.dials link step) = no_gains w _ (dialed w s p link loop loop' m home step)
+proxy_runs laws w s p reading loop loop' visits visits' gains m clock home (ProxyDoes.breaks link now step) = no_gains w _ (broken w s p link now loop loop' m home step)
+proxy_runs laws w s p reading loop loop' visits visits' gains m clock home (ProxyDoes.waits now) = no_gains w _ (tick w s p now loop m home)
+proxy_runs laws w s p reading loop loop' visits visits' gains m clock home (ProxyDoes.looks place step) = no_gains w _ (touched w s p place loop loop' m home step)
+proxy_runs laws w s p reading loop loop' visits visits' gains m clock home (ProxyDoes.restarts not_last) = no_gains w _ (restarted w s p loop m home not_last)
+proxy_runs laws w s p reading loop loop' visits visits' gains m clock home ProxyDoes.adds_place = no_gains w _ (place_added w s p loop m home)
+proxy_runs laws w s p reading loop loop' visits visits' gains m clock home (ProxyDoes.comes client) = no_gains w _ (refreshed_runs w s p client loop loop' m home refl refl refl refl)
+proxy_runs laws w s p reading loop loop' visits visits' gains m clock home (ProxyDoes.goes client) = no_gains w _ (refreshed_runs w s p client loop loop' m home refl refl refl refl)
+proxy_runs laws w s p reading loop loop' visits visits' gains m clock home (ProxyDoes.hears {pause = pause} client now piece is_visit step) =
+    client_sends laws w s p client reading now piece loop loop' pause m home clock step
+proxy_runs laws w s p reading loop loop' visits visits' gains m clock home (ProxyDoes.hears_end {pause = pause} client now step) =
+    client_stops laws w s p client reading now loop loop' pause m home clock step
+proxy_runs laws w s p reading loop loop' visits visits' gains m clock home (ProxyDoes.answers client is_visit step) = answers w s p client loop loop' m home step
+proxy_runs laws w s p reading loop loop' visits visits' gains m clock home (ProxyDoes.tells client piece rest is_visit splits step) =
+    no_gains w _ (hears w s p client (length piece) loop loop' m home step)

@@ -1,5 +1,5 @@
 -- A connection is made.
-use Rattle.std.proofs.Common.{◌≡◌, ◌≢◌, ℕ, ◌==◌, ◌&&◌, inl, inr, Bool, true, false, List, [], ◌∷◌, ◌++◌, map, slice_set, get_or, Some, if◌then◌else◌, refl, sym, ap, ◌∙◌, subst, eq-eqb}
+use Rattle.std.proofs.Common.{◌≡◌, ◌≢◌, ℕ, ◌<◌, ◌==◌, ◌&&◌, inl, inr, Bool, true, false, List, [], ◌∷◌, ◌++◌, map, slice_set, length, get_or, Some, if◌then◌else◌, refl, sym, ap, ◌∙◌, subst, eq-eqb}
 use Rattle.std.proofs.lemmas.List.{map-set}
 use Rattle.std.proofs.lemmas.Option.{slice_get-get_or}
 use Rattle.mr_clock.specs.Readings.{Tick}
@@ -17,7 +17,7 @@ use Rattle.mr_world.specs.declared.message.Delivery.{Delivery}
 use Rattle.mr_world.specs.declared.message.Message.{Message}
 use Rattle.mr_streams.specs.Fleet.{ticks_of}
 use Rattle.mr_streams.specs.OneNode.{holding}
-use Rattle.mr_streams.specs.Steps.{Connects, left_over, fresh_connection, names_of, with_node}
+use Rattle.mr_streams.specs.Steps.{left_over, fresh_connection, names_of, with_node}
 use Rattle.mr_streams.specs.StreamsView.{StreamsView, NodeEnd, Connection, cores_of, world_nodes}
 use Rattle.mr_streams.proofs.Changing.{IsLike, made_mirrors, same_like, here_elsewhere}
 use Rattle.mr_streams.proofs.Lists.{at_map, at_mapped, at_written, at_elsewhere, at_one, same_or_not, written_back}
@@ -129,32 +129,35 @@ module _ (s : StreamsView) (p node place : ℕ) (end : NodeEnd) (connections : L
       (m.mirrors.flows i c k))
 
 -- a connection is made
-pub connects : (w : WorldView) (s s' : StreamsView) (p link place now : ℕ) → MirrorsStreams w s → Connects s p link place now s' → RunsTo w [] s'
-connects w s s' p link place now m h =
-    let l = h.step in
-    let loop = h.loop in
-    let node : ℕ = h.node in
-    let end = h.end in
+pub connects : (w : WorldView) (s : StreamsView) (p link node place now : ℕ) (loop loop' : LoopView) (end : NodeEnd) → MirrorsStreams w s → At s.loops p loop → LinkComesUp link now loop loop'
+    → At s.nodes node end → At (names_of loop.front.core.routing) link end.name → place < length end.loop.clients
+    → ((i : ℕ) (c : Connection) → At s.connections i c → c.node ≡ node → c.place ≢ Some place)
+    → RunsTo w [] (record (with_node node end (after_node_coming place end.loop) s) {
+      loops = slice_set s.loops p loop';
+      connections = map (left_over p link) s.connections ++ fresh_connection p link node place ∷ [];
+    })
+connects w s p link node place now loop loop' end m home l there named within is_free =
+    let numbered : node ≡ node_number (world_nodes s.nodes) end.name = sym (m.mirrors.named node (holding end.name end.loop.cache) (node_there s node end there)) in
     let new : Link = up_link l.link'.counts in
     let explicit : LoopView = with_link loop l.front' link new in
     let connections : List Connection = map (left_over p link) s.connections in
     let s1 : StreamsView = with_parts s p explicit connections s.history in
-    let up : RunsTo w [] s1 = comes_up w s p link now loop h.loop' m h.home l in
+    let up : RunsTo w [] s1 = comes_up w s p link now loop loop' m home l in
     let free : (i : ℕ) (c : Connection) → At connections i c → c.node ≡ node → c.place ≢ Some place = λ i c k at_node at_place. (
     let old = at_map (left_over p link) s.connections k in
     let like : IsLike old.0 c = subst (λ x. IsLike old.0 x) (sym old.2) (over_like p link old.0) in
-    h.free i old.0 old.1 (sym like.node ∙ at_node) (like.place place at_place)) in
-    let loop_there : At s1.loops p explicit = at_written explicit h.home in
+    is_free i old.0 old.1 (sym like.node ∙ at_node) (like.place place at_place)) in
+    let loop_there : At s1.loops p explicit = at_written explicit home in
     let s2 : StreamsView = with_node_parts s1 node end (after_node_coming place end.loop) connections s.history in
-    let seated : RunsTo up.world [] s2 = comes_in s1 p node place end connections up.world up.mirrors h.there refl free in
+    let seated : RunsTo up.world [] s2 = comes_in s1 p node place end connections up.world up.mirrors there refl free in
     let m2 = seated.mirrors in
     let w2 : WorldView = seated.world in
     let c : Connection = fresh_connection p link node place in
     let end' : NodeEnd = record end { loop = after_node_coming place end.loop } in
-    let end_there : At s2.nodes node end' = at_written end' h.there in
+    let end_there : At s2.nodes node end' = at_written end' there in
     let link_there : At explicit.links link new = at_written new (let t : At loop.links link l.link = record { gets = l.there } in t) in
     let client_there : At end.loop.clients place (get_or end.loop.clients place fresh_node_client) =
-    record { gets = slice_get-get_or end.loop.clients place fresh_node_client h.place_there } in
+    record { gets = slice_get-get_or end.loop.clients place fresh_node_client within } in
     let flow : FlowsOf w2.sent w2.replies (lines_of s2.loops) (seats_of s2.nodes) c = record {
       returning = [];
       going = [];
@@ -187,19 +190,19 @@ connects w s s' p link place now m h =
             reads_on = λ _. record { not_closed = refl; ended = λ e. absurd (let no : false ≡ true = e in cc) };
           });
     } in
-    let front = breaks_run now l.link l.link' loop.front l.front' w p (core_there w s p loop m h.home)
-    (own_links w s p loop m h.home link l.link (record { gets = l.there })) l.breaks in
-    let kin = front.so.kin loop.front.core (core_there w s p loop m h.home) in
+    let front = breaks_run now l.link l.link' loop.front l.front' w p (core_there w s p loop m home)
+    (own_links w s p loop m home link l.link (record { gets = l.there })) l.breaks in
+    let kin = front.so.kin loop.front.core (core_there w s p loop m home) in
     let names : world_nodes s2.nodes ≡ world_nodes s.nodes =
-    map-set (λ (x : NodeEnd). holding x.name x.loop.cache) s.nodes node end' ∙ written_back (node_there s node end h.there) in
-    let home : IsAtHome (cores_of s2.loops) (world_nodes s2.nodes) c = record {
+    map-set (λ (x : NodeEnd). holding x.name x.loop.cache) s.nodes node end' ∙ written_back (node_there s node end there) in
+    let at_home : IsAtHome (cores_of s2.loops) (world_nodes s2.nodes) c = record {
       core = l.front'.core;
       name = end.name;
       home = at_mapped (λ (x : LoopView). x.front.core) loop_there;
-      named = subst (λ r. At (names_of r) link end.name) (sym kin.routing) h.named;
-      numbered = h.numbered ∙ ap (λ x. node_number x end.name) (sym names);
+      named = subst (λ r. At (names_of r) link end.name) (sym kin.routing) named;
+      numbered = numbered ∙ ap (λ x. node_number x end.name) (sym names);
     } in
-    let made = made_mirrors w2 s2.readings (cores_of s2.loops) (lines_of s2.loops) (world_nodes s2.nodes) (seats_of s2.nodes) connections s.history c m2.mirrors flow home
+    let made = made_mirrors w2 s2.readings (cores_of s2.loops) (lines_of s2.loops) (world_nodes s2.nodes) (seats_of s2.nodes) connections s.history c m2.mirrors flow at_home
     (λ i d k here same_proxy same_link. (
     let old = at_map (left_over p link) s.connections k in
     over_or_not (λ x. x.is_left ≡ false → x.proxy ≡ p → x.link ≡ link → ⊥) p link old.0 (λ e _ _. (let no : true ≡ false = e in cc)) (λ other _ a b. other a b)
@@ -213,7 +216,7 @@ connects w s s' p link place now m h =
       ticks_are = seated.ticks_are;
       mirrors = record { mirrors = made; known = m2.known; legal = m2.legal };
     } in
-    runs_in w [] s3 s' (h.becomes ∙ ap (λ x. record (with_node node end (after_node_coming place end.loop) s) {
+    runs_in w [] s3 _ (ap (λ x. record (with_node node end (after_node_coming place end.loop) s) {
       loops = slice_set s.loops p x;
       connections = connections ++ c ∷ [];
     }) l.becomes)

@@ -1,10 +1,11 @@
 -- A node's exchanges are messages that are delivered, in their order.
-use Rattle.std.proofs.Common.{◌≡◌, ℕ, inl, inr, List, [], ◌∷◌, ◌++◌, length, slice_set, refl, sym, ap, ◌∙◌, subst, append_assoc}
+use Rattle.std.proofs.Common.{◌≡◌, ℕ, inl, inr, List, [], ◌∷◌, ◌++◌, length, slice_set, flat_map, refl, sym, ap, ◌∙◌, subst, append_assoc}
 use Rattle.std.proofs.lemmas.List.{append-nil, set-set}
 use Rattle.mr_text.specs.Canonical.{canonical_reply}
 use Rattle.mr_text.specs.declared.reply.Reply.{Reply}
 use Rattle.mr_text.specs.declared.reply.Reply.TheVariants.{Items, Stored, Deleted, NotFound, Error, ClientError, ServerError}
 use Rattle.mr_history.specs.Places.{At}
+use Rattle.mr_history.specs.declared.entry.Author.{Author}
 use Rattle.mr_history.specs.declared.entry.Author.TheVariants.{By}
 use Rattle.mr_history.specs.declared.entry.Entry.{Entry}
 use Rattle.mr_join.specs.declared.leg_reply.LegReply.{LegReply}
@@ -24,7 +25,7 @@ use Rattle.mr_world.specs.declared.event.Event.TheVariants.{Deliver}
 use Rattle.mr_world.specs.declared.message.Delivery.{Delivery}
 use Rattle.mr_world.specs.declared.message.Message.{Message}
 use Rattle.mr_world.specs.declared.note.Note.TheVariants as note
-use Rattle.mr_streams.specs.Entries.{StoresOnce, StoresAll}
+use Rattle.mr_streams.specs.Entries.{stored_by}
 use Rattle.mr_streams.specs.Fleet.{FleetEvent, ticks_of}
 use Rattle.mr_streams.specs.Flows.{AreReplies, AreRequests, IsError, IsGoing, WasAnswered}
 use Rattle.mr_streams.specs.Kept.{AreTellable}
@@ -132,37 +133,37 @@ tells_nothing w heard gains e t =
     subst (λ x. Tells x (heard ++ gains)) (sym (append-nil w)) (subst (λ g. Tells w (heard ++ g)) (sym e) (subst (λ x. Tells w x) (sym (append-nil heard)) t))
 
 -- what a node did is told of in both histories
-tells_done : (w heard first : List Entry) (sheet : LegSheet) (command : NodeCommand) (told : Reply) (said : LegReply)
-    → StoresOnce (Asked (request_for command) told) first → IsAnswer command told said → (IsError told → ⊥)
+tells_done : (by : Author) (w heard first : List Entry) (sheet : LegSheet) (command : NodeCommand) (told : Reply) (said : LegReply)
+    → first ≡ stored_by by (Asked (request_for command) told) → IsAnswer command told said → (IsError told → ⊥)
     → Tells w heard → Tells (w ++ performed sheet command) (heard ++ first)
-tells_done w heard first sheet (Get key) told said gains answers fine t = tells_nothing w heard first gains t
-tells_done w heard first sheet (Set key flags exptime block) Stored said gains answers fine t =
-    subst (λ g. Tells (w ++ performed sheet (Set key flags exptime block)) (heard ++ g)) (sym gains.1) (Tells.stores (By sheet.id.op) gains.0 key flags block t)
-tells_done w heard first sheet (Set key flags exptime block) (Items items) said gains answers fine t = absurd answers
-tells_done w heard first sheet (Set key flags exptime block) Deleted said gains answers fine t = absurd answers
-tells_done w heard first sheet (Set key flags exptime block) NotFound said gains answers fine t = absurd answers
-tells_done w heard first sheet (Set key flags exptime block) Error said gains answers fine t = absurd (fine tt)
-tells_done w heard first sheet (Set key flags exptime block) (ClientError cause) said gains answers fine t = absurd (fine tt)
-tells_done w heard first sheet (Set key flags exptime block) (ServerError cause) said gains answers fine t = absurd (fine tt)
-tells_done w heard first sheet (Delete key) told said gains answers fine t =
+tells_done by w heard first sheet (Get key) told said gains answers fine t = tells_nothing w heard first gains t
+tells_done by w heard first sheet (Set key flags exptime block) Stored said gains answers fine t =
+    subst (λ g. Tells (w ++ performed sheet (Set key flags exptime block)) (heard ++ g)) (sym gains) (Tells.stores (By sheet.id.op) by key flags block t)
+tells_done by w heard first sheet (Set key flags exptime block) (Items items) said gains answers fine t = absurd answers
+tells_done by w heard first sheet (Set key flags exptime block) Deleted said gains answers fine t = absurd answers
+tells_done by w heard first sheet (Set key flags exptime block) NotFound said gains answers fine t = absurd answers
+tells_done by w heard first sheet (Set key flags exptime block) Error said gains answers fine t = absurd (fine tt)
+tells_done by w heard first sheet (Set key flags exptime block) (ClientError cause) said gains answers fine t = absurd (fine tt)
+tells_done by w heard first sheet (Set key flags exptime block) (ServerError cause) said gains answers fine t = absurd (fine tt)
+tells_done by w heard first sheet (Delete key) told said gains answers fine t =
     subst (λ x. Tells (w ++ performed sheet (Delete key)) x) (sym (ap (λ g. heard ++ g) gains ∙ append-nil heard)) (Tells.removes sheet.id.op sheet.side key t)
 
 -- an error stores nothing
-stores_none : (first : List Entry) (command : NodeCommand) (told : Reply) → StoresOnce (Asked (request_for command) told) first → IsError told → first ≡ []
-stores_none first (Get key) told gains error = gains
-stores_none first (Set key flags exptime block) (Items items) gains error = absurd error
-stores_none first (Set key flags exptime block) Stored gains error = absurd error
-stores_none first (Set key flags exptime block) Deleted gains error = absurd error
-stores_none first (Set key flags exptime block) NotFound gains error = absurd error
-stores_none first (Set key flags exptime block) Error gains error = gains
-stores_none first (Set key flags exptime block) (ClientError cause) gains error = gains
-stores_none first (Set key flags exptime block) (ServerError cause) gains error = gains
-stores_none first (Delete key) told gains error = gains
+stores_none : (by : Author) (first : List Entry) (command : NodeCommand) (told : Reply) → first ≡ stored_by by (Asked (request_for command) told) → IsError told → first ≡ []
+stores_none by first (Get key) told gains error = gains
+stores_none by first (Set key flags exptime block) (Items items) gains error = absurd error
+stores_none by first (Set key flags exptime block) Stored gains error = absurd error
+stores_none by first (Set key flags exptime block) Deleted gains error = absurd error
+stores_none by first (Set key flags exptime block) NotFound gains error = absurd error
+stores_none by first (Set key flags exptime block) Error gains error = gains
+stores_none by first (Set key flags exptime block) (ClientError cause) gains error = gains
+stores_none by first (Set key flags exptime block) (ServerError cause) gains error = gains
+stores_none by first (Delete key) told gains error = gains
 
-tells_looked : (w heard first : List Entry) (sheet : LegSheet) (command : NodeCommand) (key : List ℕ) (told : Reply) → command ≡ Get key
-    → StoresOnce (Asked (request_for command) told) first → IsError told → Tells w heard → Tells (w ++ performed sheet command) (heard ++ first)
-tells_looked w heard first sheet command key told e gains error t =
-    subst (λ c. Tells (w ++ performed sheet c) (heard ++ first)) (sym e) (tells_nothing w heard first (stores_none first command told gains error) t)
+tells_looked : (by : Author) (w heard first : List Entry) (sheet : LegSheet) (command : NodeCommand) (key : List ℕ) (told : Reply) → command ≡ Get key
+    → first ≡ stored_by by (Asked (request_for command) told) → IsError told → Tells w heard → Tells (w ++ performed sheet command) (heard ++ first)
+tells_looked by w heard first sheet command key told e gains error t =
+    subst (λ c. Tells (w ++ performed sheet c) (heard ++ first)) (sym e) (tells_nothing w heard first (stores_none by first command told gains error) t)
 
 -- one message is delivered
 delivered : (w : WorldView) (number reading : ℕ) (name : List ℕ) (old new : CacheView) (sent : SentLeg) (said : LegReply) (heard heard' : List Entry)
@@ -212,18 +213,18 @@ record ServedOne (messages : List Message) (deliveries : List Delivery) (w : Wor
   so : ServesSo w number name new heard heard'
   was : WasAnswered messages (deliveries ++ so.more) sent told
 
-serve_one : (messages : List Message) (deliveries : List Delivery) (w : WorldView) (number reading : ℕ) (name : List ℕ) (old new : CacheView) (sent : SentLeg) (told : Reply) (heard first : List Entry)
+serve_one : (by : Author) (messages : List Message) (deliveries : List Delivery) (w : WorldView) (number reading : ℕ) (name : List ℕ) (old new : CacheView) (sent : SentLeg) (told : Reply) (heard first : List Entry)
     → w.sent ≡ messages → w.replies ≡ deliveries → At w.nodes number (holding name old) → IsGoing messages number sent
-    → Performs old reading sent.leg.command told new → StoresOnce (Asked (request_for sent.leg.command) told) first
+    → Performs old reading sent.leg.command told new → first ≡ stored_by by (Asked (request_for sent.leg.command) told)
     → ServedOne messages deliveries w number name new sent told heard (heard ++ first)
 unfolding delivered
-serve_one messages deliveries w number reading name old new sent told heard first ws wr there going (Performs.did said step answers fine) gains =
+serve_one by messages deliveries w number reading name old new sent told heard first ws wr there going (Performs.did said step answers fine) gains =
     let going' : IsGoing w.sent number sent = subst (λ m. IsGoing m number sent) (sym ws) going in
     let last : At (deliveries ++ record { message = going'.number; reply = said } ∷ []) (length deliveries) (record { message = going'.number; reply = said }) =
     at_new deliveries (record { message = going'.number; reply = said }) in
     record {
       so = delivered w number reading name old new sent said heard (heard ++ first) there going' step
-          (tells_done w.history heard first sent.leg sent.leg.command told said gains answers fine);
+          (tells_done by w.history heard first sent.leg sent.leg.command told said gains answers fine);
       was = inl (record {
         message = record { sheet = sent.leg; node = number };
         number = length deliveries;
@@ -235,14 +236,14 @@ serve_one messages deliveries w number reading name old new sent told heard firs
         answers = answers;
       });
     }
-serve_one messages deliveries w number reading name old new sent told heard first ws wr there going (Performs.looked key said get step error) gains =
+serve_one by messages deliveries w number reading name old new sent told heard first ws wr there going (Performs.looked key said get step error) gains =
     record {
       so = delivered w number reading name old new sent said heard (heard ++ first) there (subst (λ m. IsGoing m number sent) (sym ws) going) step
-          (tells_looked w.history heard first sent.leg sent.leg.command key told get gains error);
+          (tells_looked by w.history heard first sent.leg sent.leg.command key told get gains error);
       was = inr error;
     }
-serve_one messages deliveries w number reading name old new sent told heard first ws wr there going (Performs.failed same error) gains =
-    let none = stores_none first sent.leg.command told gains error in
+serve_one by messages deliveries w number reading name old new sent told heard first ws wr there going (Performs.failed same error) gains =
+    let none = stores_none by first sent.leg.command told gains error in
     record {
       so = serves_nothing w number name new heard (heard ++ first) (subst (λ c. At w.nodes number (holding name c)) (sym same) there)
           (ap (λ g. heard ++ g) none ∙ append-nil heard);
@@ -263,13 +264,13 @@ asked_so : (reading : ℕ) (old new : CacheView) (exchange : Exchange) (command 
     → AsksOnce node_does reading old exchange new → AsksOnce node_does reading old (Asked (request_for command) told) new
 asked_so reading old new exchange command told e h = subst (λ x. AsksOnce node_does reading old x new) e h
 
-pub serve_all : RequestLaws → (exchanges : List Exchange) (messages : List Message) (deliveries : List Delivery) (w : WorldView) (number reading : ℕ) (name : List ℕ) (old new : CacheView)
-    (going : List SentLeg) (bytes more : List ℕ) (heard gains : List Entry)
+pub serve_all : RequestLaws → (by : Author) (exchanges : List Exchange) (messages : List Message) (deliveries : List Delivery) (w : WorldView) (number reading : ℕ) (name : List ℕ) (old new : CacheView)
+    (going : List SentLeg) (bytes more : List ℕ) (heard : List Entry)
     → w.sent ≡ messages → w.replies ≡ deliveries → At w.nodes number (holding name old) → AreTellable old.items
-    → AsksAll reading old exchanges new → SpellsAll bytes exchanges → AreRequests messages number going (bytes ++ more) → StoresAll exchanges gains
-    → ServedAll messages deliveries w number name new going (output_of exchanges) more heard (heard ++ gains)
-serve_all laws [] messages deliveries w number reading name old new going bytes more heard gains ws wr there kept asks spells requests stores = record {
-  so = serves_nothing w number name new heard (heard ++ gains) (subst (λ c. At w.nodes number (holding name c)) (sym asks) there) (ap (λ g. heard ++ g) stores ∙ append-nil heard);
+    → AsksAll reading old exchanges new → SpellsAll bytes exchanges → AreRequests messages number going (bytes ++ more)
+    → ServedAll messages deliveries w number name new going (output_of exchanges) more heard (heard ++ flat_map (stored_by by) exchanges)
+serve_all laws by [] messages deliveries w number reading name old new going bytes more heard ws wr there kept asks spells requests = record {
+  so = serves_nothing w number name new heard (heard ++ []) (subst (λ c. At w.nodes number (holding name c)) (sym asks) there) (append-nil heard);
   answered = [];
   left = going;
   splits = refl;
@@ -277,24 +278,25 @@ serve_all laws [] messages deliveries w number reading name old new going bytes 
   requests = subst (λ b. AreRequests messages number going (b ++ more)) spells requests;
   kept = subst (λ c. AreTellable c.items) (sym asks) kept;
 }
-serve_all laws (exchange ∷ exchanges) messages deliveries w number reading name old new going bytes more heard gains ws wr there kept asks spells requests stores =
+serve_all laws by (exchange ∷ exchanges) messages deliveries w number reading name old new going bytes more heard ws wr there kept asks spells requests =
     let cut = subst (λ b. AreRequests messages number going b) (ap (λ b. b ++ more) spells.3 ∙ append_assoc spells.0 spells.1 more) requests in
     let is = first_exchange laws messages number going exchange spells.0 (spells.1 ++ more) spells.2 cut in
     let command : NodeCommand = is.sent.leg.command in
     let once = asked_so reading old asks.0 exchange command is.told is.asks asks.1 in
     let done = performed_for command old asks.0 reading once.0 is.told is.going.valid kept once.1 once.2 in
-    let first = serve_one messages deliveries w number reading name old asks.0 is.sent is.told heard stores.0 ws wr there is.going done.performs
-    (subst (λ x. StoresOnce x stores.0) is.asks stores.2) in
+    let gained : List Entry = stored_by by exchange in
+    let later : List Entry = flat_map (stored_by by) exchanges in
+    let first = serve_one by messages deliveries w number reading name old asks.0 is.sent is.told heard gained ws wr there is.going done.performs
+    (ap (λ x. stored_by by x) is.asks) in
     let so = first.so in
     let there' : At so.world.nodes number (holding name asks.0) = subst (λ n. At n number (holding name asks.0)) (sym so.nodes) (at_written (holding name asks.0) there) in
-    let next = serve_all laws exchanges messages (deliveries ++ so.more) so.world number reading name asks.0 new is.later spells.1 more (heard ++ stores.0) stores.1
-    (so.sent ∙ ws) (so.replies ∙ ap (λ r. r ++ so.more) wr) there' done.kept asks.2 spells.4 is.requests stores.3 in
+    let next = serve_all laws by exchanges messages (deliveries ++ so.more) so.world number reading name asks.0 new is.later spells.1 more (heard ++ gained)
+    (so.sent ∙ ws) (so.replies ∙ ap (λ r. r ++ so.more) wr) there' done.kept asks.2 spells.4 is.requests in
     let told : text_of_exchange exchange ≡ canonical_reply is.told = ap text_of_exchange is.asks ∙ text_told command is.told in
     let all = append_assoc deliveries so.more next.so.more in
-    let gained : (heard ++ stores.0) ++ stores.1 ≡ heard ++ gains = append_assoc heard stores.0 stores.1 ∙ ap (λ g. heard ++ g) (sym stores.4) in
     record {
-      so = serves_to w number name new heard ((heard ++ stores.0) ++ stores.1) (heard ++ gains) gained
-          (serves_on w number name asks.0 new heard (heard ++ stores.0) ((heard ++ stores.0) ++ stores.1) so next.so);
+      so = serves_to w number name new heard ((heard ++ gained) ++ later) (heard ++ (gained ++ later)) (append_assoc heard gained later)
+          (serves_on w number name asks.0 new heard (heard ++ gained) ((heard ++ gained) ++ later) so next.so);
       answered = is.sent ∷ next.answered;
       left = next.left;
       splits = is.legs_are ∙ ap (λ l. is.sent ∷ l) next.splits;

@@ -6,9 +6,11 @@ use Rattle.std.proofs.lemmas.Option.{slice_get-get_or}
 use Rattle.mr_text.specs.declared.reply.Reply.{Reply}
 use Rattle.mr_history.specs.OpIds.{is_same_op}
 use Rattle.mr_history.specs.Places.{At}
+use Rattle.mr_history.specs.declared.entry.Entry.{Entry}
 use Rattle.mr_history.specs.declared.op_id.OpId.{OpId}
 use Rattle.mr_proxy.specs.Answer.{AnswerView}
 use Rattle.mr_proxy.specs.Issue.{next_op}
+use Rattle.mr_proxy.specs.ProxyView.{ProxyView}
 use Rattle.mr_proxy.specs.Replay.{answer_at}
 use Rattle.mr_proxy.specs.declared.step.Step.TheVariants.{Issue, Take, GiveUp}
 use Rattle.mr_loop.specs.Events.{FrontView, Event, after_event, after_all, changed, changed_in, with_turn, with_answer, answered}
@@ -24,6 +26,7 @@ use Rattle.mr_loop.specs.declared.sent_legs.SentLeg.{SentLeg}
 use Rattle.mr_loop.specs.declared.turns.Turn.{Turn}
 use Rattle.mr_loop.specs.declared.turns.Turn.TheVariants.{Waits, Answered, Says}
 use Rattle.mr_streams.proofs.Lists.{at_set, at_mapped, written_back, same_or_not}
+use Rattle.mr_streams.proofs.Origins.{HasOrigins, EventIsAsked, AreAsked, all_happen}
 
 and_both : (a b : Bool) → (a && b) ≡ true → (a ≡ true) × (b ≡ true)
 and_both true b e = (refl, e)
@@ -234,21 +237,47 @@ quiet_takes (sent ∷ legs) [] events left h = subst AreQuiet (sym h.0) tt
 quiet_takes [] (reply ∷ replies) events left h = absurd h
 quiet_takes (sent ∷ legs) (reply ∷ replies) events left h = subst AreQuiet (sym h.3) (tt, quiet_takes legs replies h.1 left h.4)
 
--- nothing becomes due
-abbrev pub StaysDue : FrontView → FrontView → Type 0
-StaysDue old new = Grew old.clients (λ place. []) new.clients
+-- nothing becomes due, and all is of requests that were issued
+pub record StaysDue (old new : FrontView) : Type 0 where
+  pub grew : Grew old.clients (λ place. []) new.clients
+  pub origins : (history : List Entry) → HasOrigins history old → HasOrigins history new
+
+pub stays_none : (front : FrontView) → StaysDue front front
+stays_none front = record { grew = grew_none front.clients; origins = λ history h. h }
 
 pub stays_to : (old between new : FrontView) → new ≡ between → StaysDue old between → StaysDue old new
 stays_to old between new e h = subst (λ (f : FrontView). StaysDue old f) (sym e) h
 
 pub stays_on : (a b c : FrontView) → StaysDue a b → StaysDue b c → StaysDue a c
-stays_on a b c h k = grew_on a.clients b.clients c.clients (λ place. []) (λ place. []) h k
+stays_on a b c h k = record {
+  grew = grew_on a.clients b.clients c.clients (λ place. []) (λ place. []) h.grew k.grew;
+  origins = λ history is. k.origins history (h.origins history is);
+}
+
+quiet_asked : (history : List Entry) (event : Event) (core : ProxyView) → IsQuiet event → EventIsAsked history core event
+quiet_asked history (Event.Does client (Issue reading request)) core h = absurd h
+quiet_asked history (Event.Does client (Take back)) core h = tt
+quiet_asked history (Event.Does client (GiveUp op)) core h = tt
+quiet_asked history (Event.Alone step) core h = absurd h
+quiet_asked history (Event.Denies cause) core h = absurd h
+quiet_asked history (Event.Tells client reply) core h = absurd h
+quiet_asked history (Event.Flushes client) core h = absurd h
+
+all_quiet : (history : List Entry) (events : List Event) (front : FrontView) → AreQuiet events → AreAsked history events front
+all_quiet history [] front h = tt
+all_quiet history (event ∷ events) front h = (quiet_asked history event front.core h.0, all_quiet history events (after_event event front) h.1)
+
+pub quiet_stays : (events : List Event) (front : FrontView) → AreQuiet events → StaysDue front (after_all events front)
+quiet_stays events front h = record {
+  grew = quiet_grew events front h;
+  origins = λ history is. all_happen history events front (all_quiet history events front h) is;
+}
 
 pub stays_breaks : (now : ℕ) (link link' : Link) (front front' : FrontView) → Breaks now link front link' front' → StaysDue front front'
-stays_breaks now link link' front front' b = stays_to front (after_all (give_ups link.legs) front) front' b.given_up (quiet_grew (give_ups link.legs) front (quiet_ups link.legs))
+stays_breaks now link link' front front' b = stays_to front (after_all (give_ups link.legs) front) front' b.given_up (quiet_stays (give_ups link.legs) front (quiet_ups link.legs))
 
 stays_taken : (bytes : List ℕ) (legs : List SentLeg) (front : FrontView) (rest : List ℕ) (left : List SentLeg) (front' : FrontView) → HasTaken bytes legs front rest left front' → StaysDue front front'
-stays_taken bytes legs front rest left front' t = stays_to front (after_all t.events front) front' t.happens (quiet_grew t.events front (quiet_takes legs t.replies t.events left t.takes))
+stays_taken bytes legs front rest left front' t = stays_to front (after_all t.events front) front' t.happens (quiet_stays t.events front (quiet_takes legs t.replies t.events left t.takes))
 
 -- whatever bytes come over a link
 pub stays_bytes : (now : ℕ) (piece : List ℕ) (old : Link) (front : FrontView) (end : LinkEnd) (new : Link) (front' : FrontView) → TakesBytes now piece old front end new front' → StaysDue front front'
@@ -259,7 +288,7 @@ stays_bytes now piece old front Mismatch new front' t =
     stays_on front t.between front' (stays_taken _ old.legs front t.rest t.left t.between t.taken) (stays_breaks now (standing t.left t.counts old) new t.between front' t.breaks)
 stays_bytes now piece old front Complaint new front' t =
     let c = t.taken in
-    let taken : StaysDue c.between t.between = stays_to c.between (after_all (taking c.sent c.said ∷ []) c.between) t.between c.happens (quiet_grew (taking c.sent c.said ∷ []) c.between (tt, tt)) in
+    let taken : StaysDue c.between t.between = stays_to c.between (after_all (taking c.sent c.said ∷ []) c.between) t.between c.happens (quiet_stays (taking c.sent c.said ∷ []) c.between (tt, tt)) in
     stays_on front c.between front' (stays_taken _ old.legs front c.rest c.before c.between c.taken)
     (stays_on c.between t.between front' taken (stays_breaks now (standing t.left t.counts old) new t.between front' t.breaks))
 stays_bytes now piece old front (Refused refusal) new front' t =
@@ -268,7 +297,7 @@ stays_bytes now piece old front (Refused refusal) new front' t =
           (stays_breaks now (standing some.left some.counts old) new some.between front' some.breaks)
       | inr once ↦ stays_breaks now old new front front' once.breaks
     ]
-stays_bytes now piece old front Down new front' t = stays_to front front front' t.2 (grew_none front.clients)
+stays_bytes now piece old front Down new front' t = stays_to front front front' t.2 (stays_none front)
 
 quiet_both : (es fs : List Event) → AreQuiet es → AreQuiet fs → AreQuiet (es ++ fs)
 quiet_both [] fs h k = k

@@ -1,14 +1,12 @@
 -- The first turns that have texts, and what a flush does with them.
-use Rattle.std.proofs.Common.{◌≡◌, List, [], ◌∷◌, ◌++◌, slice_set, IsTrue, is_some, flat_map, refl, ap, ◌∙◌}
+use Rattle.std.proofs.Common.{◌≡◌, List, [], ◌∷◌, ◌++◌, IsTrue, is_some, flat_map, refl, ap}
 use Rattle.std.specs.List.{AllByRecursion}
 use Rattle.mr_loop.specs.Events.{changed_in}
-use Rattle.mr_loop.specs.LoopView.{client_flushed}
 use Rattle.mr_loop.specs.Runs.{told_text}
 use Rattle.mr_loop.specs.Turns.{text_of_turn, front_text, behind_front, flushed}
 use Rattle.mr_loop.specs.declared.turns.Turn.{Turn}
 use Rattle.mr_loop.specs.declared.turns.Turn.TheVariants.{Waits, Answered, Says}
 use Rattle.mr_streams.specs.Flushing.{FlushesPutTexts}
-use Rattle.mr_streams.specs.Steps.{PutsTexts}
 
 -- the first turns that have texts
 record HaveTexts (turns : List Turn) : Type 0 where
@@ -40,17 +38,10 @@ have_texts (Says reply ∷ turns) =
 pub flushes_put_texts : FlushesPutTexts
 flushes_put_texts loop place client there =
     let f = have_texts client.turns in
-    let put : PutsTexts place f.told loop (client_flushed place loop) = record {
+    record {
       was = client;
-      later = behind_front client.turns;
+      client = flushed client;
       there = there;
-      splits = f.splits;
-      have_texts = f.have;
-      becomes = ap (λ o. record loop { front = record loop.front { clients = changed_in o place flushed loop.front.clients } }) there
-          ∙ ap (λ x. record loop {
-            front = record loop.front {
-              clients = slice_set loop.front.clients place (record { turns = behind_front client.turns; out = client.out ++ x });
-            };
-          }) f.text;
-    } in
-    (f.told, put)
+      tells = record { told = f.told; splits = f.splits; have_texts = f.have; text = ap (λ x. client.out ++ x) f.text };
+      becomes = ap (λ o. record loop { front = record loop.front { clients = changed_in o place flushed loop.front.clients } }) there;
+    }

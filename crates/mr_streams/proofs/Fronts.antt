@@ -1,5 +1,5 @@
 -- Runs of a fleet in which the core of one proxy gives answers to its clients.
-use Rattle.std.proofs.Common.{◌≡◌, ℕ, inl, inr, false, List, [], ◌∷◌, ◌++◌, slice_get, position, Option, Some, None, refl, sym, ap, ◌∙◌, subst}
+use Rattle.std.proofs.Common.{◌≡◌, ℕ, inl, inr, false, List, [], ◌∷◌, ◌++◌, slice_get, position, Option, Some, None, refl, sym, ap, subst}
 use Rattle.mr_history.specs.Places.{At}
 use Rattle.mr_history.specs.declared.entry.Entry.{Entry}
 use Rattle.mr_history.specs.declared.entry.Entry.TheVariants as entry
@@ -36,52 +36,67 @@ has_still old new x (GainsAnswers.more {new = between} op reply gains) h = has_l
 pub known_still : (old new : List Entry) (clients : List Client) → GainsAnswers old new → AreKnown old clients → AreKnown new clients
 known_still old new clients gains known = λ place client there turn answer h wants. has_still old new (entry.Answered answer.op (reply_of answer)) gains (known place client there turn answer h wants)
 
+-- each answer that stands at a turn is so
+abbrev pub TurnsAre : (AnswerView → Type 0) → List Turn → Type 0
+TurnsAre P turns = (place : ℕ) (answer : AnswerView) → At turns place (Answered answer) → P answer
+
+-- and at a turn of any client
+abbrev pub ClientsAre : (AnswerView → Type 0) → List Client → Type 0
+ClientsAre P clients = (place : ℕ) (client : Client) → At clients place client → TurnsAre P client.turns
+
 -- one client changes
-known_changed_in : (history : List Entry) (o : Option Client) (place : ℕ) (change : Client → Client) (clients : List Client) → slice_get clients place ≡ o
-    → AreKnown history clients → ((client : Client) → KnowsTurns history client.turns → KnowsTurns history (change client).turns)
-    → AreKnown history (changed_in o place change clients)
-known_changed_in history None place change clients e known keeps = known
-known_changed_in history (Some was) place change clients e known keeps = λ n client there turn answer h wants.
+are_changed_in : (P : AnswerView → Type 0) (o : Option Client) (place : ℕ) (change : Client → Client) (clients : List Client) → slice_get clients place ≡ o
+    → ClientsAre P clients → ((client : Client) → TurnsAre P client.turns → TurnsAre P (change client).turns) → ClientsAre P (changed_in o place change clients)
+are_changed_in P None place change clients e known keeps = known
+are_changed_in P (Some was) place change clients e known keeps = λ n client there turn answer h.
     elim (at_set clients place (change was) there) [
-      | inl new ↦ keeps was (known place was (record { gets = e })) turn answer (subst (λ (c : Client). At c.turns turn (Answered answer)) new.1 h) wants
-      | inr old ↦ known n client old.1 turn answer h wants
+      | inl new ↦ keeps was (known place was (record { gets = e })) turn answer (subst (λ (c : Client). At c.turns turn (Answered answer)) new.1 h)
+      | inr old ↦ known n client old.1 turn answer h
     ]
 
-pub known_changed : (history : List Entry) (place : ℕ) (change : Client → Client) (clients : List Client) → AreKnown history clients
-    → ((client : Client) → KnowsTurns history client.turns → KnowsTurns history (change client).turns) → AreKnown history (changed place change clients)
-known_changed history place change clients known keeps = known_changed_in history (slice_get clients place) place change clients refl known keeps
+pub are_changed : (P : AnswerView → Type 0) (place : ℕ) (change : Client → Client) (clients : List Client) → ClientsAre P clients
+    → ((client : Client) → TurnsAre P client.turns → TurnsAre P (change client).turns) → ClientsAre P (changed place change clients)
+are_changed P place change clients known keeps = are_changed_in P (slice_get clients place) place change clients refl known keeps
 
 -- one more turn that is no answer
-pub known_more : (history : List Entry) (turns : List Turn) (turn : Turn) → ((answer : AnswerView) → Answered answer ≡ turn → ⊥) → KnowsTurns history turns → KnowsTurns history (turns ++ turn ∷ [])
-known_more history turns turn other known = λ place answer h wants.
+pub are_more : (P : AnswerView → Type 0) (turns : List Turn) (turn : Turn) → ((answer : AnswerView) → Answered answer ≡ turn → ⊥) → TurnsAre P turns → TurnsAre P (turns ++ turn ∷ [])
+are_more P turns turn other known = λ place answer h.
     elim (at_last turns turn h) [
-      | inl old ↦ known place answer old wants
+      | inl old ↦ known place answer old
       | inr new ↦ absurd (other answer new.1)
     ]
 
-pub known_waits : (history : List Entry) (turns : List Turn) (op : OpId) → KnowsTurns history turns → KnowsTurns history (turns ++ Waits op ∷ [])
-known_waits history turns op known = known_more history turns (Waits op) (λ answer e. cc) known
-
-pub known_says : (history : List Entry) (turns : List Turn) (reply : Reply) → KnowsTurns history turns → KnowsTurns history (turns ++ Says reply ∷ [])
-known_says history turns reply known = known_more history turns (Says reply) (λ answer e. cc) known
-
-known_noted_in : (history : List Entry) (turns : List Turn) (o : Option ℕ) (answer : AnswerView) → IsKnown history answer → KnowsTurns history turns → KnowsTurns history (noted_in turns o answer)
-known_noted_in history turns None answer is known = known
-known_noted_in history turns (Some at) answer is known = λ place other h wants.
+are_noted_in : (P : AnswerView → Type 0) (turns : List Turn) (o : Option ℕ) (answer : AnswerView) → P answer → TurnsAre P turns → TurnsAre P (noted_in turns o answer)
+are_noted_in P turns None answer is known = known
+are_noted_in P turns (Some at) answer is known = λ place other h.
     elim (at_set turns at (Answered answer) h) [
       | inl new ↦ (
           let same : other ≡ answer = (let both : Answered other ≡ Answered answer = new.1 in cc) in
-          subst (λ a. Has history (entry.Answered a.op (reply_of a))) (sym same) (is (ap (λ a. is_silent a.request) (sym same) ∙ wants)))
-      | inr old ↦ known place other old.1 wants
+          subst P (sym same) is)
+      | inr old ↦ known place other old.1
     ]
 
 -- the answer that is given stands at its turn
+pub are_answered : (P : AnswerView → Type 0) (place : ℕ) (o : Option AnswerView) (clients : List Client) → ((answer : AnswerView) → o ≡ Some answer → P answer)
+    → ClientsAre P clients → ClientsAre P (answered place o clients)
+are_answered P place None clients is known = known
+are_answered P place (Some answer) clients is known =
+    are_changed P place (with_answer answer) clients known
+    (λ client turns. are_noted_in P client.turns (position (is_turn_of answer.op) client.turns) answer (is answer refl) turns)
+
+pub known_changed : (history : List Entry) (place : ℕ) (change : Client → Client) (clients : List Client) → AreKnown history clients
+    → ((client : Client) → KnowsTurns history client.turns → KnowsTurns history (change client).turns) → AreKnown history (changed place change clients)
+known_changed history place change clients known keeps = are_changed (IsKnown history) place change clients known keeps
+
+pub known_waits : (history : List Entry) (turns : List Turn) (op : OpId) → KnowsTurns history turns → KnowsTurns history (turns ++ Waits op ∷ [])
+known_waits history turns op known = are_more (IsKnown history) turns (Waits op) (λ answer e. cc) known
+
+pub known_says : (history : List Entry) (turns : List Turn) (reply : Reply) → KnowsTurns history turns → KnowsTurns history (turns ++ Says reply ∷ [])
+known_says history turns reply known = are_more (IsKnown history) turns (Says reply) (λ answer e. cc) known
+
 known_answered : (history : List Entry) (place : ℕ) (o : Option AnswerView) (clients : List Client) → ((answer : AnswerView) → o ≡ Some answer → IsKnown history answer)
     → AreKnown history clients → AreKnown history (answered place o clients)
-known_answered history place None clients is known = known
-known_answered history place (Some answer) clients is known =
-    known_changed history place (with_answer answer) clients known
-    (λ client turns. known_noted_in history client.turns (position (is_turn_of answer.op) client.turns) answer (is answer refl) turns)
+known_answered history place o clients is known = are_answered (IsKnown history) place o clients is known
 
 -- nothing happens
 abbrev pub front_stays : (w : WorldView) (number : ℕ) (front : FrontView) → At w.proxies number front.core → FrontRuns w number front front

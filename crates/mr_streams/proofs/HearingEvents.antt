@@ -1,41 +1,49 @@
 -- Whatever happens, each client is told the answers to what it sent, in order.
 use Rattle.std.proofs.Common.{◌≡◌, ℕ, zero, suc, ◌+◌, ◌<◌, ◌⊎◌, inl, inr, Bool, true, false, List, [], ◌∷◌, ◌++◌, length, map, slice_get, slice_set, drop, get_or, Option, Some, None, if◌then◌else◌, refl, sym, ap, ◌∙◌, subst, append_assoc, arith, length-append}
-use Rattle.std.specs.Prelude.{flat_map}
+use Rattle.std.specs.Prelude.{flat_map, is_some, IsTrue}
+use Rattle.std.specs.List.{AllByRecursion}
 use Rattle.std.proofs.lemmas.Grind.{flat_map-append}
-use Rattle.std.proofs.lemmas.List.{append-nil, length-set, drop_at}
+use Rattle.std.proofs.lemmas.List.{length-set, drop_at}
 use Rattle.std.proofs.lemmas.Option.{slice_get_within, slice_get-get_or}
+use Rattle.mr_clock.specs.Readings.{Tick}
 use Rattle.mr_history.specs.Places.{At}
 use Rattle.mr_history.specs.declared.entry.Entry.{Entry}
 use Rattle.mr_history.specs.declared.entry.Entry.TheVariants as entry
+use Rattle.mr_history.specs.declared.op_id.OpId.{OpId}
 use Rattle.mr_node.specs.Output.{is_silent}
 use Rattle.mr_proxy.specs.Answer.{AnswerView, reply_of}
-use Rattle.mr_proxy.specs.Transitions.{after_restart}
+use Rattle.mr_proxy.specs.ProxyView.{ProxyView, fresh_proxy}
 use Rattle.mr_loop.specs.Asking.{Asking, AsksOn, StopsFor}
-use Rattle.mr_loop.specs.Events.{FrontView, after_all}
+use Rattle.mr_loop.specs.Events.{FrontView}
 use Rattle.mr_loop.specs.Inboxes.{fresh_inbox}
-use Rattle.mr_loop.specs.LoopView.{LoopView, IsAsked, asker_of, after_coming, after_leaving, with_place, output_in, fresh_loop}
+use Rattle.mr_loop.specs.LoopView.{LoopView, ClientBytes, ClientEnds, LinkBreaks, IsAsked, asker_of, with_place, output_in}
 use Rattle.mr_loop.specs.Runs.{due_of_turn, told_text}
 use Rattle.mr_loop.specs.Ticking.{ticks}
-use Rattle.mr_loop.specs.Turns.{fresh_client}
+use Rattle.mr_loop.specs.Turns.{fresh_client, text_of_turn}
 use Rattle.mr_loop.specs.declared.asker.Asker.{Asker}
 use Rattle.mr_loop.specs.declared.asking.Pause.{Pause}
 use Rattle.mr_loop.specs.declared.asking.Pause.TheVariants.{NeedsBytes, NeedsRoom, NeedsReader, NeedsQueue, NeedsMemory, IsDone}
 use Rattle.mr_loop.specs.declared.client.Client.{Client}
-use Rattle.mr_loop.specs.declared.counts.ClientCounts.{ClientCounts}
+use Rattle.mr_counting.specs.declared.client_counts.ClientCounts.{ClientCounts}
 use Rattle.mr_loop.specs.declared.inbox.Inbox.{Inbox}
+use Rattle.mr_loop.specs.declared.inbox.Input.TheVariants as input
 use Rattle.mr_loop.specs.declared.link.Link.{Link}
 use Rattle.mr_loop.specs.declared.turns.Turn.{Turn}
-use Rattle.mr_loop.specs.declared.turns.Turn.TheVariants.{Answered}
+use Rattle.mr_loop.specs.declared.turns.Turn.TheVariants.{Waits, Answered}
 use Rattle.mr_world.specs.Lists.{Has}
-use Rattle.mr_world.specs.Setup.{SetupView}
+use Rattle.mr_world.specs.Setup.{SetupView, proxies_from}
+use Rattle.mr_world.specs.declared.setup.ProxySetup.{ProxySetup}
 use Rattle.mr_streams.specs.Entries.{issued_in, told_by, told_in}
 use Rattle.mr_streams.specs.Headline.{Starts}
 use Rattle.mr_streams.specs.Served.{AreServed, AreDue}
-use Rattle.mr_streams.specs.Steps.{StreamsEvent, StreamsStep, StreamsRun, ClientSends, ClientStops, IsVisit, visits_in}
-use Rattle.mr_streams.specs.StreamsView.{StreamsView, Visit, fresh_visit}
-use Rattle.mr_streams.proofs.Dues.{GrewAt, StaysDue, grew_none, quiet_grew, quiet_ticks, stays_breaks, stays_bytes, stays_to}
+use Rattle.mr_streams.specs.Steps.{ProxyDoes, CrossesLink, StreamsStep, StreamsRun}
+use Rattle.mr_streams.specs.StreamsView.{StreamsView, Connection, Visit, fresh_visit}
+use Rattle.mr_streams.specs.Putting.{TellsFirst}
+use Rattle.mr_streams.proofs.Dues.{GrewAt, StaysDue, grew_none, quiet_stays, quiet_ticks, stays_breaks, stays_bytes, stays_none, stays_to}
+use Rattle.mr_streams.proofs.Fronts.{TurnsAre}
 use Rattle.mr_streams.proofs.Hearing.{ClientOk, ok_still, ok_stays, all_asked, stops_ok, piece_ok, ends_ok}
-use Rattle.mr_streams.proofs.Lists.{at_set, at_written, at_elsewhere, at_one, at_last, at_left, at_new, at_mapped, at_nothing, written_back}
+use Rattle.mr_streams.proofs.Lists.{at_set, at_written, at_elsewhere, at_one, at_last, at_left, at_right, at_new, at_mapped, at_nothing, written_back}
+use Rattle.mr_streams.proofs.Origins.{HasOrigin, HasOrigins, ArePending, asked_still, origins_still}
 use Rattle.mr_streams.proofs.Starting.{fresh_at}
 
 -- a place of a loop, with what its client sent and was told
@@ -48,6 +56,7 @@ pub record SeatOk (history : List Entry) (visit : Visit) (client : Client) (inbo
 pub record LoopOk (history : List Entry) (visits : List Visit) (loop : LoopView) : Type 0 where
   pub places : length loop.front.clients ≡ length visits
   pub boxes : length loop.inboxes ≡ length visits
+  pub origins : HasOrigins history loop.front
   pub seats : (place : ℕ) (client : Client) (visit : Visit) → At loop.front.clients place client → At visits place visit → SeatOk history visit client loop.inboxes place
 
 -- with their visits
@@ -64,6 +73,7 @@ still_loop : (history gains : List Entry) (visits : List Visit) (loop : LoopView
 still_loop history gains visits loop h = record {
   places = h.places;
   boxes = h.boxes;
+  origins = origins_still history gains loop.front h.origins;
   seats = λ place client visit a b. (let s = h.seats place client visit a b in record { inbox = s.inbox; there = s.there; ok = ok_still history gains visit client s.inbox s.ok });
 }
 
@@ -73,10 +83,11 @@ others_ok loops all history gains ok = λ p loop h. (let v = ok p loop h in reco
 
 moved_loop : (history : List Entry) (visits : List Visit) (loop loop' : LoopView) → LoopOk history visits loop → StaysDue loop.front loop'.front → loop'.inboxes ≡ loop.inboxes → LoopOk history visits loop'
 moved_loop history visits loop loop' h stays same = record {
-  places = stays.count ∙ h.places;
+  places = stays.grew.count ∙ h.places;
   boxes = ap length same ∙ h.boxes;
+  origins = stays.origins history h.origins;
   seats = λ place client visit a b. (
-      let g = stays.each place client a in
+      let g = stays.grew.each place client a in
       let s = h.seats place g.was visit g.there b in
       record {
         inbox = s.inbox;
@@ -113,10 +124,6 @@ loop_ok loops all history p loop loop' ok home stays same = λ q other h. elim (
   | inr e ↦ ok q other e.1
 ]
 
--- the visits of a loop
-visits_are : (s : StreamsView) (p : ℕ) (visits : List Visit) → At s.visits p visits → visits_in (slice_get s.visits p) ≡ visits
-visits_are s p visits there = ap visits_in there.gets
-
 -- a place that is there, with all that is there of it
 record SeatWas (history : List Entry) (visits : List Visit) (loop : LoopView) (place : ℕ) : Type 0 where
   client : Client
@@ -136,12 +143,19 @@ seat_was history visits loop place n same h below within =
 
 -- one place of a loop is another one's
 seat_loop : (history : List Entry) (visits : List Visit) (loop loop' : LoopView) (place : ℕ) (client' : Client) (inbox' : Inbox) (visit' : Visit) → LoopOk history visits loop
-    → loop'.front.clients ≡ slice_set loop.front.clients place client' → loop'.inboxes ≡ slice_set loop.inboxes place inbox'
-    → ((visit : Visit) (client : Client) → At loop.front.clients place client → At visits place visit → ClientOk history visit' client' inbox')
+    → loop'.front.core ≡ loop.front.core → loop'.front.clients ≡ slice_set loop.front.clients place client' → loop'.inboxes ≡ slice_set loop.inboxes place inbox'
+    → TurnsAre (HasOrigin history) client'.turns → ((visit : Visit) (client : Client) → At loop.front.clients place client → At visits place visit → ClientOk history visit' client' inbox')
     → LoopOk history (slice_set visits place visit') loop'
-seat_loop history visits loop loop' place client' inbox' visit' h clients inboxes new = record {
+seat_loop history visits loop loop' place client' inbox' visit' h core clients inboxes origins new = record {
   places = ap length clients ∙ length-set loop.front.clients place client' ∙ h.places ∙ sym (length-set visits place visit');
   boxes = ap length inboxes ∙ length-set loop.inboxes place inbox' ∙ h.boxes ∙ sym (length-set visits place visit');
+  origins = record {
+    pending = subst (λ (c : ProxyView). ArePending history c.outstanding) (sym core) h.origins.pending;
+    turns = λ n client there. elim (at_set loop.front.clients place client' (subst (λ x. At x n client) clients there)) [
+      | inl e ↦ subst (λ (c : Client). TurnsAre (HasOrigin history) c.turns) (sym e.1) origins
+      | inr e ↦ h.origins.turns n client e.1
+    ];
+  };
   seats = λ n client visit a b. (
       let a' : At (slice_set loop.front.clients place client') n client = subst (λ x. At x n client) clients a in
       elim (at_set loop.front.clients place client' a') [
@@ -170,92 +184,83 @@ seat_loop history visits loop loop' place client' inbox' visit' h clients inboxe
 abbrev pub StreamsOk : StreamsView → Type 0
 StreamsOk s = AllOk s.loops s.visits s.history
 
-ok_in : (s s' : StreamsView) → s' ≡ s → StreamsOk s → StreamsOk s'
-ok_in s s' e h = subst StreamsOk (sym e) h
-
-ok_history : (loops : List LoopView) (all : List (List Visit)) (history history' : List Entry) → history' ≡ history → AllOk loops all history → AllOk loops all history'
-ok_history loops all history history' e h = subst (λ x. AllOk loops all x) (sym e) h
-
 -- a client of which nothing came
 fresh_ok : (history : List Entry) → ClientOk history fresh_visit fresh_client fresh_inbox
 fresh_ok history = record {
-  inputs = [];
   bytes = [];
   held = [];
   tail = [];
   sent = refl;
-  spells = refl;
   holds = refl;
   reads = λ e. record { lost = []; kept = refl; nothing = λ f. refl };
+  reads_on = true;
+  over = λ e. absurd (let never : true ≡ false = e in cc);
+  held_over = λ refusal e s. absurd (let never : None ≡ Some (input.Refused refusal) = e in cc);
   due = AreDue.begins;
   heard = refl;
-  answered = λ place answer at wants. absurd (at_nothing at);
+  none_waits = λ place op at. at_nothing at;
+  answered = λ place answer at. absurd (at_nothing at);
 }
 
 -- a place begins anew
-refreshed_ok : (s : StreamsView) (p client : ℕ) (loop loop' : LoopView) → StreamsOk s → At s.loops p loop
-    → loop'.front.clients ≡ slice_set loop.front.clients client fresh_client → loop'.inboxes ≡ slice_set loop.inboxes client fresh_inbox
-    → AllOk (slice_set s.loops p loop') (slice_set s.visits p (slice_set (visits_in (slice_get s.visits p)) client fresh_visit)) s.history
-refreshed_ok s p client loop loop' ok home clients inboxes =
-    let v = ok p loop home in
-    let new : LoopOk s.history (slice_set v.visits client fresh_visit) loop' =
-    seat_loop s.history v.visits loop loop' client fresh_client fresh_inbox fresh_visit v.ok clients inboxes (λ visit was a b. fresh_ok s.history) in
-    let all = one_ok s.loops s.visits s.history [] p loop loop' (slice_set v.visits client fresh_visit) ok home (still_loop s.history [] (slice_set v.visits client fresh_visit) loop' new) in
-    subst (λ x. AllOk (slice_set s.loops p loop') (slice_set s.visits p (slice_set x client fresh_visit)) s.history) (sym (visits_are s p v.visits v.there))
-    (ok_history (slice_set s.loops p loop') (slice_set s.visits p (slice_set v.visits client fresh_visit)) (s.history ++ []) s.history (sym (append-nil s.history)) all)
+refreshed_ok : (history : List Entry) (visits : List Visit) (client : ℕ) (loop loop' : LoopView) → LoopOk history visits loop
+    → loop'.front.core ≡ loop.front.core → loop'.front.clients ≡ slice_set loop.front.clients client fresh_client → loop'.inboxes ≡ slice_set loop.inboxes client fresh_inbox
+    → LoopOk history (slice_set visits client fresh_visit) loop'
+refreshed_ok history visits client loop loop' h core clients inboxes =
+    seat_loop history visits loop loop' client fresh_client fresh_inbox fresh_visit h core clients inboxes (λ place answer at. absurd (at_nothing at)) (λ visit was a b. fresh_ok history)
 
 -- one more place
-added_ok : (s : StreamsView) (p : ℕ) (loop : LoopView) → StreamsOk s → At s.loops p loop
-    → AllOk (slice_set s.loops p (with_place loop)) (slice_set s.visits p (visits_in (slice_get s.visits p) ++ fresh_visit ∷ [])) s.history
-added_ok s p loop ok home =
-    let v = ok p loop home in
-    let loop' : LoopView = with_place loop in
-    let visits' : List Visit = v.visits ++ fresh_visit ∷ [] in
-    let new : LoopOk s.history visits' loop' = record {
-      places = length-append loop.front.clients (fresh_client ∷ []) ∙ ap (λ n. n + 1) v.ok.places ∙ sym (length-append v.visits (fresh_visit ∷ []));
-      boxes = length-append loop.inboxes (fresh_inbox ∷ []) ∙ ap (λ n. n + 1) v.ok.boxes ∙ sym (length-append v.visits (fresh_visit ∷ []));
+added_ok : (history : List Entry) (visits : List Visit) (loop : LoopView) → LoopOk history visits loop → LoopOk history (visits ++ fresh_visit ∷ []) (with_place loop)
+added_ok history visits loop h =
+    record {
+      places = length-append loop.front.clients (fresh_client ∷ []) ∙ ap (λ n. n + 1) h.places ∙ sym (length-append visits (fresh_visit ∷ []));
+      boxes = length-append loop.inboxes (fresh_inbox ∷ []) ∙ ap (λ n. n + 1) h.boxes ∙ sym (length-append visits (fresh_visit ∷ []));
+      origins = record {
+        pending = h.origins.pending;
+        turns = λ place client there. elim (at_last loop.front.clients fresh_client there) [
+          | inl old ↦ h.origins.turns place client old
+          | inr new ↦ subst (λ (c : Client). TurnsAre (HasOrigin history) c.turns) (sym new.1) (λ turn answer at. absurd (at_nothing at))
+        ];
+      };
       seats = λ place client visit a b. elim (at_last loop.front.clients fresh_client a) [
-        | inl old ↦ elim (at_last v.visits fresh_visit b) [
-          | inl was ↦ (let seat = v.ok.seats place client visit old was in record { inbox = seat.inbox; there = at_left (fresh_inbox ∷ []) seat.there; ok = seat.ok })
+        | inl old ↦ elim (at_last visits fresh_visit b) [
+          | inl was ↦ (let seat = h.seats place client visit old was in record { inbox = seat.inbox; there = at_left (fresh_inbox ∷ []) seat.there; ok = seat.ok })
           | inr last ↦ absurd (
               let below : place < length loop.front.clients = slice_get_within loop.front.clients place client old.gets in
-              let same = v.ok.places in
+              let same = h.places in
               let at = last.0 in
               omega arith)
         ]
-        | inr new_client ↦ elim (at_last v.visits fresh_visit b) [
+        | inr new_client ↦ elim (at_last visits fresh_visit b) [
           | inl was ↦ absurd (
-              let below : place < length v.visits = slice_get_within v.visits place visit was.gets in
-              let same = v.ok.places in
+              let below : place < length visits = slice_get_within visits place visit was.gets in
+              let same = h.places in
               let at = new_client.0 in
               omega arith)
           | inr last ↦ (
               let there : At (loop.inboxes ++ fresh_inbox ∷ []) (length loop.inboxes) fresh_inbox = at_new loop.inboxes fresh_inbox in
-              let here : length loop.inboxes ≡ place = v.ok.boxes ∙ sym last.0 in
+              let here : length loop.inboxes ≡ place = h.boxes ∙ sym last.0 in
               record {
                 inbox = fresh_inbox;
                 there = subst (λ n. At (loop.inboxes ++ fresh_inbox ∷ []) n fresh_inbox) here there;
-                ok = subst (λ x. ClientOk s.history x client fresh_inbox) (sym last.1)
-                    (subst (λ x. ClientOk s.history fresh_visit x fresh_inbox) (sym new_client.1) (fresh_ok s.history));
+                ok = subst (λ x. ClientOk history x client fresh_inbox) (sym last.1)
+                    (subst (λ x. ClientOk history fresh_visit x fresh_inbox) (sym new_client.1) (fresh_ok history));
               })
         ]
       ];
-    } in
-    let all = one_ok s.loops s.visits s.history [] p loop loop' visits' ok home (still_loop s.history [] visits' loop' new) in
-    subst (λ x. AllOk (slice_set s.loops p loop') (slice_set s.visits p (x ++ fresh_visit ∷ [])) s.history) (sym (visits_are s p v.visits v.there))
-    (ok_history (slice_set s.loops p loop') (slice_set s.visits p visits') (s.history ++ []) s.history (sym (append-nil s.history)) all)
+    }
 
 -- a proxy restarts
-restarts_ok : (s : StreamsView) (p : ℕ) (loop loop' : LoopView) → StreamsOk s → At s.loops p loop → loop'.front.clients ≡ [] → loop'.inboxes ≡ []
-    → AllOk (slice_set s.loops p loop') (slice_set s.visits p []) s.history
-restarts_ok s p loop loop' ok home clients inboxes =
-    let new : LoopOk (s.history ++ []) [] loop' = record {
-      places = ap length clients;
-      boxes = ap length inboxes;
-      seats = λ place client visit a b. absurd (at_nothing b);
-    } in
-    ok_history (slice_set s.loops p loop') (slice_set s.visits p []) (s.history ++ []) s.history (sym (append-nil s.history))
-    (one_ok s.loops s.visits s.history [] p loop loop' [] ok home new)
+restarts_ok : (history : List Entry) (loop : LoopView) → loop.front.core.outstanding ≡ [] → loop.front.clients ≡ [] → loop.inboxes ≡ [] → LoopOk history [] loop
+restarts_ok history loop none clients inboxes = record {
+  places = ap length clients;
+  boxes = ap length inboxes;
+  origins = record {
+    pending = λ place pending there. absurd (at_nothing (subst (λ x. At x place pending) none there));
+    turns = λ place client there. absurd (at_nothing (subst (λ x. At x place client) clients there));
+  };
+  seats = λ place client visit a b. absurd (at_nothing b);
+}
 
 told_there_unless : (history : List Entry) (answer : AnswerView) (silent : Bool) (later : List Entry) → silent ≡ false
     → Has (history ++ ((if silent then [] else entry.Answered answer.op (reply_of answer) ∷ []) ++ later)) (entry.Answered answer.op (reply_of answer))
@@ -281,61 +286,78 @@ at_either [] ys i x e = inr (i, e)
 at_either (z ∷ xs) ys zero x e = inl e
 at_either (z ∷ xs) ys (suc i) x e = elim (at_either xs ys i x e) [ inl h ↦ inl h | inr h ↦ inr h ]
 
+-- of turns that have texts none waits
+none_waits_there : (turns : List Turn) (place : ℕ) (op : OpId) → AllByRecursion (λ turn. IsTrue (is_some (text_of_turn turn))) turns → slice_get turns place ≡ Some (Waits op) → ⊥
+none_waits_there [] place op texts e = (let never : None ≡ Some (Waits op) = e in cc)
+none_waits_there (turn ∷ turns) zero op texts e =
+    let same : turn ≡ Waits op = cc in
+    let text : false ≡ true = subst (λ t. IsTrue (is_some (text_of_turn t))) same texts.0 in
+    cc
+none_waits_there (turn ∷ turns) (suc place) op texts e = none_waits_there turns place op texts.1 e
+
 -- texts are put to the bytes that a client is to be told
-put_ok : (history : List Entry) (visit : Visit) (was : Client) (told later : List Turn) (inbox : Inbox) → was.turns ≡ told ++ later → ClientOk history visit was inbox
-    → ClientOk (history ++ told_in told) (record visit { put = visit.put ++ told }) (record { turns = later; out = was.out ++ flat_map told_text told }) inbox
-put_ok history visit was told later inbox splits h =
+put_ok : (history : List Entry) (visit : Visit) (was client : Client) (t : TellsFirst was client) (inbox : Inbox) → TurnsAre (HasOrigin history) was.turns → ClientOk history visit was inbox
+    → ClientOk (history ++ told_in t.told) (record visit { put = visit.put ++ t.told }) client inbox
+put_ok history visit was client t inbox origins h =
+    let told : List Turn = t.told in
     let still = ok_still history (told_in told) visit was inbox h in
-    let turns : (visit.put ++ told) ++ later ≡ visit.put ++ was.turns = append_assoc visit.put told later ∙ ap (λ x. visit.put ++ x) (sym splits) in
+    let turns : (visit.put ++ told) ++ client.turns ≡ visit.put ++ was.turns = append_assoc visit.put told client.turns ∙ ap (λ x. visit.put ++ x) (sym t.splits) in
     record {
-      inputs = still.inputs;
       bytes = still.bytes;
       held = still.held;
       tail = still.tail;
       sent = still.sent;
-      spells = still.spells;
       holds = still.holds;
       reads = still.reads;
-      due = subst (λ t. AreDue (history ++ told_in told) still.inputs (map due_of_turn t)) (sym turns) still.due;
-      heard = sym (append_assoc visit.heard was.out (flat_map told_text told)) ∙ ap (λ x. x ++ flat_map told_text told) still.heard ∙ sym (flat_map-append told_text visit.put told);
-      answered = λ place answer at wants. elim (at_either visit.put told place (Answered answer) at.gets) [
-        | inl old ↦ still.answered place answer (record { gets = old }) wants
-        | inr new ↦ told_there history told new.0 answer new.1 wants
+      reads_on = still.reads_on;
+      over = still.over;
+      held_over = still.held_over;
+      due = subst (λ x. AreDue (history ++ told_in told) still.reads_on still.bytes (map due_of_turn x)) (sym turns) still.due;
+      heard = ap (λ x. visit.heard ++ x) t.text ∙ sym (append_assoc visit.heard was.out (flat_map told_text told)) ∙ ap (λ x. x ++ flat_map told_text told) still.heard
+          ∙ sym (flat_map-append told_text visit.put told);
+      none_waits = λ place op at. elim (at_either visit.put told place (Waits op) at.gets) [
+        | inl old ↦ still.none_waits place op (record { gets = old })
+        | inr new ↦ none_waits_there told new.0 op t.have_texts new.1
+      ];
+      answered = λ place answer at. elim (at_either visit.put told place (Answered answer) at.gets) [
+        | inl old ↦ still.answered place answer (record { gets = old })
+        | inr new ↦ (
+            let at_turn : At (told ++ client.turns) new.0 (Answered answer) = at_left client.turns (record { gets = new.1 }) in
+            let origin = asked_still history (told_in told) answer.op answer.request (origins new.0 answer (subst (λ x. At x new.0 (Answered answer)) (sym t.splits) at_turn)) in
+            record { issue = origin.issue; issued = origin.issued; told = λ wants. told_there history told new.0 answer new.1 wants })
       ];
     }
 
 hear_ok : (history : List Entry) (visit : Visit) (was : Client) (piece rest out : List ℕ) (inbox : Inbox) → was.out ≡ piece ++ rest → out ≡ rest → ClientOk history visit was inbox
     → ClientOk history (record visit { heard = visit.heard ++ piece }) (record was { out = out }) inbox
 hear_ok history visit was piece rest out inbox splits left h = record {
-  inputs = h.inputs;
   bytes = h.bytes;
   held = h.held;
   tail = h.tail;
   sent = h.sent;
-  spells = h.spells;
   holds = h.holds;
   reads = h.reads;
+  reads_on = h.reads_on;
+  over = h.over;
+  held_over = h.held_over;
   due = h.due;
   heard = ap (λ x. (visit.heard ++ piece) ++ x) left ∙ append_assoc visit.heard piece rest ∙ ap (λ x. visit.heard ++ x) (sym splits) ∙ h.heard;
+  none_waits = h.none_waits;
   answered = h.answered;
 }
 
 -- one client is told something
-told_ok : (s : StreamsView) (p client : ℕ) (loop loop' : LoopView) (visit visit' : Visit) (was client' : Client) (gains : List Entry) → StreamsOk s → At s.loops p loop → IsVisit s p client visit
-    → At loop.front.clients client was → loop'.front.clients ≡ slice_set loop.front.clients client client' → loop'.inboxes ≡ loop.inboxes
-    → ((inbox : Inbox) → ClientOk s.history visit was inbox → ClientOk (s.history ++ gains) visit' client' inbox)
-    → AllOk (slice_set s.loops p loop') (slice_set s.visits p (slice_set (visits_in (slice_get s.visits p)) client visit')) (s.history ++ gains)
-told_ok s p client loop loop' visit visit' was client' gains ok home is_visit there clients inboxes new =
-    let v = ok p loop home in
-    let visit_there : At v.visits client visit = subst (λ x. At x client visit) (visits_are s p v.visits v.there) is_visit in
-    let seat = v.ok.seats client was visit there visit_there in
+told_ok : (history gains : List Entry) (visits : List Visit) (client : ℕ) (loop loop' : LoopView) (visit visit' : Visit) (was client' : Client) → LoopOk history visits loop → At visits client visit
+    → At loop.front.clients client was → loop'.front.core ≡ loop.front.core → loop'.front.clients ≡ slice_set loop.front.clients client client' → loop'.inboxes ≡ loop.inboxes
+    → TurnsAre (HasOrigin history) client'.turns → ((inbox : Inbox) → ClientOk history visit was inbox → ClientOk (history ++ gains) visit' client' inbox)
+    → LoopOk (history ++ gains) (slice_set visits client visit') loop'
+told_ok history gains visits client loop loop' visit visit' was client' h visit_there there core clients inboxes origins new =
+    let seat = h.seats client was visit there visit_there in
     let same : loop'.inboxes ≡ slice_set loop.inboxes client seat.inbox = inboxes ∙ sym (written_back seat.there) in
-    let here : LoopOk (s.history ++ gains) (slice_set v.visits client visit') loop' =
-    seat_loop (s.history ++ gains) v.visits loop loop' client client' seat.inbox visit' (still_loop s.history gains v.visits loop v.ok) clients same (λ x y a b. new seat.inbox seat.ok) in
-    subst (λ x. AllOk (slice_set s.loops p loop') (slice_set s.visits p (slice_set x client visit')) (s.history ++ gains)) (sym (visits_are s p v.visits v.there))
-    (one_ok s.loops s.visits s.history gains p loop loop' (slice_set v.visits client visit') ok home here)
+    seat_loop (history ++ gains) visits loop loop' client client' seat.inbox visit' (still_loop history gains visits loop h) core clients same
+    (λ place answer at. asked_still history gains answer.op answer.request (origins place answer at)) (λ x y a b. new seat.inbox seat.ok)
 
-stopped_front : (asker : Asker) (pause : Pause) (old new : Asking) → StopsFor asker pause old new → new.front ≡ old.front
+pub stopped_front : (asker : Asker) (pause : Pause) (old new : Asking) → StopsFor asker pause old new → new.front ≡ old.front
 stopped_front asker NeedsReader old new h = ap (λ (a : Asking). a.front) h.1
 stopped_front asker NeedsBytes old new h = h.1.same_front
 stopped_front asker IsDone old new h = h.1.same_front
@@ -356,12 +378,13 @@ asked_ok history visits loop asker pause fed inbox' front' links' counts' visit'
     let gains : List Entry = issued_in asks.did in
     let first : Asking = record { inbox = fed; front = loop.front; links = loop.links; counts = loop.client_counts } in
     let last : Asking = record { inbox = inbox'; front = front'; links = links'; counts = counts' } in
-    let so = all_asked asker first asks.between asks.did history visit' own in
+    let so = all_asked asker first asks.between asks.did history visit' h.origins own in
     let same : front' ≡ asks.between.front = stopped_front asker pause asks.between last asks.stops in
     let clients : loop'.front.clients ≡ asks.between.front.clients = ap (λ (f : FrontView). f.clients) (front ∙ same) in
     record {
       places = ap length clients ∙ so.grew.count ∙ h.places ∙ sym (length-set visits c visit');
       boxes = ap length inboxes ∙ length-set loop.inboxes c inbox' ∙ h.boxes ∙ sym (length-set visits c visit');
+      origins = subst (λ f. HasOrigins (history ++ gains) f) (sym (front ∙ same)) so.origins;
       seats = λ place client visit a b. (
           let a' : At asks.between.front.clients place client = subst (λ x. At x place client) clients a in
           let g = so.grew.each place client a' in
@@ -387,151 +410,163 @@ asked_ok history visits loop asker pause fed inbox' front' links' counts' visit'
           ]);
     }
 
-asker_sends : (s : StreamsView) (p client now : ℕ) (piece : List ℕ) (s' : StreamsView) → StreamsOk s → ClientSends s p client now piece s' → StreamsOk s'
-asker_sends s p client now piece s' ok h =
-    let l = h.step in
-    let loop = h.loop in
-    let v = ok p loop h.home in
-    let visit' : Visit = record h.visit { sent = h.visit.sent ++ piece } in
-    let visit_there : At v.visits client h.visit = subst (λ x. At x client h.visit) (visits_are s p v.visits v.there) h.is_visit in
-    let own : (c : Client) → At loop.front.clients client c → ClientOk s.history visit' c l.fed = λ c there. (
-    let seat = v.ok.seats client c h.visit there visit_there in
+asker_sends : (history : List Entry) (visits : List Visit) (client reading now : ℕ) (piece : List ℕ) (loop loop' : LoopView) (pause : Pause) (visit : Visit) → LoopOk history visits loop
+    → At visits client visit → (step : ClientBytes (asker_of loop client reading now) piece loop pause loop')
+    → LoopOk (history ++ issued_in step.asks.did) (slice_set visits client (record visit { sent = visit.sent ++ piece })) loop'
+asker_sends history visits client reading now piece loop loop' pause visit h visit_there l =
+    let visit' : Visit = record visit { sent = visit.sent ++ piece } in
+    let own : (c : Client) → At loop.front.clients client c → ClientOk history visit' c l.fed = λ c there. (
+    let seat = h.seats client c visit there visit_there in
     let one : seat.inbox ≡ l.inbox = at_one seat.there (let t : At loop.inboxes client l.inbox = record { gets = l.there } in t) in
-    piece_ok s.history h.visit c piece l.inbox l.fed (subst (λ i. ClientOk s.history h.visit c i) one seat.ok) l.takes) in
-    let new = asked_ok s.history v.visits loop (asker_of loop client h.reading now) h.pause l.fed l.inbox' l.front' l.links' l.counts' visit' v.ok own l.asks h.loop'
-    (ap (λ (x : LoopView). x.front) l.becomes) (ap (λ (x : LoopView). x.inboxes) l.becomes) in
-    ok_in _ s' h.becomes
-    (subst (λ x. AllOk (slice_set s.loops p h.loop') (slice_set s.visits p (slice_set x client visit')) (s.history ++ issued_in l.asks.did)) (sym (visits_are s p v.visits v.there))
-    (one_ok s.loops s.visits s.history (issued_in l.asks.did) p loop h.loop' (slice_set v.visits client visit') ok h.home new))
+    piece_ok history visit c piece l.inbox l.fed (subst (λ i. ClientOk history visit c i) one seat.ok) l.takes) in
+    asked_ok history visits loop (asker_of loop client reading now) pause l.fed l.inbox' l.front' l.links' l.counts' visit' h own l.asks loop'
+    (ap (λ (x : LoopView). x.front) l.becomes) (ap (λ (x : LoopView). x.inboxes) l.becomes)
 
-asker_stops : (s : StreamsView) (p client now : ℕ) (s' : StreamsView) → StreamsOk s → ClientStops s p client now s' → StreamsOk s'
-asker_stops s p client now s' ok h =
-    let l = h.step in
-    let loop = h.loop in
-    let v = ok p loop h.home in
-    let visit : Visit = get_or v.visits client fresh_visit in
+asker_stops : (history : List Entry) (visits : List Visit) (client reading now : ℕ) (loop loop' : LoopView) (pause : Pause) → LoopOk history visits loop
+    → (step : ClientEnds (asker_of loop client reading now) loop pause loop') → LoopOk (history ++ issued_in step.asks.did) visits loop'
+asker_stops history visits client reading now loop loop' pause h l =
+    let visit : Visit = get_or visits client fresh_visit in
     let box : At loop.inboxes client l.inbox = record { gets = l.there } in
-    let below : client < length v.visits = (let b = slice_get_within loop.inboxes client l.inbox l.there in let same = v.ok.boxes in omega arith) in
-    let visit_there : At v.visits client visit = record { gets = slice_get-get_or v.visits client fresh_visit below } in
-    let own : (c : Client) → At loop.front.clients client c → ClientOk s.history visit c l.ended = λ c there. (
-    let seat = v.ok.seats client c visit there visit_there in
+    let below : client < length visits = (let b = slice_get_within loop.inboxes client l.inbox l.there in let same = h.boxes in omega arith) in
+    let visit_there : At visits client visit = record { gets = slice_get-get_or visits client fresh_visit below } in
+    let own : (c : Client) → At loop.front.clients client c → ClientOk history visit c l.ended = λ c there. (
+    let seat = h.seats client c visit there visit_there in
     let one : seat.inbox ≡ l.inbox = at_one seat.there box in
-    ends_ok s.history visit c l.inbox l.ended (subst (λ i. ClientOk s.history visit c i) one seat.ok) l.ends) in
-    let new = asked_ok s.history v.visits loop (asker_of loop client h.reading now) h.pause l.ended l.inbox' l.front' l.links' l.counts' visit v.ok own l.asks h.loop'
+    ends_ok history visit c l.inbox l.ended (subst (λ i. ClientOk history visit c i) one seat.ok) l.ends) in
+    let new = asked_ok history visits loop (asker_of loop client reading now) pause l.ended l.inbox' l.front' l.links' l.counts' visit h own l.asks loop'
     (ap (λ (x : LoopView). x.front) l.becomes) (ap (λ (x : LoopView). x.inboxes) l.becomes) in
-    let same_visits : slice_set s.visits p (slice_set v.visits client visit) ≡ s.visits = ap (λ x. slice_set s.visits p x) (written_back visit_there) ∙ written_back v.there in
-    ok_in _ s' h.becomes
-    (subst (λ x. AllOk (slice_set s.loops p h.loop') x (s.history ++ issued_in l.asks.did)) same_visits
-    (one_ok s.loops s.visits s.history (issued_in l.asks.did) p loop h.loop' (slice_set v.visits client visit) ok h.home new))
+    subst (λ x. LoopOk (history ++ issued_in l.asks.did) x loop') (written_back visit_there) new
 
-asked_touched : (place : Option ℕ) (old new : LoopView) → IsAsked old place new → StaysDue old.front new.front × (new.inboxes ≡ old.inboxes)
-asked_touched None old new h = (stays_to old.front old.front new.front (ap (λ (l : LoopView). l.front) h.1) (grew_none old.front.clients), ap (λ (l : LoopView). l.inboxes) h.1)
+pub asked_touched : (place : Option ℕ) (old new : LoopView) → IsAsked old place new → StaysDue old.front new.front × (new.inboxes ≡ old.inboxes)
+asked_touched None old new h = (stays_to old.front old.front new.front (ap (λ (l : LoopView). l.front) h.1) (stays_none old.front), ap (λ (l : LoopView). l.inboxes) h.1)
 asked_touched (Some place) old new h = (
-  subst (λ (l : LoopView). StaysDue old.front l.front) (sym h.1) (grew_none old.front.clients),
+  subst (λ (l : LoopView). StaysDue old.front l.front) (sym h.1)
+      (record { grew = grew_none old.front.clients; origins = λ history is. record { pending = is.pending; turns = is.turns } }),
   ap (λ (l : LoopView). l.inboxes) h.1,
 )
 
--- a loop that makes this step says nothing to its clients
-module _ (s s' : StreamsView) (p : ℕ) (loop loop' : LoopView) where
-  quiet_ok : StreamsOk s → At s.loops p loop → StaysDue loop.front loop'.front → loop'.inboxes ≡ loop.inboxes → AllOk (slice_set s.loops p loop') s.visits s.history
-  quiet_ok ok home stays same = loop_ok s.loops s.visits s.history p loop loop' ok home stays same
+pub front_stays_due : (old new : LoopView) → new.front ≡ old.front → StaysDue old.front new.front
+front_stays_due old new e = stays_to old.front old.front new.front e (stays_none old.front)
 
-front_stays_due : (old new : LoopView) → new.front ≡ old.front → StaysDue old.front new.front
-front_stays_due old new e = stays_to old.front old.front new.front e (grew_none old.front.clients)
+pub breaks_due : (link now : ℕ) (old new : LoopView) → LinkBreaks link now old new → StaysDue old.front new.front
+breaks_due link now old new l =
+    stays_to old.front l.front' new.front (ap (λ (x : LoopView). x.front) l.becomes) (stays_breaks now l.link l.link' old.front l.front' l.breaks)
+
+-- a loop that says nothing to its clients
+quiet_ok : (history : List Entry) (visits : List Visit) (loop loop' : LoopView) → LoopOk history visits loop → StaysDue loop.front loop'.front → loop'.inboxes ≡ loop.inboxes
+    → LoopOk (history ++ []) visits loop'
+quiet_ok history visits loop loop' h stays same = still_loop history [] visits loop' (moved_loop history visits loop loop' h stays same)
+
+-- whatever a proxy does
+proxy_ok : (reading : ℕ) (loop loop' : LoopView) (visits visits' : List Visit) (gains history : List Entry) → LoopOk history visits loop → ProxyDoes reading loop visits loop' visits' gains
+    → LoopOk (history ++ gains) visits' loop'
+proxy_ok reading loop loop' visits visits' gains history h (ProxyDoes.dials link step) =
+    quiet_ok history visits loop loop' h (front_stays_due loop loop' (ap (λ (l : LoopView). l.front) step.becomes)) (ap (λ (l : LoopView). l.inboxes) step.becomes)
+proxy_ok reading loop loop' visits visits' gains history h (ProxyDoes.breaks link now step) =
+    quiet_ok history visits loop loop' h (breaks_due link now loop loop' step) (ap (λ (l : LoopView). l.inboxes) step.becomes)
+proxy_ok reading loop loop' visits visits' gains history h (ProxyDoes.waits now) =
+    quiet_ok history visits loop loop' h (quiet_stays (ticks loop.limits.leg_timeout now loop.links) loop.front (quiet_ticks loop.limits.leg_timeout now loop.links)) refl
+proxy_ok reading loop loop' visits visits' gains history h (ProxyDoes.looks place step) =
+    let t = asked_touched place loop loop' step in
+    quiet_ok history visits loop loop' h t.0 t.1
+proxy_ok reading loop loop' visits visits' gains history h (ProxyDoes.restarts not_last) = restarts_ok (history ++ []) loop' refl refl refl
+proxy_ok reading loop loop' visits visits' gains history h ProxyDoes.adds_place = still_loop history [] visits' loop' (added_ok history visits loop h)
+proxy_ok reading loop loop' visits visits' gains history h (ProxyDoes.comes client) = still_loop history [] visits' loop' (refreshed_ok history visits client loop loop' h refl refl refl)
+proxy_ok reading loop loop' visits visits' gains history h (ProxyDoes.goes client) = still_loop history [] visits' loop' (refreshed_ok history visits client loop loop' h refl refl refl)
+proxy_ok reading loop loop' visits visits' gains history h (ProxyDoes.hears {pause = pause} {visit = visit} client now piece is_visit step) =
+    asker_sends history visits client reading now piece loop loop' pause visit h is_visit step
+proxy_ok reading loop loop' visits visits' gains history h (ProxyDoes.hears_end {pause = pause} client now step) =
+    asker_stops history visits client reading now loop loop' pause h step
+proxy_ok reading loop loop' visits visits' gains history h (ProxyDoes.answers {visit = visit} client is_visit l) =
+    let t = l.tells in
+    let there : At loop.front.clients client l.was = record { gets = l.there } in
+    let origins = h.origins.turns client l.was there in
+    told_ok history (told_in t.told) visits client loop loop' visit (record visit { put = visit.put ++ t.told }) l.was l.client h is_visit
+    there (ap (λ (x : LoopView). x.front.core) l.becomes) (ap (λ (x : LoopView). x.front.clients) l.becomes) (ap (λ (x : LoopView). x.inboxes) l.becomes)
+    (λ place answer at. origins (length t.told + place) answer (subst (λ x. At x (length t.told + place) (Answered answer)) (sym t.splits) (at_right t.told at)))
+    (λ inbox one. put_ok history visit l.was l.client t inbox origins one)
+proxy_ok reading loop loop' visits visits' gains history h (ProxyDoes.tells {visit = visit} client piece rest is_visit splits l) =
+    let out : l.was.out ≡ piece ++ rest = ap output_in (sym l.there) ∙ splits in
+    let left : drop (length piece) l.was.out ≡ rest = ap (λ x. drop (length piece) x) out ∙ drop_at piece rest (length piece) refl in
+    told_ok history [] visits client loop loop' visit (record visit { heard = visit.heard ++ piece }) l.was (record l.was { out = drop (length piece) l.was.out }) h is_visit
+    (record { gets = l.there }) (ap (λ (x : LoopView). x.front.core) l.becomes) (ap (λ (x : LoopView). x.front.clients) l.becomes) (ap (λ (x : LoopView). x.inboxes) l.becomes)
+    (h.origins.turns client l.was (record { gets = l.there })) (λ inbox one. hear_ok (history ++ []) visit l.was piece rest (drop (length piece) l.was.out) inbox out left (ok_still history [] visit l.was inbox one))
+
+-- whatever crosses a link
+pub link_due : (c c' : Connection) (loop loop' : LoopView) → CrossesLink c loop c' loop' → StaysDue loop.front loop'.front × (loop'.inboxes ≡ loop.inboxes)
+link_due c c' loop loop' (CrossesLink.leaves piece rest splits step) =
+    (front_stays_due loop loop' (ap (λ (l : LoopView). l.front) step.becomes), ap (λ (l : LoopView). l.inboxes) step.becomes)
+link_due c c' loop loop' (CrossesLink.reaches {end = end} now piece rest splits l) = (
+  stays_to loop.front l.front' loop'.front (ap (λ (x : LoopView). x.front) l.becomes) (stays_bytes now piece l.link loop.front end l.link' l.front' l.takes),
+  ap (λ (x : LoopView). x.inboxes) l.becomes,
+)
 
 -- whatever happens
-pub step_ok : (event : StreamsEvent) (s s' : StreamsView) → StreamsOk s → StreamsStep s event s' → StreamsOk s'
-step_ok (StreamsEvent.Clock proxy reading) s s' ok h = ok_in _ s' h.becomes ok
-step_ok (StreamsEvent.Dials proxy link) s s' ok h = ok_in _ s' h.becomes
-    (quiet_ok s s' proxy h.loop h.loop' ok h.home (front_stays_due h.loop h.loop' (ap (λ (l : LoopView). l.front) h.step.becomes)) (ap (λ (l : LoopView). l.inboxes) h.step.becomes))
-step_ok (StreamsEvent.Connected proxy link place now) s s' ok h = ok_in _ s' h.becomes
-    (quiet_ok s s' proxy h.loop h.loop' ok h.home
-    (stays_to h.loop.front h.step.front' h.loop'.front (ap (λ (l : LoopView). l.front) h.step.becomes) (stays_breaks now h.step.link h.step.link' h.loop.front h.step.front' h.step.breaks))
-    (ap (λ (l : LoopView). l.inboxes) h.step.becomes))
-step_ok (StreamsEvent.Broken proxy link now) s s' ok h = ok_in _ s' h.becomes
-    (quiet_ok s s' proxy h.loop h.loop' ok h.home
-    (stays_to h.loop.front h.step.front' h.loop'.front (ap (λ (l : LoopView). l.front) h.step.becomes) (stays_breaks now h.step.link h.step.link' h.loop.front h.step.front' h.step.breaks))
-    (ap (λ (l : LoopView). l.inboxes) h.step.becomes))
-step_ok (StreamsEvent.Tick proxy now) s s' ok h =
-    let given = ticks h.loop.limits.leg_timeout now h.loop.links in
-    ok_in _ s' h.becomes
-    (quiet_ok s s' proxy h.loop h.loop' ok h.home
-    (stays_to h.loop.front (after_all given h.loop.front) h.loop'.front (ap (λ (l : LoopView). l.front) h.step)
-    (quiet_grew given h.loop.front (quiet_ticks h.loop.limits.leg_timeout now h.loop.links)))
-    (ap (λ (l : LoopView). l.inboxes) h.step))
-step_ok (StreamsEvent.Touched proxy place) s s' ok h =
-    let t = asked_touched place h.loop h.loop' h.step in
-    ok_in _ s' h.becomes (quiet_ok s s' proxy h.loop h.loop' ok h.home t.0 t.1)
-step_ok (StreamsEvent.FromProxy connection) s s' ok h = ok_in _ s' h.becomes
-    (quiet_ok s s' h.c.proxy h.loop h.loop' ok h.home (front_stays_due h.loop h.loop' (ap (λ (l : LoopView). l.front) h.step.becomes)) (ap (λ (l : LoopView). l.inboxes) h.step.becomes))
-step_ok (StreamsEvent.ToNode connection now) s s' ok h = ok_in _ s' h.becomes (others_ok s.loops s.visits s.history h.gains ok)
-step_ok (StreamsEvent.AtEnd connection now) s s' ok h = ok_in _ s' h.becomes (others_ok s.loops s.visits s.history h.gains ok)
-step_ok (StreamsEvent.FromNode connection) s s' ok h = ok_in _ s' h.becomes ok
-step_ok (StreamsEvent.ToProxy connection now) s s' ok h = ok_in _ s' h.becomes
-    (quiet_ok s s' h.c.proxy h.loop h.loop' ok h.home
-    (stays_to h.loop.front h.step.front' h.loop'.front (ap (λ (l : LoopView). l.front) h.step.becomes)
-    (stays_bytes now h.piece h.step.link h.loop.front h.end h.step.link' h.step.front' h.step.takes))
-    (ap (λ (l : LoopView). l.inboxes) h.step.becomes))
-step_ok (StreamsEvent.NodeGone connection) s s' ok h = ok_in _ s' h.becomes ok
-step_ok (StreamsEvent.NodePlace node) s s' ok h = ok_in _ s' h.becomes ok
-step_ok (StreamsEvent.NodeRestart node) s s' ok h = ok_in _ s' h.becomes ok
-step_ok (StreamsEvent.ProxyRestart proxy) s s' ok h = ok_in _ s' h.becomes
-    (restarts_ok s proxy h.loop (fresh_loop (after_restart h.loop.front.core) h.loop.limits) ok h.home refl refl)
-step_ok (StreamsEvent.ProxyPlace proxy) s s' ok h = ok_in _ s' h.becomes (added_ok s proxy h.loop ok h.home)
-step_ok (StreamsEvent.Came proxy client) s s' ok h = ok_in _ s' h.becomes (refreshed_ok s proxy client h.loop (after_coming client h.loop) ok h.home refl refl)
-step_ok (StreamsEvent.Went proxy client) s s' ok h = ok_in _ s' h.becomes (refreshed_ok s proxy client h.loop (after_leaving client h.loop) ok h.home refl refl)
-step_ok (StreamsEvent.Sent proxy client now piece) s s' ok h = asker_sends s proxy client now piece s' ok h
-step_ok (StreamsEvent.Stopped proxy client now) s s' ok h = asker_stops s proxy client now s' ok h
-step_ok (StreamsEvent.Answered proxy client) s s' ok h =
-    let l = h.step in
-    ok_in _ s' h.becomes
-    (told_ok s proxy client h.loop h.loop' h.visit (record h.visit { put = h.visit.put ++ h.told }) l.was (record { turns = l.later; out = l.was.out ++ flat_map told_text h.told })
-    (told_in h.told) ok h.home h.is_visit (record { gets = l.there }) (ap (λ (x : LoopView). x.front.clients) l.becomes) (ap (λ (x : LoopView). x.inboxes) l.becomes)
-    (λ inbox one. put_ok s.history h.visit l.was h.told l.later inbox l.splits one))
-step_ok (StreamsEvent.Heard proxy client) s s' ok h =
-    let l = h.step in
-    let out : l.was.out ≡ h.piece ++ h.rest = ap output_in (sym l.there) ∙ h.splits in
-    let left : drop (length h.piece) l.was.out ≡ h.rest = ap (λ x. drop (length h.piece) x) out ∙ drop_at h.piece h.rest (length h.piece) refl in
-    let visits' : List (List Visit) = slice_set s.visits proxy (slice_set (visits_in (slice_get s.visits proxy)) client (record h.visit { heard = h.visit.heard ++ h.piece })) in
-    ok_in _ s' h.becomes
-    (ok_history (slice_set s.loops proxy h.loop') visits' (s.history ++ []) s.history (sym (append-nil s.history))
-    (told_ok s proxy client h.loop h.loop' h.visit (record h.visit { heard = h.visit.heard ++ h.piece }) l.was (record l.was { out = drop (length h.piece) l.was.out }) []
-    ok h.home h.is_visit (record { gets = l.there }) (ap (λ (x : LoopView). x.front.clients) l.becomes) (ap (λ (x : LoopView). x.inboxes) l.becomes)
-    (λ inbox one. hear_ok (s.history ++ []) h.visit l.was h.piece h.rest (drop (length h.piece) l.was.out) inbox out left (ok_still s.history [] h.visit l.was inbox one))))
+step_ok : (s s' : StreamsView) (ticks : List Tick) → StreamsOk s → StreamsStep s ticks s' → StreamsOk s'
+step_ok s s' ticks ok (StreamsStep.shows tick within) = ok
+step_ok s s' ticks ok (StreamsStep.at_proxy {reading = reading} {loop = loop} {loop' = loop'} {visits = visits} {visits' = visits'} {gains = gains} number clock home were does) =
+    let v = ok number loop home in
+    one_ok s.loops s.visits s.history gains number loop loop' visits' ok home
+    (proxy_ok reading loop loop' visits visits' gains s.history (subst (λ x. LoopOk s.history x loop) (at_one v.there were) v.ok) does)
+step_ok s s' ticks ok (StreamsStep.connects {loop = loop} {loop' = loop'} number link node place now home l there named within free) =
+    loop_ok s.loops s.visits s.history number loop loop' ok home
+    (stays_to loop.front l.front' loop'.front (ap (λ (x : LoopView). x.front) l.becomes) (stays_breaks now l.link l.link' loop.front l.front' l.breaks))
+    (ap (λ (x : LoopView). x.inboxes) l.becomes)
+step_ok s s' ticks ok (StreamsStep.at_link {c = c} {c' = c'} {loop = loop} {loop' = loop'} number there here home crosses) =
+    let d = link_due c c' loop loop' crosses in
+    loop_ok s.loops s.visits s.history c.proxy loop loop' ok home d.0 d.1
+step_ok s s' ticks ok (StreamsStep.at_node {gains = gains} number place there is_open home does) = others_ok s.loops s.visits s.history gains ok
+step_ok s s' ticks ok (StreamsStep.adds_place number home) = ok
+step_ok s s' ticks ok (StreamsStep.restarts number home) = ok
 
-pub run_ok : (events : List StreamsEvent) (s s' : StreamsView) → StreamsOk s → StreamsRun s events s' → StreamsOk s'
-run_ok [] s s' ok h = ok_in s s' h ok
-run_ok (event ∷ events) s s' ok h = run_ok events h.0 s' (step_ok event s h.0 ok h.1) h.2
+pub run_ok : (s : StreamsView) (ticks : List Tick) (s' : StreamsView) → StreamsOk s → StreamsRun s ticks s' → StreamsOk s'
+run_ok s ticks s' ok StreamsRun.begins = ok
+run_ok s ticks s' ok (StreamsRun.goes_on {ticks = before} {more = more} {between = between} run step) = step_ok between s' more (run_ok s before between ok run) step
 
--- at the beginning nobody is there
+fresh_outstanding : (number : ℕ) (proxies : List ProxySetup) (p : ℕ) (core : ProxyView) → At (proxies_from number proxies) p core → core.outstanding ≡ []
+fresh_outstanding number [] p core h = absurd (at_nothing h)
+fresh_outstanding number (proxy ∷ proxies) zero core h =
+    let same : fresh_proxy number 0 proxy.routing proxy.schedule proxy.room ≡ core =
+    (let both : Some (fresh_proxy number 0 proxy.routing proxy.schedule proxy.room) ≡ Some core = h.gets in cc) in
+    ap (λ (x : ProxyView). x.outstanding) (sym same)
+fresh_outstanding number (proxy ∷ proxies) (suc p) core h = fresh_outstanding (number + 1) proxies p core (record { gets = h.gets })
+
+-- at the beginning nothing is under way
+none_pending : (setup : SetupView) (s : StreamsView) → Starts setup s → (p : ℕ) (loop : LoopView) → At s.loops p loop → loop.front.core.outstanding ≡ []
+none_pending setup s starts p loop h = fresh_outstanding 0 setup.proxies p loop.front.core (subst (λ x. At x p loop.front.core) starts.cores (at_mapped (λ (l : LoopView). l.front.core) h))
+
+-- and nobody is there
 pub starts_ok : (setup : SetupView) (s : StreamsView) → Starts setup s → StreamsOk s
 starts_ok setup s starts = λ p loop h. (
     let fresh = fresh_at s.loops p loop starts.loops h.gets in
     record {
       visits = [];
       there = subst (λ v. At v p []) (sym starts.visits) (at_mapped (λ (l : LoopView). []) h);
-      ok = record {
-        places = ap (λ (l : LoopView). length l.front.clients) fresh;
-        boxes = ap (λ (l : LoopView). length l.inboxes) fresh;
-        seats = λ place client visit a b. absurd (at_nothing b);
-      };
+      ok = restarts_ok s.history loop (none_pending setup s starts p loop h) (ap (λ (l : LoopView). l.front.clients) fresh) (ap (λ (l : LoopView). l.inboxes) fresh);
     })
 
 -- so each client is served
-pub all_served : (setup : SetupView) (first last : StreamsView) (events : List StreamsEvent) → Starts setup first → StreamsRun first events last → AreServed last
-all_served setup first last events starts run =
-    let ok = run_ok events first last (starts_ok setup first starts) run in
-    λ proxy place loop client visit home there is_visit. (
+pub all_served : (setup : SetupView) (first last : StreamsView) (ticks : List Tick) → Starts setup first → StreamsRun first ticks last → AreServed last
+all_served setup first last ticks starts run =
+    let ok = run_ok first ticks last (starts_ok setup first starts) run in
+    λ proxy place loop client home there. (
     let v = ok proxy loop home in
-    let seat = v.ok.seats place client visit (record { gets = there }) (subst (λ x. At x place visit) (visits_are last proxy v.visits v.there) is_visit) in
-    let h = seat.ok in
-    record {
-      inputs = h.inputs;
-      bytes = h.bytes;
-      rest = h.held ++ h.tail;
-      sent = h.sent;
-      spells = h.spells;
-      due = h.due;
-      heard = h.heard;
-      answered = h.answered;
-    })
+    let below : place < length v.visits = (let b = slice_get_within loop.front.clients place client there.gets in let same = v.ok.places in omega arith) in
+    let visit : Visit = get_or v.visits place fresh_visit in
+    let is_visit : At v.visits place visit = record { gets = slice_get-get_or v.visits place fresh_visit below } in
+    let h = (v.ok.seats place client visit there is_visit).ok in (
+      v.visits,
+      visit,
+      v.there,
+      is_visit,
+      record {
+        bytes = h.bytes;
+        rest = h.held ++ h.tail;
+        sent = h.sent;
+        reads_on = h.reads_on;
+        due = h.due;
+        heard = h.heard;
+        none_waits = h.none_waits;
+        answered = h.answered;
+      },
+    ))

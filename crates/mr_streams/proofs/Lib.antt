@@ -28,9 +28,11 @@ mod Firsts
 mod Failing
 mod Thinning
 mod Safety
+mod Origins
 mod Dues
 mod Reading
 mod Hearing
 mod HearingEvents
 mod Flushing
 mod Beginning
+mod Issuing

@@ -1,6 +1,5 @@
 -- What happens on the proxy's side of a connection: bytes leave the loop and reach it, a proxy restarts, a client is answered.
-use Rattle.std.proofs.Common.{◌≡◌, ◌≢◌, ℕ, suc, ◌+◌, inl, inr, Bool, true, false, List, [], ◌∷◌, ◌++◌, map, slice_set, drop, length, Some, if◌then◌else◌, refl, sym, ap, ◌∙◌, subst, append_assoc}
-use Rattle.std.specs.List.{flat_map}
+use Rattle.std.proofs.Common.{◌≡◌, ◌≢◌, ℕ, suc, ◌+◌, ◌-◌, ◌^◌, inl, inr, Bool, true, false, List, [], ◌∷◌, ◌++◌, map, slice_get, slice_set, drop, length, Some, if◌then◌else◌, refl, sym, ap, ◌∙◌, subst, append_assoc}
 use Rattle.std.proofs.lemmas.List.{append-nil, drop_at}
 use Rattle.mr_history.specs.Places.{At}
 use Rattle.mr_history.specs.declared.entry.Entry.{Entry}
@@ -10,10 +9,10 @@ use Rattle.mr_proxy.specs.Answer.{AnswerView, reply_of}
 use Rattle.mr_proxy.specs.Transitions.{after_restart}
 use Rattle.mr_loop.specs.Counts.{no_link_counts}
 use Rattle.mr_loop.specs.Links.{down_link, is_up_at, is_up_in}
-use Rattle.mr_loop.specs.LoopView.{LoopView, with_link, link_output_in, fresh_loop, nodes_of}
-use Rattle.mr_loop.specs.Runs.{told_text}
+use Rattle.mr_loop.specs.LoopView.{LoopView, LinkBytes, LinkWrote, with_link, link_output_in, fresh_loop, nodes_of}
 use Rattle.mr_loop.specs.declared.client.Client.{Client}
 use Rattle.mr_loop.specs.declared.link.Link.{Link}
+use Rattle.mr_loop.specs.declared.link.LinkEnd.{LinkEnd}
 use Rattle.mr_loop.specs.declared.node.client.NodeClient.{NodeClient}
 use Rattle.mr_loop.specs.declared.turns.Turn.{Turn}
 use Rattle.mr_loop.specs.declared.turns.Turn.TheVariants.{Waits, Answered, Says}
@@ -28,13 +27,14 @@ use Rattle.mr_streams.specs.OneLink.{Awaits}
 use Rattle.mr_streams.specs.OneNode.{IsBusy}
 use Rattle.mr_streams.specs.OneProxy.{AreKnown, KnowsTurns, FrontRuns}
 use Rattle.mr_streams.specs.Refines.{Tells}
-use Rattle.mr_streams.specs.Steps.{LeavesProxy, ReachesProxy, RestartsProxy, Answers, left_if_down, with_loop, with_connection, with_entries, with_visit}
+use Rattle.mr_streams.specs.Steps.{CrossesLink, left_if_down, with_loop, with_connection, with_entries}
 use Rattle.mr_streams.specs.StreamsView.{StreamsView, Connection}
+use Rattle.mr_streams.specs.Putting.{PutsTexts}
 use Rattle.mr_streams.proofs.Changing.{IsLike, IsSameLink, moved_flow, down_like, like_on, unless_down}
 use Rattle.mr_streams.proofs.Fronts.{front_stays}
 use Rattle.mr_streams.proofs.Lists.{at_map, at_mapped, at_set, at_one, at_left, at_right, at_written, at_replicate, at_nothing}
 use Rattle.mr_streams.proofs.LoopEvents.{front_same, own_set, all_same}
-use Rattle.mr_streams.proofs.LoopMoves.{core_there, own_links, loop_streams, front_streams, moves_to, runs_in, runs_visited}
+use Rattle.mr_streams.proofs.LoopMoves.{core_there, own_links, loop_streams, front_streams, moves_to, runs_in}
 use Rattle.mr_streams.proofs.Mirrors.{MirrorsStreams, FlowsOf, IsOpen, RunsTo, lines_of, seats_of, flows_left}
 use Rattle.mr_streams.proofs.Runs.{still_tells}
 use Rattle.mr_streams.proofs.Spellings.{ReplyLaws}
@@ -50,24 +50,24 @@ elsewhere_same links node place link' other = λ old new h k was is.
     ]
 
 -- a proxy restarts
-pub restarted : (w : WorldView) (s s' : StreamsView) (p : ℕ) → MirrorsStreams w s → RestartsProxy s p s' → RunsTo w [] s'
-restarted w s s' p m h =
-    let loop = h.loop in
+pub restarted : (w : WorldView) (s : StreamsView) (p : ℕ) (loop : LoopView) → MirrorsStreams w s → At s.loops p loop → loop.front.core.incarnation ≢ 2 ^ 64 - 1
+    → RunsTo w [] (with_loop p (fresh_loop (after_restart loop.front.core) loop.limits) s)
+restarted w s p loop m home not_last =
     let core = after_restart loop.front.core in
     let explicit : LoopView = fresh_loop core loop.limits in
     let world : WorldView = record w { proxies = slice_set w.proxies p core } in
     let connections' : List Connection = map (left_if_down p explicit) s.connections in
     let down : Link = down_link no_link_counts in
-    let is = loop_streams w world s p loop explicit connections' s.history m h.home (record { number = refl; routing = refl; schedule = refl }) refl refl refl m.known
+    let is = loop_streams w world s p loop explicit connections' s.history m home (record { number = refl; routing = refl; schedule = refl }) refl refl refl m.known
     (λ place client there. absurd (at_nothing there)) (λ place inbox there. absurd (at_nothing there)) m.mirrors.tells
     (λ place link there. subst (λ (x : Link). AreOf p x.legs) (sym (at_replicate (nodes_of core.routing) down there)) tt)
     (λ i c k. (let old = at_map (left_if_down p explicit) s.connections k in
     record { old = old.0; there = old.1; like = subst (λ x. IsLike old.0 x) (sym old.2) (down_like p explicit old.0) }))
     (λ i c k. (let old = at_map (left_if_down p explicit) s.connections k in
     subst (λ x. FlowsOf w.sent w.replies (slice_set (lines_of s.loops) p explicit.links) (seats_of s.nodes) x) (sym old.2)
-    (moved_flow w.sent w.replies (lines_of s.loops) (seats_of s.nodes) p loop explicit old.0 (at_mapped (λ (l : LoopView). l.links) h.home) (m.mirrors.flows i old.0 old.1)
+    (moved_flow w.sent w.replies (lines_of s.loops) (seats_of s.nodes) p loop explicit old.0 (at_mapped (λ (l : LoopView). l.links) home) (m.mirrors.flows i old.0 old.1)
     (λ here same. λ link new a b was up. absurd (let no : false ≡ true = ap (λ (x : Link). x.is_up) (sym (at_replicate (nodes_of core.routing) down b)) ∙ up in cc))))) in
-    runs_in w [] _ s' h.becomes (runs_visited w [] (with_loop p explicit s) _ (record {
+    record {
       world = world;
       happened = FleetEvent.Happens (event.ProxyRestart p) ∷ [];
       run = (
@@ -76,8 +76,8 @@ restarted w s s' p m h =
           note.Nothing,
           record {
             proxy = loop.front.core;
-            home = core_there w s p loop m h.home;
-            not_last = h.not_last;
+            home = core_there w s p loop m home;
+            not_last = not_last;
             tells = refl;
             becomes = refl;
           },
@@ -86,7 +86,7 @@ restarted w s s' p m h =
       );
       ticks_are = refl;
       mirrors = is;
-    }))
+    }
 
 tells_unless : (told heard : List Entry) (answer : AnswerView) (silent : Bool) → (silent ≡ false → Has told (entry.Answered answer.op (reply_of answer))) → Tells told heard
     → Tells told (heard ++ (if silent then [] else entry.Answered answer.op (reply_of answer) ∷ []))
@@ -108,24 +108,23 @@ tells_turns told heard (turn ∷ turns) known t =
     (tells_turn told heard turn (λ answer e wants. known 0 answer (record { gets = ap (λ x. Some x) e }) wants) t))
 
 -- a client is answered
-pub answers : (w : WorldView) (s s' : StreamsView) (p client : ℕ) → MirrorsStreams w s → Answers s p client s' → RunsTo w [] s'
-answers w s s' p client m h =
-    let loop = h.loop in
-    let l = h.step in
-    let new : Client = record { turns = l.later; out = l.was.out ++ flat_map told_text h.told } in
+pub answers : (w : WorldView) (s : StreamsView) (p client : ℕ) (loop loop' : LoopView) → MirrorsStreams w s → At s.loops p loop → (step : PutsTexts client loop loop')
+    → RunsTo w [] (with_entries (told_in step.tells.told) (with_loop p loop' s))
+answers w s p client loop loop' m home l =
+    let new : Client = l.client in
+    let put : List Turn = l.tells.told in
     let explicit : LoopView = record loop { front = record loop.front { clients = slice_set loop.front.clients client new } } in
-    let all : KnowsTurns w.history (h.told ++ l.later) = subst (λ t. KnowsTurns w.history t) l.splits (m.known p loop h.home client l.was (record { gets = l.there })) in
-    let first : KnowsTurns w.history h.told = λ place answer k wants. all place answer (at_left l.later k) wants in
-    let later : KnowsTurns w.history l.later = λ place answer k wants. all (length h.told + place) answer (at_right h.told k) wants in
+    let all : KnowsTurns w.history (put ++ new.turns) = subst (λ t. KnowsTurns w.history t) l.tells.splits (m.known p loop home client l.was (record { gets = l.there })) in
+    let first : KnowsTurns w.history put = λ place answer k wants. all place answer (at_left new.turns k) wants in
+    let later : KnowsTurns w.history new.turns = λ place answer k wants. all (length put + place) answer (at_right put k) wants in
     let known : AreKnown w.history loop.front.clients → AreKnown w.history explicit.front.clients = λ known n other there. elim (at_set loop.front.clients client new there) [
       | inl e ↦ subst (λ (c : Client). KnowsTurns w.history c.turns) (sym e.1) later
       | inr e ↦ known n other e.1
     ] in
-    let front = front_same w p loop.front explicit.front (core_there w s p loop m h.home) refl known in
-    let told : Tells front.so.world.history (s.history ++ told_in h.told) = tells_turns w.history s.history h.told first m.mirrors.tells in
-    let is = moves_to w s p loop explicit (s.history ++ told_in h.told) front m h.home (m.legal p loop h.home) told (own_links w s p loop m h.home) (λ place. all_same loop.links place) in
-    runs_in w [] _ s' (h.becomes ∙ ap (λ x. with_entries (told_in h.told) (with_visit p client (record h.visit { put = h.visit.put ++ h.told }) (with_loop p x s))) l.becomes)
-    (runs_visited w [] _ _ is)
+    let front = front_same w p loop.front explicit.front (core_there w s p loop m home) refl known in
+    let told : Tells front.so.world.history (s.history ++ told_in put) = tells_turns w.history s.history put first m.mirrors.tells in
+    let is = moves_to w s p loop explicit (s.history ++ told_in put) front m home (m.legal p loop home) told (own_links w s p loop m home) (λ place. all_same loop.links place) in
+    runs_in w [] _ _ (ap (λ x. with_entries (told_in put) (with_loop p x s)) l.becomes) is
 
 -- the connection that a step changes, and the others
 module _ (w : WorldView) (s : StreamsView) (number : ℕ) (c c' : Connection) (loop : LoopView) (front' : _) (link link' : Link) where
@@ -171,25 +170,25 @@ opens_back seats c place kept tail is_deaf back o = record {
 }
 
 -- bytes leave a loop
-pub leaves : (w : WorldView) (s s' : StreamsView) (number : ℕ) → MirrorsStreams w s → LeavesProxy s number s' → RunsTo w [] s'
-leaves w s s' number m h =
-    let c = h.c in
-    let l = h.step in
-    let loop = h.loop in
+leaves : (w : WorldView) (s : StreamsView) (number : ℕ) (c : Connection) (loop new : LoopView) (piece rest : List ℕ) → MirrorsStreams w s
+    → At s.connections number c → c.is_left ≡ false → At s.loops c.proxy loop
+    → link_output_in (slice_get loop.links c.link) ≡ piece ++ rest → LinkWrote c.link (length piece) loop new
+    → RunsTo w [] (with_loop c.proxy new (with_connection number (record c { forth = c.forth ++ piece }) s))
+leaves w s number c loop new piece rest m at is_here home splits l =
     let p : ℕ = c.proxy in
-    let link' : Link = record l.link { out = drop (length h.piece) l.link.out } in
-    let c' : Connection = record c { forth = c.forth ++ h.piece } in
+    let link' : Link = record l.link { out = drop (length piece) l.link.out } in
+    let c' : Connection = record c { forth = c.forth ++ piece } in
     let there : At loop.links c.link l.link = record { gets = l.there } in
-    let f = m.mirrors.flows number c h.there in
-    let old = f.here h.is_here in
-    let lines_there : At (lines_of s.loops) p loop.links = at_mapped (λ (x : LoopView). x.links) h.home in
+    let f = m.mirrors.flows number c at in
+    let old = f.here is_here in
+    let lines_there : At (lines_of s.loops) p loop.links = at_mapped (λ (x : LoopView). x.links) home in
     let links : loop.links ≡ old.links = at_one lines_there old.home in
     let one : l.link ≡ old.link = at_one there (subst (λ x. At x c.link old.link) (sym links) old.there) in
-    let out : l.link.out ≡ h.piece ++ h.rest = ap link_output_in (sym l.there) ∙ h.splits in
-    let rest : link'.out ≡ h.rest = ap (λ x. drop (length h.piece) x) out ∙ drop_at h.piece h.rest (length h.piece) refl in
-    let was : f.out ≡ h.piece ++ h.rest = sym old.out_is ∙ ap (λ (x : Link). x.out) (sym one) ∙ out in
-    let texts : f.kept ++ (c.forth ++ f.out) ≡ f.kept ++ ((c.forth ++ h.piece) ++ h.rest) =
-    ap (λ x. f.kept ++ x) (ap (λ x. c.forth ++ x) was ∙ sym (append_assoc c.forth h.piece h.rest)) in
+    let out : l.link.out ≡ piece ++ rest = ap link_output_in (sym l.there) ∙ splits in
+    let left : link'.out ≡ rest = ap (λ x. drop (length piece) x) out ∙ drop_at piece rest (length piece) refl in
+    let was : f.out ≡ piece ++ rest = sym old.out_is ∙ ap (λ (x : Link). x.out) (sym one) ∙ out in
+    let texts : f.kept ++ (c.forth ++ f.out) ≡ f.kept ++ ((c.forth ++ piece) ++ rest) =
+    ap (λ x. f.kept ++ x) (ap (λ x. c.forth ++ x) was ∙ sym (append_assoc c.forth piece rest)) in
     let lines' : List (List Link) = slice_set (lines_of s.loops) p (slice_set loop.links c.link link') in
     let flow : FlowsOf w.sent w.replies lines' (seats_of s.nodes) c' = record {
       returning = f.returning;
@@ -197,7 +196,7 @@ leaves w s s' number m h =
       front = f.front;
       tail = f.tail;
       kept = f.kept;
-      out = h.rest;
+      out = rest;
       is_deaf = f.is_deaf;
       busy = subst (λ x. IsBusy w.sent w.replies c.node f.is_deaf f.returning f.going (f.front ++ (c.back ++ f.tail)) x) texts f.busy;
       here = λ _. record {
@@ -208,7 +207,7 @@ leaves w s s' number m h =
         is_up = ap (λ (x : Link). x.is_up) one ∙ old.is_up;
         legs_are = ap (λ (x : Link). x.legs) one ∙ old.legs_are;
         kept = ap (λ (x : Link). x.reader.kept) one ∙ old.kept;
-        out_is = rest;
+        out_is = left;
       };
       opens = λ place e. (let o = f.opens place e in record {
         clients = o.clients;
@@ -220,52 +219,51 @@ leaves w s s' number m h =
         tail_is = o.tail_is;
         reads_on = λ hears. (let r = o.reads_on hears in record {
           not_closed = r.not_closed;
-          ended = λ ends. absurd (let no : false ≡ true = sym h.is_here ∙ (r.ended ends).0 in cc);
+          ended = λ ends. absurd (let no : false ≡ true = sym is_here ∙ (r.ended ends).0 in cc);
         });
       });
     } in
     let loop' : LoopView = with_link loop loop.front c.link link' in
-    let is = changed_streams w s number c c' loop loop.front l.link link' m h.there h.is_here h.home there (front_stays w p loop.front (core_there w s p loop m h.home))
-    (own_links w s p loop m h.home c.link l.link there) (record { proxy = refl; link = refl; node = refl; place = λ place e. e; here = λ e. e })
+    let is = changed_streams w s number c c' loop loop.front l.link link' m at is_here home there (front_stays w p loop.front (core_there w s p loop m home))
+    (own_links w s p loop m home c.link l.link there) (record { proxy = refl; link = refl; node = refl; place = λ place e. e; here = λ e. e })
     (unless_down (λ x. FlowsOf w.sent w.replies lines' (seats_of s.nodes) x) p loop' c' (flows_left w.sent w.replies lines' lines' (seats_of s.nodes) c' flow) (λ _. flow)) in
-    runs_in w [] (with_loop p loop' (with_connection number c' s)) s' (h.becomes ∙ ap (λ x. with_loop p x (with_connection number c' s)) l.becomes) is
+    runs_in w [] (with_loop p loop' (with_connection number c' s)) _ (ap (λ x. with_loop p x (with_connection number c' s)) l.becomes) is
 
 -- bytes reach a loop
-pub reaches : ReplyLaws → (w : WorldView) (s s' : StreamsView) (number now : ℕ) → MirrorsStreams w s → ReachesProxy s number now s' → RunsTo w [] s'
-reaches laws w s s' number now m h =
-    let c = h.c in
-    let l = h.step in
-    let loop = h.loop in
+reaches : ReplyLaws → (w : WorldView) (s : StreamsView) (number now : ℕ) (c : Connection) (loop new : LoopView) (end : LinkEnd) (piece rest : List ℕ) → MirrorsStreams w s
+    → At s.connections number c → c.is_left ≡ false → At s.loops c.proxy loop → c.back ≡ piece ++ rest → LinkBytes c.link now piece loop end new
+    → RunsTo w [] (with_loop c.proxy new (with_connection number (record c { back = rest }) s))
+reaches laws w s number now c loop new end piece rest m at is_here home splits l =
     let p : ℕ = c.proxy in
-    let c' : Connection = record c { back = h.rest } in
+    let c' : Connection = record c { back = rest } in
     let there : At loop.links c.link l.link = record { gets = l.there } in
-    let f = m.mirrors.flows number c h.there in
-    let old = f.here h.is_here in
-    let lines_there : At (lines_of s.loops) p loop.links = at_mapped (λ (x : LoopView). x.links) h.home in
+    let f = m.mirrors.flows number c at in
+    let old = f.here is_here in
+    let lines_there : At (lines_of s.loops) p loop.links = at_mapped (λ (x : LoopView). x.links) home in
     let links : loop.links ≡ old.links = at_one lines_there old.home in
     let one : l.link ≡ old.link = at_one there (subst (λ x. At x c.link old.link) (sym links) old.there) in
-    let own = own_links w s p loop m h.home in
+    let own = own_links w s p loop m home in
     let front : f.front ≡ l.link.reader.kept = sym old.kept ∙ ap (λ (x : Link). x.reader.kept) (sym one) in
-    let regrouped : f.front ++ (c.back ++ f.tail) ≡ (f.front ++ h.piece) ++ (h.rest ++ f.tail) =
-    ap (λ x. f.front ++ (x ++ f.tail)) h.splits ∙ ap (λ x. f.front ++ x) (append_assoc h.piece h.rest f.tail) ∙ sym (append_assoc f.front h.piece (h.rest ++ f.tail)) in
-    let replies : AreReplies w.sent w.replies f.returning ((f.front ++ h.piece) ++ (h.rest ++ f.tail)) = subst (λ x. AreReplies w.sent w.replies f.returning x) regrouped f.busy.replies in
-    let awaits : Awaits w.sent w.replies w p loop.front.core l.link.legs f.going ((l.link.reader.kept ++ h.piece) ++ (h.rest ++ f.tail)) = record {
+    let regrouped : f.front ++ (c.back ++ f.tail) ≡ (f.front ++ piece) ++ (rest ++ f.tail) =
+    ap (λ x. f.front ++ (x ++ f.tail)) splits ∙ ap (λ x. f.front ++ x) (append_assoc piece rest f.tail) ∙ sym (append_assoc f.front piece (rest ++ f.tail)) in
+    let replies : AreReplies w.sent w.replies f.returning ((f.front ++ piece) ++ (rest ++ f.tail)) = subst (λ x. AreReplies w.sent w.replies f.returning x) regrouped f.busy.replies in
+    let awaits : Awaits w.sent w.replies w p loop.front.core l.link.legs f.going ((l.link.reader.kept ++ piece) ++ (rest ++ f.tail)) = record {
       returning = f.returning;
       splits = ap (λ (x : Link). x.legs) one ∙ old.legs_are;
-      replies = subst (λ x. AreReplies w.sent w.replies f.returning ((x ++ h.piece) ++ (h.rest ++ f.tail))) front replies;
+      replies = subst (λ x. AreReplies w.sent w.replies f.returning ((x ++ piece) ++ (rest ++ f.tail))) front replies;
       own = own c.link l.link there;
       sent = refl;
       replied = refl;
-      there = core_there w s p loop m h.home;
+      there = core_there w s p loop m home;
     } in
-    let taken = bytes_taken laws w.sent w.replies w p now h.piece (h.rest ++ f.tail) h.end l.link l.link' loop.front l.front' f.going awaits l.takes in
+    let taken = bytes_taken laws w.sent w.replies w p now piece (rest ++ f.tail) end l.link l.link' loop.front l.front' f.going awaits l.takes in
     let lines' : List (List Link) = slice_set (lines_of s.loops) p (slice_set loop.links c.link l.link') in
     let loop' : LoopView = with_link loop l.front' c.link l.link' in
     let new_there : At loop'.links c.link l.link' = at_written l.link' there in
     let left : FlowsOf w.sent w.replies lines' (seats_of s.nodes) (record c' { is_left = true }) = record {
       returning = f.returning;
       going = f.going;
-      front = f.front ++ h.piece;
+      front = f.front ++ piece;
       tail = f.tail;
       kept = f.kept;
       out = f.out;
@@ -284,11 +282,11 @@ reaches laws w s s' number now m h =
       });
     } in
     let like : IsLike c c' = record { proxy = refl; link = refl; node = refl; place = λ place e. e; here = λ e. e } in
-    runs_in w [] (with_loop p loop' (with_connection number c' s)) s' (h.becomes ∙ ap (λ x. with_loop p x (with_connection number c' s)) l.becomes)
+    runs_in w [] (with_loop p loop' (with_connection number c' s)) _ (ap (λ x. with_loop p x (with_connection number c' s)) l.becomes)
     (elim taken.left [
       | inl goes ↦ (
           let a = goes.2 in
-          changed_streams w s number c c' loop l.front' l.link l.link' m h.there h.is_here h.home there taken.run a.own like
+          changed_streams w s number c c' loop l.front' l.link l.link' m at is_here home there taken.run a.own like
           (unless_down (λ x. FlowsOf w.sent w.replies lines' (seats_of s.nodes) x) p loop' c' left (λ _. record {
             returning = a.returning;
             going = f.going;
@@ -308,13 +306,20 @@ reaches laws w s s' number now m h =
               kept = refl;
               out_is = goes.1 ∙ ap (λ (x : Link). x.out) one ∙ old.out_is;
             };
-            opens = λ place e. opens_back (seats_of s.nodes) c place f.kept f.tail f.is_deaf h.rest (f.opens place e);
+            opens = λ place e. opens_back (seats_of s.nodes) c place f.kept f.tail f.is_deaf rest (f.opens place e);
           })))
       | inr down ↦ (
           let none : is_up_at loop'.links c.link ≡ false = ap is_up_in new_there.gets ∙ down.0 in
-          changed_streams w s number c c' loop l.front' l.link l.link' m h.there h.is_here h.home there taken.run down.1 like
+          changed_streams w s number c c' loop l.front' l.link l.link' m at is_here home there taken.run down.1 like
           (unless_down (λ x. FlowsOf w.sent w.replies lines' (seats_of s.nodes) x) p loop' c' left (λ where'. absurd (elim where' [
             | inl other ↦ other refl
             | inr up ↦ (let no : false ≡ true = sym none ∙ up.1 in cc)
           ]))))
     ])
+
+-- bytes cross the proxy's end of a connection
+pub link_runs : ReplyLaws → (w : WorldView) (s : StreamsView) (number : ℕ) (c c' : Connection) (loop loop' : LoopView) → MirrorsStreams w s
+    → At s.connections number c → c.is_left ≡ false → At s.loops c.proxy loop → CrossesLink c loop c' loop' → RunsTo w [] (with_loop c.proxy loop' (with_connection number c' s))
+link_runs laws w s number c c' loop loop' m there is_here home (CrossesLink.leaves piece rest splits step) = leaves w s number c loop loop' piece rest m there is_here home splits step
+link_runs laws w s number c c' loop loop' m there is_here home (CrossesLink.reaches {end = end} now piece rest splits step) =
+    reaches laws w s number now c loop loop' end piece rest m there is_here home splits step

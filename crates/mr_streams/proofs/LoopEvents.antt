@@ -1,12 +1,12 @@
 -- What happens to a proxy's loop beside its clients: a dial, a break, a tick, a restart, a place, and what a client hears.
-use Rattle.std.proofs.Common.{◌≡◌, ◌≢◌, ℕ, suc, inl, inr, Bool, true, false, List, [], ◌∷◌, ◌++◌, slice_get, slice_set, drop, length, Option, Some, None, if◌then◌else◌, refl, sym, ap, ◌∙◌, subst}
+use Rattle.std.proofs.Common.{◌≡◌, ◌≢◌, ℕ, suc, inl, inr, Bool, true, false, List, [], ◌∷◌, ◌++◌, slice_get, slice_set, drop, Option, Some, None, if◌then◌else◌, refl, sym, ap, ◌∙◌, subst}
 use Rattle.mr_history.specs.Places.{At}
 use Rattle.mr_history.specs.declared.entry.Entry.{Entry}
 use Rattle.mr_loop.specs.Counts.{dial_counted}
 use Rattle.mr_loop.specs.Events.{FrontView, Event, after_all, after_event}
 use Rattle.mr_loop.specs.Inboxes.{fresh_inbox}
 use Rattle.mr_loop.specs.Links.{down_link}
-use Rattle.mr_loop.specs.LoopView.{LoopView, with_link, LinkBreaks, LinkDialed, IsAsked, after_tick, after_coming, after_leaving, with_place}
+use Rattle.mr_loop.specs.LoopView.{LoopView, with_link, LinkBreaks, LinkDialed, ClientRead, IsAsked, after_tick, with_place}
 use Rattle.mr_loop.specs.Returning.{after_break, give_ups}
 use Rattle.mr_loop.specs.Ticking.{ticked, ticks, is_late, given_up_at}
 use Rattle.mr_loop.specs.Turns.{fresh_client}
@@ -17,12 +17,12 @@ use Rattle.mr_loop.specs.declared.turns.Turn.TheVariants.{Answered}
 use Rattle.mr_world.specs.WorldView.{WorldView}
 use Rattle.mr_streams.specs.Flows.{AreOf}
 use Rattle.mr_streams.specs.OneProxy.{AreKnown, KnowsTurns, FrontRuns}
-use Rattle.mr_streams.specs.Steps.{Moves, Changes, AddsPlace, ClientHears, with_loop}
+use Rattle.mr_streams.specs.Steps.{with_loop}
 use Rattle.mr_streams.specs.StreamsView.{StreamsView}
 use Rattle.mr_streams.proofs.Changing.{IsSameLink}
 use Rattle.mr_streams.proofs.Fronts.{front_stays, front_to, front_on}
 use Rattle.mr_streams.proofs.Lists.{at_map, at_set, at_last, at_one}
-use Rattle.mr_streams.proofs.LoopMoves.{core_there, own_links, moves_quietly, runs_in, runs_visited}
+use Rattle.mr_streams.proofs.LoopMoves.{core_there, own_links, moves_quietly, runs_in}
 use Rattle.mr_streams.proofs.Mirrors.{MirrorsStreams, AreLegal, IsLegalInput, RunsTo}
 use Rattle.mr_streams.proofs.Runs.{stays, stands}
 use Rattle.mr_streams.proofs.Taking.{breaks_run, give_ups_run}
@@ -61,50 +61,43 @@ front_same w number front front' there same known = record {
 }
 
 -- a loop that is so by another word
-to_loop : (w : WorldView) (s s' : StreamsView) (p : ℕ) (loop' explicit : LoopView) → s' ≡ with_loop p loop' s → loop' ≡ explicit → RunsTo w [] (with_loop p explicit s) → RunsTo w [] s'
-to_loop w s s' p loop' explicit e f h = runs_in w [] (with_loop p explicit s) s' (e ∙ ap (λ x. with_loop p x s) f) h
+to_loop : (w : WorldView) (s : StreamsView) (p : ℕ) (loop' explicit : LoopView) → loop' ≡ explicit → RunsTo w [] (with_loop p explicit s) → RunsTo w [] (with_loop p loop' s)
+to_loop w s p loop' explicit f h = runs_in w [] (with_loop p explicit s) (with_loop p loop' s) (ap (λ x. with_loop p x s) f) h
 
-pub dialed : (w : WorldView) (s s' : StreamsView) (p link : ℕ) → MirrorsStreams w s → Moves (LinkDialed link) s p s' → RunsTo w [] s'
-dialed w s s' p link m h =
-    let l = h.step in
-    let loop = h.loop in
+pub dialed : (w : WorldView) (s : StreamsView) (p link : ℕ) (loop loop' : LoopView) → MirrorsStreams w s → At s.loops p loop → LinkDialed link loop loop' → RunsTo w [] (with_loop p loop' s)
+dialed w s p link loop loop' m home l =
     let there : At loop.links link l.link = record { gets = l.there } in
     let new : Link = record l.link { counts = dial_counted l.link.counts } in
     let explicit : LoopView = with_link loop loop.front link new in
-    to_loop w s s' p h.loop' explicit h.becomes l.becomes
-    (moves_quietly w s p loop explicit m h.home (front_stays w p loop.front (core_there w s p loop m h.home)) (m.legal p loop h.home)
-    (own_set p loop.links link new (own_links w s p loop m h.home) (own_links w s p loop m h.home link l.link there))
+    to_loop w s p loop' explicit l.becomes
+    (moves_quietly w s p loop explicit m home (front_stays w p loop.front (core_there w s p loop m home)) (m.legal p loop home)
+    (own_set p loop.links link new (own_links w s p loop m home) (own_links w s p loop m home link l.link there))
     (λ place. others_same loop.links link place l.link new there (λ was is. (refl, refl, refl))))
 
-pub broken : (w : WorldView) (s s' : StreamsView) (p link now : ℕ) → MirrorsStreams w s → Moves (LinkBreaks link now) s p s' → RunsTo w [] s'
-broken w s s' p link now m h =
-    let l = h.step in
-    let loop = h.loop in
+pub broken : (w : WorldView) (s : StreamsView) (p link now : ℕ) (loop loop' : LoopView) → MirrorsStreams w s → At s.loops p loop → LinkBreaks link now loop loop' → RunsTo w [] (with_loop p loop' s)
+broken w s p link now loop loop' m home l =
     let there : At loop.links link l.link = record { gets = l.there } in
     let explicit : LoopView = with_link loop l.front' link l.link' in
-    let own = own_links w s p loop m h.home in
+    let own = own_links w s p loop m home in
     let down : l.link'.is_up ≡ false = ap (λ (x : Link). x.is_up) l.breaks.down in
     let empty : l.link'.legs ≡ [] = ap (λ (x : Link). x.legs) l.breaks.down in
-    to_loop w s s' p h.loop' explicit h.becomes l.becomes
-    (moves_quietly w s p loop explicit m h.home
-    (breaks_run now l.link l.link' loop.front l.front' w p (core_there w s p loop m h.home) (own link l.link there) l.breaks)
-    (m.legal p loop h.home)
+    to_loop w s p loop' explicit l.becomes
+    (moves_quietly w s p loop explicit m home
+    (breaks_run now l.link l.link' loop.front l.front' w p (core_there w s p loop m home) (own link l.link there) l.breaks)
+    (m.legal p loop home)
     (own_set p loop.links link l.link' own (subst (λ x. AreOf p x) (sym empty) tt))
     (λ place. others_same loop.links link place l.link l.link' there (λ was is. absurd (let no : false ≡ true = sym down ∙ is in cc))))
 
 -- a client is asked for that was touched
-touched_in : (w : WorldView) (s s' : StreamsView) (p : ℕ) (place : Option ℕ) (loop loop' : LoopView) → MirrorsStreams w s → At s.loops p loop → IsAsked loop place loop' → s' ≡ with_loop p loop' s → RunsTo w [] s'
-touched_in w s s' p None loop loop' m home step becomes =
-    to_loop w s s' p loop' loop becomes step.1
+pub touched : (w : WorldView) (s : StreamsView) (p : ℕ) (place : Option ℕ) (loop loop' : LoopView) → MirrorsStreams w s → At s.loops p loop → IsAsked loop place loop' → RunsTo w [] (with_loop p loop' s)
+touched w s p None loop loop' m home step =
+    to_loop w s p loop' loop step.1
     (moves_quietly w s p loop loop m home (front_stays w p loop.front (core_there w s p loop m home)) (m.legal p loop home) (own_links w s p loop m home) (all_same loop.links))
-touched_in w s s' p (Some place) loop loop' m home step becomes =
+touched w s p (Some place) loop loop' m home step =
     let explicit : LoopView = record loop { front = record loop.front { touched = loop'.front.touched } } in
-    to_loop w s s' p loop' explicit becomes step.1
+    to_loop w s p loop' explicit step.1
     (moves_quietly w s p loop explicit m home (front_same w p loop.front explicit.front (core_there w s p loop m home) refl (λ known. known)) (m.legal p loop home)
     (own_links w s p loop m home) (all_same loop.links))
-
-pub touched : (w : WorldView) (s s' : StreamsView) (p : ℕ) (place : Option ℕ) → MirrorsStreams w s → Moves (λ loop loop'. IsAsked loop place loop') s p s' → RunsTo w [] s'
-touched w s s' p place m h = touched_in w s s' p place h.loop h.loop' m h.home h.step h.becomes
 
 all_append : (es fs : List Event) (f : FrontView) → after_all (es ++ fs) f ≡ after_all fs (after_all es f)
 all_append [] fs f = refl
@@ -136,14 +129,11 @@ ticked_own : (late : Bool) (p : ℕ) (link down : Link) → down.legs ≡ [] →
 ticked_own true p link down none own = subst (λ x. AreOf p x) (sym none) tt
 ticked_own false p link down none own = own
 
-pub tick : (w : WorldView) (s s' : StreamsView) (p now : ℕ) → MirrorsStreams w s → Moves (λ loop loop'. loop' ≡ after_tick now loop) s p s' → RunsTo w [] s'
-tick w s s' p now m h =
-    let loop = h.loop in
+pub tick : (w : WorldView) (s : StreamsView) (p now : ℕ) (loop : LoopView) → MirrorsStreams w s → At s.loops p loop → RunsTo w [] (with_loop p (after_tick now loop) s)
+tick w s p now loop m home =
     let bound : ℕ = loop.limits.leg_timeout in
-    let own = own_links w s p loop m h.home in
-    let explicit : LoopView = after_tick now loop in
-    to_loop w s s' p h.loop' explicit h.becomes h.step
-    (moves_quietly w s p loop explicit m h.home (tick_run bound now loop.links w p loop.front (core_there w s p loop m h.home) own) (m.legal p loop h.home)
+    let own = own_links w s p loop m home in
+    moves_quietly w s p loop (after_tick now loop) m home (tick_run bound now loop.links w p loop.front (core_there w s p loop m home) own) (m.legal p loop home)
     (λ place link k. (let old = at_map (ticked bound now) loop.links k in
     subst (λ (x : Link). AreOf p x.legs) (sym old.2) (ticked_own (is_late bound now old.0) p old.0 (down_link (after_break now old.0)) refl (own place old.0 old.1))))
     (λ place old new a k was is. (
@@ -151,7 +141,7 @@ tick w s s' p now m h =
     let one : from.0 ≡ old = at_one from.1 a in
     let up : (ticked bound now from.0).is_up ≡ true = ap (λ (x : Link). x.is_up) (sym from.2) ∙ is in
     let same : new ≡ old = from.2 ∙ ticked_same (is_late bound now from.0) bound now from.0 (down_link (after_break now from.0)) refl up ∙ one in
-    (ap (λ (x : Link). x.legs) same, ap (λ (x : Link). x.reader.kept) same, ap (λ (x : Link). x.out) same))))
+    (ap (λ (x : Link). x.legs) same, ap (λ (x : Link). x.reader.kept) same, ap (λ (x : Link). x.out) same)))
 
 legal_set : (inboxes : List Inbox) (place : ℕ) → AreLegal inboxes → AreLegal (slice_set inboxes place fresh_inbox)
 legal_set inboxes place legal = λ n inbox h. elim (at_set inboxes place fresh_inbox h) [
@@ -183,44 +173,33 @@ known_place history clients known = λ n client there. elim (at_last clients fre
   | inr e ↦ no_turns history client (ap (λ (c : Client). c.turns) e.1)
 ]
 
-pub came : (w : WorldView) (s s' : StreamsView) (p client : ℕ) → MirrorsStreams w s → Changes after_coming s p client s' → RunsTo w [] s'
-came w s s' p client m h =
-    let loop = h.loop in
-    let explicit : LoopView = after_coming client loop in
-    runs_in w [] _ s' h.becomes (runs_visited w [] (with_loop p explicit s) _
-    (moves_quietly w s p loop explicit m h.home
-    (front_same w p loop.front explicit.front (core_there w s p loop m h.home) refl (known_fresh w.history loop.front.clients client))
-    (legal_set loop.inboxes client (m.legal p loop h.home)) (own_links w s p loop m h.home) (all_same loop.links)))
+-- a place begins anew
+pub refreshed_runs : (w : WorldView) (s : StreamsView) (p client : ℕ) (loop loop' : LoopView) → MirrorsStreams w s → At s.loops p loop
+    → loop'.front.core ≡ loop.front.core → loop'.front.clients ≡ slice_set loop.front.clients client fresh_client → loop'.inboxes ≡ slice_set loop.inboxes client fresh_inbox
+    → loop'.links ≡ loop.links → RunsTo w [] (with_loop p loop' s)
+refreshed_runs w s p client loop loop' m home core clients inboxes links =
+    moves_quietly w s p loop loop' m home
+    (front_same w p loop.front loop'.front (core_there w s p loop m home) core
+    (λ known. subst (λ x. AreKnown w.history x) (sym clients) (known_fresh w.history loop.front.clients client known)))
+    (subst AreLegal (sym inboxes) (legal_set loop.inboxes client (m.legal p loop home)))
+    (subst (λ x. (place : ℕ) (link : Link) → At x place link → AreOf p link.legs) (sym links) (own_links w s p loop m home))
+    (subst (λ x. (place : ℕ) → IsSameLink loop.links x place) (sym links) (all_same loop.links))
 
-pub went : (w : WorldView) (s s' : StreamsView) (p client : ℕ) → MirrorsStreams w s → Changes after_leaving s p client s' → RunsTo w [] s'
-went w s s' p client m h =
-    let loop = h.loop in
-    let explicit : LoopView = after_leaving client loop in
-    runs_in w [] _ s' h.becomes (runs_visited w [] (with_loop p explicit s) _
-    (moves_quietly w s p loop explicit m h.home
-    (front_same w p loop.front explicit.front (core_there w s p loop m h.home) refl (known_fresh w.history loop.front.clients client))
-    (legal_set loop.inboxes client (m.legal p loop h.home)) (own_links w s p loop m h.home) (all_same loop.links)))
-
-pub place_added : (w : WorldView) (s s' : StreamsView) (p : ℕ) → MirrorsStreams w s → AddsPlace s p s' → RunsTo w [] s'
-place_added w s s' p m h =
-    let loop = h.loop in
+pub place_added : (w : WorldView) (s : StreamsView) (p : ℕ) (loop : LoopView) → MirrorsStreams w s → At s.loops p loop → RunsTo w [] (with_loop p (with_place loop) s)
+place_added w s p loop m home =
     let explicit : LoopView = with_place loop in
-    runs_in w [] _ s' h.becomes (runs_visited w [] (with_loop p explicit s) _
-    (moves_quietly w s p loop explicit m h.home
-    (front_same w p loop.front explicit.front (core_there w s p loop m h.home) refl (known_place w.history loop.front.clients))
-    (legal_more loop.inboxes (m.legal p loop h.home)) (own_links w s p loop m h.home) (all_same loop.links)))
+    moves_quietly w s p loop explicit m home
+    (front_same w p loop.front explicit.front (core_there w s p loop m home) refl (known_place w.history loop.front.clients))
+    (legal_more loop.inboxes (m.legal p loop home)) (own_links w s p loop m home) (all_same loop.links)
 
-pub hears : (w : WorldView) (s s' : StreamsView) (p client : ℕ) → MirrorsStreams w s → ClientHears s p client s' → RunsTo w [] s'
-hears w s s' p client m h =
-    let loop = h.loop in
-    let l = h.step in
-    let new : Client = record l.was { out = drop (length h.piece) l.was.out } in
+pub hears : (w : WorldView) (s : StreamsView) (p client count : ℕ) (loop loop' : LoopView) → MirrorsStreams w s → At s.loops p loop → ClientRead client count loop loop' → RunsTo w [] (with_loop p loop' s)
+hears w s p client count loop loop' m home l =
+    let new : Client = record l.was { out = drop count l.was.out } in
     let explicit : LoopView = record loop { front = record loop.front { clients = slice_set loop.front.clients client new } } in
     let known : AreKnown w.history loop.front.clients → AreKnown w.history explicit.front.clients = λ known n other there. elim (at_set loop.front.clients client new there) [
       | inl e ↦ subst (λ (c : Client). KnowsTurns w.history c.turns) (sym e.1) (known client l.was (record { gets = l.there }))
       | inr e ↦ known n other e.1
     ] in
-    runs_in w [] _ s' h.becomes (runs_visited w [] (with_loop p h.loop' s) _
-    (to_loop w s (with_loop p h.loop' s) p h.loop' explicit refl l.becomes
-    (moves_quietly w s p loop explicit m h.home (front_same w p loop.front explicit.front (core_there w s p loop m h.home) refl known)
-    (m.legal p loop h.home) (own_links w s p loop m h.home) (all_same loop.links))))
+    to_loop w s p loop' explicit l.becomes
+    (moves_quietly w s p loop explicit m home (front_same w p loop.front explicit.front (core_there w s p loop m home) refl known)
+    (m.legal p loop home) (own_links w s p loop m home) (all_same loop.links))

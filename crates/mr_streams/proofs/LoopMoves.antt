@@ -1,6 +1,6 @@
 -- A loop makes a step: what the streams stand for then.
-use Rattle.std.proofs.Common.{◌≡◌, ℕ, inl, inr, List, [], map, slice_set, sym, subst}
-use Rattle.std.proofs.lemmas.List.{map-set}
+use Rattle.std.proofs.Common.{◌≡◌, ℕ, inl, inr, List, [], map, slice_set, sym, ap, subst}
+use Rattle.std.proofs.lemmas.List.{append-nil, map-set}
 use Rattle.mr_clock.specs.Readings.{Tick}
 use Rattle.mr_history.specs.Places.{At}
 use Rattle.mr_history.specs.declared.entry.Entry.{Entry}
@@ -13,7 +13,7 @@ use Rattle.mr_world.specs.declared.message.Message.{Message}
 use Rattle.mr_streams.specs.Flows.{AreOf}
 use Rattle.mr_streams.specs.OneProxy.{AreKnown, FrontRuns, RunsSo, IsKin}
 use Rattle.mr_streams.specs.Refines.{Tells}
-use Rattle.mr_streams.specs.Steps.{left_if_down, with_loop}
+use Rattle.mr_streams.specs.Steps.{left_if_down, with_loop, with_entries}
 use Rattle.mr_streams.specs.StreamsView.{StreamsView, Connection, Visit, cores_of, world_nodes}
 use Rattle.mr_streams.proofs.Changing.{IsLike, StandsFor, IsSameLink, loop_mirrors, moved_flow, down_like}
 use Rattle.mr_streams.proofs.Fronts.{known_still}
@@ -114,6 +114,10 @@ moves_quietly w s p loop loop' m home front legal own still =
 -- streams of these parts mirror what they do, whoever their clients are
 pub runs_in : (w : WorldView) (ticks : List Tick) (s s' : StreamsView) → s' ≡ s → RunsTo w ticks s → RunsTo w ticks s'
 runs_in w ticks s s' e h = subst (λ x. RunsTo w ticks x) (sym e) h
+
+-- nothing is gained
+pub no_gains : (w : WorldView) (s : StreamsView) → RunsTo w [] s → RunsTo w [] (with_entries [] s)
+no_gains w s h = runs_in w [] s (with_entries [] s) (ap (λ x. record s { history = x }) (append-nil s.history)) h
 
 -- visits are told of nowhere
 pub runs_visited : (w : WorldView) (ticks : List Tick) (s : StreamsView) (visits : List (List Visit)) → RunsTo w ticks s → RunsTo w ticks (record s { visits = visits })

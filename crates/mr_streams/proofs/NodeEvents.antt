@@ -1,9 +1,10 @@
 -- What happens on the node's side of connections, and to clocks.
-use Rattle.std.proofs.Common.{◌≡◌, ◌≢◌, ℕ, ◌<◌, ◌==◌, ◌⊎◌, inl, inr, Bool, true, false, ◌||◌, IsTrue, List, [], ◌∷◌, ◌++◌, map, slice_set, drop, length, Some, None, if◌then◌else◌, refl, sym, ap, ◌∙◌, subst, append_assoc, eqb-true}
+use Rattle.std.proofs.Common.{◌≡◌, ◌≢◌, ℕ, ◌<◌, ◌==◌, ◌⊎◌, inl, inr, Bool, true, false, ◌||◌, IsTrue, List, [], ◌∷◌, ◌++◌, map, slice_get, slice_set, drop, length, Some, None, if◌then◌else◌, refl, sym, ap, ◌∙◌, subst, append_assoc, eqb-true}
 use Rattle.std.proofs.lemmas.Bool.{eqb-false}
 use Rattle.std.proofs.lemmas.List.{append-nil, drop_at, map-set, length-map}
-use Rattle.mr_clock.specs.Readings.{readings_after}
+use Rattle.mr_clock.specs.Readings.{Tick, readings_after}
 use Rattle.mr_history.specs.Places.{At}
+use Rattle.mr_history.specs.declared.entry.Author.{Author}
 use Rattle.mr_history.specs.declared.entry.Entry.{Entry}
 use Rattle.mr_node.specs.Output.{text_of_answer}
 use Rattle.mr_node.specs.Recency.{CacheView}
@@ -11,7 +12,8 @@ use Rattle.mr_loop.specs.LoopView.{LoopView, TakesPiece}
 use Rattle.mr_loop.specs.declared.inbox.Inbox.{Inbox}
 use Rattle.mr_loop.specs.declared.link.Link.{Link}
 use Rattle.mr_loop.specs.declared.node.client.NodeClient.{NodeClient}
-use Rattle.mr_loop.specs.node.NodeView.{NodeView, with_seat, with_node_place, after_node_leaving, fresh_node, fresh_node_client, out_in}
+use Rattle.mr_loop.specs.declared.node.serving.NodePause.{NodePause}
+use Rattle.mr_loop.specs.node.NodeView.{NodeView, NodeBytes, NodeEnds, NodeWrote, with_seat, with_node_place, after_node_leaving, fresh_node, fresh_node_client, out_in}
 use Rattle.mr_loop.specs.node.Serving.{Seat, ServesSome, IsOver, seat, to_tell}
 use Rattle.mr_world.specs.Lists.{Has}
 use Rattle.mr_world.specs.Positions.{node_number}
@@ -25,12 +27,13 @@ use Rattle.mr_streams.specs.Flows.{AreReplies, AreRequests}
 use Rattle.mr_streams.specs.Kept.{AreTellable}
 use Rattle.mr_streams.specs.OneNode.{IsBusy, holding}
 use Rattle.mr_streams.specs.Refines.{Tells}
-use Rattle.mr_streams.specs.Steps.{Stores, ClockShows, ReachesNode, EndsAtNode, LeavesNode, LosesNode, GainsPlace, RestartsNode, without_node, without_node_of, with_node, with_connection, with_entries}
+use Rattle.mr_streams.specs.Entries.{stored_in}
+use Rattle.mr_streams.specs.Steps.{NodeDoes, gone_from, with_node, with_connection, with_entries}
 use Rattle.mr_streams.specs.StreamsView.{StreamsView, NodeEnd, Connection, node_does, cores_of, world_nodes}
 use Rattle.mr_streams.proofs.Changing.{IsLike, StandsFor, node_mirrors, same_like}
 use Rattle.mr_streams.proofs.Exchanges.{RequestLaws}
 use Rattle.mr_streams.proofs.Lists.{at_map, at_mapped, at_set, at_one, at_left, at_written, at_elsewhere, same_or_not, written_back}
-use Rattle.mr_streams.proofs.LoopMoves.{flows_in, runs_in}
+use Rattle.mr_streams.proofs.LoopMoves.{flows_in, runs_in, no_gains}
 use Rattle.mr_streams.proofs.Mirrors.{Mirrors, MirrorsStreams, FlowsOf, IsOpen, ReadsOn, RunsTo, lines_of, seats_of, flows_on_seats, flows_still}
 use Rattle.mr_streams.proofs.Serving.{served}
 
@@ -112,20 +115,20 @@ pub still_but : (clients : List NodeClient) (place other : ℕ) (client : NodeCl
 still_but clients place other client ne = λ old there. at_elsewhere client ne there
 
 -- a clock shows another reading
-pub ticks_on : (w : WorldView) (s s' : StreamsView) (p reading : ℕ) → MirrorsStreams w s → ClockShows s p reading s' → RunsTo w (record { proxy = p; reading = reading } ∷ []) s'
-ticks_on w s s' p reading m h =
-    let readings = readings_after w.readings (record { proxy = p; reading = reading }) in
+pub ticks_on : (w : WorldView) (s : StreamsView) (tick : Tick) → MirrorsStreams w s → tick.proxy < length s.loops → RunsTo w (tick ∷ []) (record s { readings = readings_after s.readings tick })
+ticks_on w s tick m within =
+    let readings = readings_after w.readings tick in
     let world : WorldView = record w { readings = readings } in
     let i = m.mirrors in
-    let home : p < length w.proxies = subst (λ n. p < n) (sym (ap length i.cores_are ∙ length-map s.loops (λ (l : LoopView). l.front.core))) h.home in
-    runs_in w _ (record s { readings = readings_after s.readings (record { proxy = p; reading = reading }) }) s' h.becomes (record {
+    let home : tick.proxy < length w.proxies = subst (λ n. tick.proxy < n) (sym (ap length i.cores_are ∙ length-map s.loops (λ (l : LoopView). l.front.core))) within in
+    record {
       world = world;
-      happened = FleetEvent.Happens (event.Clock p reading) ∷ [];
+      happened = FleetEvent.Happens (event.Clock tick.proxy tick.reading) ∷ [];
       run = (world, (note.Nothing, record { home = home; tells = refl; becomes = refl }), refl);
       ticks_are = refl;
       mirrors = record {
         mirrors = record {
-          readings_are = ap (λ r. readings_after r (record { proxy = p; reading = reading })) i.readings_are;
+          readings_are = ap (λ r. readings_after r tick) i.readings_are;
           cores_are = i.cores_are;
           nodes_are = i.nodes_are;
           tells = i.tells;
@@ -142,7 +145,7 @@ ticks_on w s s' p reading m h =
         known = m.known;
         legal = m.legal;
       };
-    })
+    }
 
 -- nothing happens to the world, and one connection and one node change
 pub quiet_node : (w : WorldView) (s : StreamsView) (n : ℕ) (end : NodeEnd) (loop' : NodeView CacheView) (connections' : List Connection)
@@ -186,33 +189,32 @@ module _ (s : StreamsView) (number place : ℕ) (c c' : Connection) (end : NodeE
   ]
 
 -- bytes leave a node
-pub leaves_node : (w : WorldView) (s s' : StreamsView) (number : ℕ) → MirrorsStreams w s → LeavesNode s number s' → RunsTo w [] s'
-leaves_node w s s' number m h =
-    let c = h.c in
-    let l = h.step in
-    let end = h.node in
-    let place : ℕ = h.place in
-    let c' : Connection = record c { back = c.back ++ h.piece } in
-    let client' : NodeClient = record l.was { out = drop (length h.piece) l.was.out } in
-    let loop' : NodeView CacheView = record end.loop { clients = slice_set end.loop.clients place client' } in
-    let f = m.mirrors.flows number c h.there in
-    let o = f.opens place h.is_open in
-    let seats_there : At (seats_of s.nodes) c.node end.loop.clients = at_mapped (λ (x : NodeEnd). x.loop.clients) h.home in
+leaves_node : (w : WorldView) (s : StreamsView) (number place : ℕ) (c : Connection) (end : NodeEnd) (loop' : NodeView CacheView) (piece rest : List ℕ) → MirrorsStreams w s
+    → At s.connections number c → c.place ≡ Some place → At s.nodes c.node end
+    → out_in (slice_get end.loop.clients place) ≡ piece ++ rest → NodeWrote place (length piece) end.loop loop'
+    → RunsTo w [] (with_node c.node end loop' (with_connection number (record c { back = c.back ++ piece }) s))
+leaves_node w s number place c end loop' piece rest m there is_open home splits l =
+    let c' : Connection = record c { back = c.back ++ piece } in
+    let client' : NodeClient = record l.was { out = drop (length piece) l.was.out } in
+    let explicit : NodeView CacheView = record end.loop { clients = slice_set end.loop.clients place client' } in
+    let f = m.mirrors.flows number c there in
+    let o = f.opens place is_open in
+    let seats_there : At (seats_of s.nodes) c.node end.loop.clients = at_mapped (λ (x : NodeEnd). x.loop.clients) home in
     let own : end.loop.clients ≡ o.clients = at_one seats_there o.home in
     let was_there : At end.loop.clients place l.was = record { gets = l.there } in
     let one : l.was ≡ o.client = at_one was_there (subst (λ x. At x place o.client) (sym own) o.there) in
-    let out : l.was.out ≡ h.piece ++ h.rest = ap out_in (sym l.there) ∙ h.splits in
-    let rest : client'.out ≡ h.rest = ap (λ x. drop (length h.piece) x) out ∙ drop_at h.piece h.rest (length h.piece) refl in
+    let out : l.was.out ≡ piece ++ rest = ap out_in (sym l.there) ∙ splits in
+    let left : client'.out ≡ rest = ap (λ x. drop (length piece) x) out ∙ drop_at piece rest (length piece) refl in
     let due : List ℕ = text_of_answer l.was.due in
-    let tail : f.tail ≡ h.piece ++ (h.rest ++ due) =
-    sym o.tail_is ∙ ap (λ (x : NodeClient). to_tell x) (sym one) ∙ ap (λ x. x ++ due) out ∙ append_assoc h.piece h.rest due in
-    let texts : f.front ++ (c.back ++ f.tail) ≡ f.front ++ ((c.back ++ h.piece) ++ (h.rest ++ due)) =
-    ap (λ x. f.front ++ x) (ap (λ x. c.back ++ x) tail ∙ sym (append_assoc c.back h.piece (h.rest ++ due))) in
+    let tail : f.tail ≡ piece ++ (rest ++ due) =
+    sym o.tail_is ∙ ap (λ (x : NodeClient). to_tell x) (sym one) ∙ ap (λ x. x ++ due) out ∙ append_assoc piece rest due in
+    let texts : f.front ++ (c.back ++ f.tail) ≡ f.front ++ ((c.back ++ piece) ++ (rest ++ due)) =
+    ap (λ x. f.front ++ x) (ap (λ x. c.back ++ x) tail ∙ sym (append_assoc c.back piece (rest ++ due))) in
     let flow : FlowsOf w.sent w.replies (lines_of s.loops) (slice_set (seats_of s.nodes) c.node (slice_set end.loop.clients place client')) c' = record {
       returning = f.returning;
       going = f.going;
       front = f.front;
-      tail = h.rest ++ due;
+      tail = rest ++ due;
       kept = f.kept;
       out = f.out;
       is_deaf = f.is_deaf;
@@ -228,7 +230,7 @@ leaves_node w s s' number m h =
         out_is = g.out_is;
       });
       opens = λ k e. (
-          let same : place ≡ k = (let both : Some place ≡ Some k = sym h.is_open ∙ e in cc) in
+          let same : place ≡ k = (let both : Some place ≡ Some k = sym is_open ∙ e in cc) in
           record {
             clients = slice_set end.loop.clients place client';
             client = client';
@@ -236,7 +238,7 @@ leaves_node w s s' number m h =
             there = subst (λ n. At (slice_set end.loop.clients place client') n client') same (at_written client' was_there);
             deaf = ap (λ (x : NodeClient). x.inbox.is_done) one ∙ o.deaf;
             kept_is = ap (λ (x : NodeClient). x.inbox.reader.kept) one ∙ o.kept_is;
-            tail_is = ap (λ x. x ++ due) rest;
+            tail_is = ap (λ x. x ++ due) left;
             reads_on = λ hears. (let r = o.reads_on hears in record {
               not_closed = ap (λ (x : NodeClient). x.inbox.reader.closed) one ∙ r.not_closed;
               ended = λ ends. r.ended (ap (λ (x : NodeClient). x.inbox.reader.ended) (sym one) ∙ ends);
@@ -244,10 +246,10 @@ leaves_node w s s' number m h =
           });
     } in
     let like : IsLike c c' = record { proxy = refl; link = refl; node = refl; place = λ k e. e; here = λ e. e } in
-    runs_in w [] _ s' (h.becomes ∙ ap (λ x. with_node c.node end x (with_connection number c' s)) l.becomes)
-    (quiet_node w s c.node end loop' (slice_set s.connections number c') m h.home refl
-    (stands_changed s number place c c' end client' h.there like)
-    (flows_changed s number place c c' end client' w m h.there h.is_open h.home w.sent w.replies (λ i d k. m.mirrors.flows i d k) flow))
+    runs_in w [] _ (with_node c.node end loop' (with_connection number c' s)) (ap (λ x. with_node c.node end x (with_connection number c' s)) l.becomes)
+    (quiet_node w s c.node end explicit (slice_set s.connections number c') m home refl
+    (stands_changed s number place c c' end client' there like)
+    (flows_changed s number place c c' end client' w m there is_open home w.sent w.replies (λ i d k. m.mirrors.flows i d k) flow))
 
 -- what a client that was served reads next
 reads_after : (now most : ℕ) (old new : Seat CacheView) → ServesSome node_does now most old new ⊎ IsOver old new → new.client.inbox.is_done ≡ false
@@ -274,7 +276,7 @@ flows_later messages messages' deliveries deliveries' more lines seats c e f h =
     (flows_still messages [] deliveries more lines seats c h)
 
 -- a node serves what came over a connection, of which this is still on its way then
-module _ (laws : RequestLaws) (w : WorldView) (s : StreamsView) (number place now : ℕ) (c : Connection) (forth' : List ℕ) (end : NodeEnd) (was : NodeClient) (fed : Inbox) (after : Seat CacheView) (gains : List Entry) where
+module _ (laws : RequestLaws) (w : WorldView) (s : StreamsView) (number place now : ℕ) (c : Connection) (forth' : List ℕ) (end : NodeEnd) (was : NodeClient) (fed : Inbox) (after : Seat CacheView) (by : Author) where
   abbrev was_seat : Seat CacheView
   was_seat = seat end.loop.cache (record was { inbox = fed }) end.loop.counts
 
@@ -285,9 +287,9 @@ module _ (laws : RequestLaws) (w : WorldView) (s : StreamsView) (number place no
       → fed.is_done ≡ was.inbox.is_done
       → ((kept out : List ℕ) → was.inbox.is_done ≡ false → was.inbox.reader.kept ≡ kept → ReadsOn was c → kept ++ (c.forth ++ out) ≡ fed.reader.kept ++ (forth' ++ out))
       → (was.inbox.is_done ≡ false → ReadsOn was c → fed.reader.ended ≡ true → (c.is_left ≡ true) × (forth' ≡ []))
-      → (serves : ServesSome node_does now end.loop.most_unread was_seat after ⊎ IsOver was_seat after) → Stores serves gains
-      → RunsTo w [] (with_node_parts s c.node end (with_seat place after end.loop) (slice_set s.connections number now_forth) (s.history ++ gains))
-  node_served m there is_open home was_there same_done texts ended serves stores =
+      → (serves : ServesSome node_does now end.loop.most_unread was_seat after ⊎ IsOver was_seat after)
+      → RunsTo w [] (with_node_parts s c.node end (with_seat place after end.loop) (slice_set s.connections number now_forth) (s.history ++ stored_in by serves))
+  node_served m there is_open home was_there same_done texts ended serves =
       let c' : Connection = now_forth in
       let f = m.mirrors.flows number c there in
       let o = f.opens place is_open in
@@ -307,9 +309,9 @@ module _ (laws : RequestLaws) (w : WorldView) (s : StreamsView) (number place no
             let was_hears : was.inbox.is_done ≡ false = sym same_done ∙ hears in
             subst (λ x. AreRequests w.sent c.node f.going x) (texts f.kept f.out was_hears kept (reads_on was_hears)) (f.busy.requests (sym deaf ∙ was_hears)));
       } in
-      let is = served laws w.sent w.replies w c.node now end.loop.most_unread end.name (f.front ++ c.back) (forth' ++ f.out) was_seat after f.returning f.going s.history gains serves refl refl
+      let is = served laws by w.sent w.replies w c.node now end.loop.most_unread end.name (f.front ++ c.back) (forth' ++ f.out) was_seat after f.returning f.going s.history serves refl refl
       (subst (λ x. At x c.node (holding end.name end.loop.cache)) (sym m.mirrors.nodes_are) node_at)
-      (m.mirrors.tellable c.node (holding end.name end.loop.cache) node_at) busy stores in
+      (m.mirrors.tellable c.node (holding end.name end.loop.cache) node_at) busy in
       let so = is.so in
       let clients' : List NodeClient = slice_set end.loop.clients place after.client in
       let seats' : List (List NodeClient) = slice_set (seats_of s.nodes) c.node clients' in
@@ -359,7 +361,7 @@ module _ (laws : RequestLaws) (w : WorldView) (s : StreamsView) (number place no
         happened = so.events;
         run = so.run;
         ticks_are = so.ticks;
-        mirrors = node_streams w so.world s c.node end (with_seat place after end.loop) (slice_set s.connections number c') (s.history ++ gains) m home is.kept so.readings so.proxies so.nodes
+        mirrors = node_streams w so.world s c.node end (with_seat place after end.loop) (slice_set s.connections number c') (s.history ++ stored_in by serves) m home is.kept so.readings so.proxies so.nodes
             so.grows (so.tells m.mirrors.tells) (stands_changed s number place c c' end after.client there like)
             (λ i d k. flows_in w.sent so.world.sent deliveries so.world.replies (lines_of s.loops) seats' d so.sent so.replies
             (flows_changed s number place c c' end after.client w m there is_open home w.sent deliveries
@@ -393,48 +395,46 @@ takes_all piece rest was fed c (inr takes) splits r =
     (takes.1.stands ∙ sym (append-nil was.inbox.reader.kept) ∙ ap (λ x. was.inbox.reader.kept ++ x) (sym none), takes.1.is_ended)
 
 -- bytes reach a node
-pub reaches_node : RequestLaws → (w : WorldView) (s s' : StreamsView) (number now : ℕ) → MirrorsStreams w s → ReachesNode s number now s' → RunsTo w [] s'
-reaches_node laws w s s' number now m h =
-    let c = h.c in
-    let l = h.step in
-    let end = h.node in
-    runs_in w [] _ s' (h.becomes ∙ ap (λ x. with_entries h.gains (with_node c.node end x (with_connection number (record c { forth = h.rest }) s))) l.becomes)
-    (node_served laws w s number h.place now c h.rest end l.was l.fed l.after h.gains m h.there h.is_open h.home (record { gets = l.there })
-    (takes_done h.piece l.was.inbox l.fed l.takes)
+reaches_node : RequestLaws → (w : WorldView) (s : StreamsView) (number place now : ℕ) (c : Connection) (end : NodeEnd) (loop' : NodeView CacheView) (pause : NodePause) (by : Author) (piece rest : List ℕ)
+    → MirrorsStreams w s → At s.connections number c → c.place ≡ Some place → At s.nodes c.node end → c.forth ≡ piece ++ rest → (step : NodeBytes node_does place now piece end.loop pause loop')
+    → RunsTo w [] (with_entries (stored_in by step.serves.serves) (with_node c.node end loop' (with_connection number (record c { forth = rest }) s)))
+reaches_node laws w s number place now c end loop' pause by piece rest m there is_open home splits l =
+    runs_in w [] _ _ (ap (λ x. with_entries (stored_in by l.serves.serves) (with_node c.node end x (with_connection number (record c { forth = rest }) s))) l.becomes)
+    (node_served laws w s number place now c rest end l.was l.fed l.after by m there is_open home (record { gets = l.there })
+    (takes_done piece l.was.inbox l.fed l.takes)
     (λ kept out hears e r. (
-    let all = takes_all h.piece h.rest l.was l.fed c l.takes h.splits r in
-    ap (λ x. x ++ (c.forth ++ out)) (sym e) ∙ ap (λ x. l.was.inbox.reader.kept ++ x) (ap (λ x. x ++ out) h.splits ∙ append_assoc h.piece h.rest out)
-    ∙ sym (append_assoc l.was.inbox.reader.kept h.piece (h.rest ++ out)) ∙ ap (λ x. x ++ (h.rest ++ out)) (sym all.0)))
+    let all = takes_all piece rest l.was l.fed c l.takes splits r in
+    ap (λ x. x ++ (c.forth ++ out)) (sym e) ∙ ap (λ x. l.was.inbox.reader.kept ++ x) (ap (λ x. x ++ out) splits ∙ append_assoc piece rest out)
+    ∙ sym (append_assoc l.was.inbox.reader.kept piece (rest ++ out)) ∙ ap (λ x. x ++ (rest ++ out)) (sym all.0)))
     (λ hears r ends. (
-    let all = takes_all h.piece h.rest l.was l.fed c l.takes h.splits r in
+    let all = takes_all piece rest l.was l.fed c l.takes splits r in
     let over = r.ended (sym all.1 ∙ ends) in
-    (over.0, (empty_both h.piece h.rest (sym h.splits ∙ over.1)).1)))
-    l.serves.serves h.stores)
+    (over.0, (empty_both piece rest (sym splits ∙ over.1)).1)))
+    l.serves.serves)
 
 -- a node reads that a connection ends
-pub ends_at_node : RequestLaws → (w : WorldView) (s s' : StreamsView) (number now : ℕ) → MirrorsStreams w s → EndsAtNode s number now s' → RunsTo w [] s'
-ends_at_node laws w s s' number now m h =
-    let c = h.c in
-    let l = h.step in
-    let end = h.node in
-    let is = node_served laws w s number h.place now c c.forth end l.was l.ended l.after h.gains m h.there h.is_open h.home (record { gets = l.there })
+ends_at_node : RequestLaws → (w : WorldView) (s : StreamsView) (number place now : ℕ) (c : Connection) (end : NodeEnd) (loop' : NodeView CacheView) (pause : NodePause) (by : Author)
+    → MirrorsStreams w s → At s.connections number c → c.place ≡ Some place → At s.nodes c.node end → c.is_left ≡ true → c.forth ≡ [] → (step : NodeEnds node_does place now end.loop pause loop')
+    → RunsTo w [] (with_entries (stored_in by step.serves.serves) (with_node c.node end loop' (with_connection number c s)))
+ends_at_node laws w s number place now c end loop' pause by m there is_open home is_left all_came l =
+    runs_in w [] _ _ (ap (λ x. with_entries (stored_in by l.serves.serves) (with_node c.node end x (with_connection number c s))) l.becomes)
+    (node_served laws w s number place now c c.forth end l.was l.ended l.after by m there is_open home (record { gets = l.there })
     (ap (λ (i : Inbox). i.is_done) l.ends.becomes)
     (λ kept out hears e r. ap (λ x. x ++ (c.forth ++ out)) (sym e ∙ sym l.ends.reader.stands))
-    (λ hears r ends. (h.is_left, h.all_came)) l.serves.serves h.stores in
-    let same : slice_set s.connections number c ≡ s.connections = written_back h.there in
-    runs_in w [] _ s' (h.becomes ∙ ap (λ x. with_entries h.gains (with_node c.node end x s)) l.becomes)
-    (subst (λ x. RunsTo w [] (with_node_parts s c.node end (with_seat h.place l.after end.loop) x (s.history ++ h.gains))) same is)
+    (λ hears r ends. (is_left, all_came)) l.serves.serves)
 
 -- a node has one more place
-pub gains_place : (w : WorldView) (s s' : StreamsView) (n : ℕ) → MirrorsStreams w s → GainsPlace s n s' → RunsTo w [] s'
-gains_place w s s' n m h =
-    let end = h.node in
+pub gains_place : (w : WorldView) (s : StreamsView) (n : ℕ) (end : NodeEnd) → MirrorsStreams w s → At s.nodes n end → RunsTo w [] (with_node n end (with_node_place end.loop) s)
+gains_place w s n end m home =
     let loop' : NodeView CacheView = with_node_place end.loop in
-    runs_in w [] _ s' h.becomes (quiet_node w s n end loop' s.connections m h.home refl (λ i c k. record { old = c; there = k; like = same_like c })
-    (λ i c k. seated_flow w.sent w.replies (lines_of s.loops) (seats_of s.nodes) n end.loop.clients loop'.clients c (at_mapped (λ (x : NodeEnd). x.loop.clients) h.home)
-    (λ same place is client there. at_left (fresh_node_client ∷ []) there) (m.mirrors.flows i c k)))
+    quiet_node w s n end loop' s.connections m home refl (λ i c k. record { old = c; there = k; like = same_like c })
+    (λ i c k. seated_flow w.sent w.replies (lines_of s.loops) (seats_of s.nodes) n end.loop.clients loop'.clients c (at_mapped (λ (x : NodeEnd). x.loop.clients) home)
+    (λ same place is client there. at_left (fresh_node_client ∷ []) there) (m.mirrors.flows i c k))
 
 -- the node's end of a connection is gone
+abbrev without_node : Connection → Connection
+without_node c = record c { place = None; forth = [] }
+
 without_flow : (messages : List Message) (deliveries : List Delivery) (lines : List (List Link)) (seats seats' : List (List NodeClient)) (c : Connection)
     → FlowsOf messages deliveries lines seats c → FlowsOf messages deliveries lines seats' (without_node c)
 without_flow messages deliveries lines seats seats' c f = record {
@@ -462,40 +462,51 @@ without_flow messages deliveries lines seats seats' c f = record {
 without_like : (c : Connection) → IsLike c (without_node c)
 without_like c = record { proxy = refl; link = refl; node = refl; place = λ k e. absurd (let no : None ≡ Some k = e in cc); here = λ e. e }
 
-pub loses_node : (w : WorldView) (s s' : StreamsView) (number : ℕ) → MirrorsStreams w s → LosesNode s number s' → RunsTo w [] s'
-loses_node w s s' number m h =
-    let c = h.c in
-    let end = h.node in
+loses_node : (w : WorldView) (s : StreamsView) (number place : ℕ) (c : Connection) (end : NodeEnd) → MirrorsStreams w s → At s.connections number c → c.place ≡ Some place → At s.nodes c.node end
+    → RunsTo w [] (with_node c.node end (after_node_leaving place end.loop) (with_connection number (without_node c) s))
+loses_node w s number place c end m there is_open home =
     let c' : Connection = without_node c in
-    let loop' : NodeView CacheView = after_node_leaving h.place end.loop in
-    runs_in w [] _ s' h.becomes
-    (quiet_node w s c.node end loop' (slice_set s.connections number c') m h.home refl
-    (stands_changed s number h.place c c' end fresh_node_client h.there (without_like c))
-    (flows_changed s number h.place c c' end fresh_node_client w m h.there h.is_open h.home w.sent w.replies (λ i d k. m.mirrors.flows i d k)
-    (without_flow w.sent w.replies (lines_of s.loops) (seats_of s.nodes) (slice_set (seats_of s.nodes) c.node loop'.clients) c (m.mirrors.flows number c h.there))))
+    let loop' : NodeView CacheView = after_node_leaving place end.loop in
+    quiet_node w s c.node end loop' (slice_set s.connections number c') m home refl
+    (stands_changed s number place c c' end fresh_node_client there (without_like c))
+    (flows_changed s number place c c' end fresh_node_client w m there is_open home w.sent w.replies (λ i d k. m.mirrors.flows i d k)
+    (without_flow w.sent w.replies (lines_of s.loops) (seats_of s.nodes) (slice_set (seats_of s.nodes) c.node loop'.clients) c (m.mirrors.flows number c there)))
+
+-- something happens at the node's end of a connection
+pub node_runs : RequestLaws → (w : WorldView) (s : StreamsView) (number place : ℕ) (c c' : Connection) (end : NodeEnd) (loop' : NodeView CacheView) (gains : List Entry)
+    → MirrorsStreams w s → At s.connections number c → c.place ≡ Some place → At s.nodes c.node end → NodeDoes c place end.loop c' loop' gains
+    → RunsTo w [] (with_entries gains (with_node c.node end loop' (with_connection number c' s)))
+node_runs laws w s number place c c' end loop' gains m there is_open home (NodeDoes.reaches {pause = pause} by now piece rest splits step) =
+    reaches_node laws w s number place now c end loop' pause by piece rest m there is_open home splits step
+node_runs laws w s number place c c' end loop' gains m there is_open home (NodeDoes.ends {pause = pause} by now is_left all_came step) =
+    ends_at_node laws w s number place now c end loop' pause by m there is_open home is_left all_came step
+node_runs laws w s number place c c' end loop' gains m there is_open home (NodeDoes.leaves piece rest splits step) =
+    no_gains w _ (leaves_node w s number place c end loop' piece rest m there is_open home splits step)
+node_runs laws w s number place c c' end loop' gains m there is_open home NodeDoes.goes =
+    no_gains w _ (loses_node w s number place c end m there is_open home)
 
 -- a node restarts
 gone_if : (b : Bool) (P : Connection → Type 0) (n : ℕ) (c : Connection) → (b ≡ true → P (without_node c)) → (b ≡ false → P c) → P (if b then without_node c else c)
 gone_if true P n c gone stays = gone refl
 gone_if false P n c gone stays = stays refl
 
-gone_or_not : (P : Connection → Type 0) (n : ℕ) (c : Connection) → (c.node ≡ n → P (without_node c)) → (c.node ≢ n → P c) → P (without_node_of n c)
+gone_or_not : (P : Connection → Type 0) (n : ℕ) (c : Connection) → (c.node ≡ n → P (without_node c)) → (c.node ≢ n → P c) → P (gone_from n c)
 gone_or_not P n c gone stays = gone_if (c.node == n) P n c (λ e. gone (eqb-true c.node n e)) (λ e. stays (eqb-false c.node n e))
 
-pub restarts_node : (w : WorldView) (s s' : StreamsView) (n : ℕ) → MirrorsStreams w s → RestartsNode s n s' → RunsTo w [] s'
-restarts_node w s s' n m h =
-    let end = h.node in
+pub restarts_node : (w : WorldView) (s : StreamsView) (n : ℕ) (end : NodeEnd) → MirrorsStreams w s → At s.nodes n end
+    → RunsTo w [] (record (with_node n end (fresh_node (record end.loop.cache { items = [] }) end.loop.most_unread) s) { connections = map (gone_from n) s.connections })
+restarts_node w s n end m home =
     let empty : CacheView = record end.loop.cache { items = [] } in
     let loop' : NodeView CacheView = fresh_node empty end.loop.most_unread in
     let world : WorldView = record w { nodes = slice_set w.nodes n (holding end.name empty) } in
-    let connections' : List Connection = map (without_node_of n) s.connections in
-    let at : At w.nodes n (holding end.name end.loop.cache) = subst (λ x. At x n (holding end.name end.loop.cache)) (sym m.mirrors.nodes_are) (node_there s n end h.home) in
+    let connections' : List Connection = map (gone_from n) s.connections in
+    let at : At w.nodes n (holding end.name end.loop.cache) = subst (λ x. At x n (holding end.name end.loop.cache)) (sym m.mirrors.nodes_are) (node_there s n end home) in
     let number : node_number w.nodes end.name ≡ n =
-    ap (λ x. node_number x end.name) m.mirrors.nodes_are ∙ m.mirrors.named n (holding end.name end.loop.cache) (node_there s n end h.home) in
+    ap (λ x. node_number x end.name) m.mirrors.nodes_are ∙ m.mirrors.named n (holding end.name end.loop.cache) (node_there s n end home) in
     let becomes : world ≡ record w { nodes = slice_set w.nodes (node_number w.nodes end.name) (holding end.name empty) } =
     ap (λ k. record w { nodes = slice_set w.nodes k (holding end.name empty) }) (sym number) in
     let seats' : List (List NodeClient) = slice_set (seats_of s.nodes) n loop'.clients in
-    runs_in w [] _ s' h.becomes (record {
+    record {
       world = world;
       happened = FleetEvent.Happens (event.NodeRestart end.name) ∷ [];
       run = (
@@ -512,18 +523,18 @@ restarts_node w s s' n m h =
         refl,
       );
       ticks_are = refl;
-      mirrors = node_streams w world s n end loop' connections' s.history m h.home tt refl refl refl (λ entry has. has) m.mirrors.tells
-          (λ i c k. (let old = at_map (without_node_of n) s.connections k in
+      mirrors = node_streams w world s n end loop' connections' s.history m home tt refl refl refl (λ entry has. has) m.mirrors.tells
+          (λ i c k. (let old = at_map (gone_from n) s.connections k in
           record {
             old = old.0;
             there = old.1;
             like = subst (λ x. IsLike old.0 x) (sym old.2) (gone_or_not (λ x. IsLike old.0 x) n old.0 (λ _. without_like old.0) (λ _. same_like old.0));
           }))
-          (λ i c k. (let old = at_map (without_node_of n) s.connections k in
+          (λ i c k. (let old = at_map (gone_from n) s.connections k in
           let f = m.mirrors.flows i old.0 old.1 in
           subst (λ x. FlowsOf w.sent w.replies (lines_of s.loops) seats' x) (sym old.2)
           (gone_or_not (λ x. FlowsOf w.sent w.replies (lines_of s.loops) seats' x) n old.0
           (λ _. without_flow w.sent w.replies (lines_of s.loops) (seats_of s.nodes) seats' old.0 f)
-          (λ other. seated_flow w.sent w.replies (lines_of s.loops) (seats_of s.nodes) n end.loop.clients loop'.clients old.0 (at_mapped (λ (x : NodeEnd). x.loop.clients) h.home)
+          (λ other. seated_flow w.sent w.replies (lines_of s.loops) (seats_of s.nodes) n end.loop.clients loop'.clients old.0 (at_mapped (λ (x : NodeEnd). x.loop.clients) home)
           (λ same. absurd (other same)) f))));
-    })
+    }

@@ -10,14 +10,14 @@ use Rattle.mr_loop.specs.declared.inbox.Fetched.TheVariants.{Came}
 use Rattle.mr_loop.specs.declared.inbox.Inbox.{Inbox}
 use Rattle.mr_loop.specs.declared.inbox.Input.{Input}
 use Rattle.mr_loop.specs.declared.inbox.Input.TheVariants as input
-use Rattle.mr_streams.specs.Served.{SpellsInput}
+use Rattle.mr_streams.specs.Served.{IsRefused}
 use Rattle.mr_streams.specs.StreamsView.{Visit}
 
 -- the text of what was read of a client; none of bytes that stop inside a request
 abbrev pub TextIs : Input → List ℕ → Type 0
 TextIs (input.Asks asked) text = SpellsRequest text asked × (asked ≢ request.Quit)
 TextIs (input.Refused Truncated) text = text ≡ []
-TextIs (input.Refused refusal) text = SpellsInput text (input.Refused refusal)
+TextIs (input.Refused refusal) text = IsRefused text refusal
 
 -- that of what is held back
 abbrev pub HeldIs : Option Input → List ℕ → Type 0

@@ -1,7 +1,7 @@
 -- Where the premises hold, the history of streams is safe.
 use Rattle.std.proofs.Common.{◌≡◌, ℕ, ◌+◌, true, All, List, [], ◌∷◌, map, refl, sym, ap, ◌∙◌, subst}
 use Rattle.mr_clock.specs.Clocks.{NeverGoesBack, StayWithin}
-use Rattle.mr_clock.specs.Readings.{readings_at_first}
+use Rattle.mr_clock.specs.Readings.{Tick, readings_at_first}
 use Rattle.mr_history.specs.History.{IsSafe}
 use Rattle.mr_history.specs.Places.{At}
 use Rattle.mr_proxy.specs.ProxyView.{fresh_proxy}
@@ -10,10 +10,10 @@ use Rattle.mr_world.specs.Setup.{SetupView, Begins, AllAlike, IsNewPoolEmpty, le
 use Rattle.mr_world.specs.Steps.{WorldRun}
 use Rattle.mr_world.specs.WorldView.{WorldView}
 use Rattle.mr_world.specs.declared.setup.ProxySetup.{ProxySetup}
-use Rattle.mr_streams.specs.Fleet.{FleetEvent, FleetRun, ticks_of as fleet_ticks_of}
+use Rattle.mr_streams.specs.Fleet.{FleetEvent, FleetRun, ticks_of}
 use Rattle.mr_streams.specs.Headline.{Starts, HasText, PremisesHold}
 use Rattle.mr_streams.specs.Refines.{Tells, RefinesWorld}
-use Rattle.mr_streams.specs.Steps.{StreamsEvent, StreamsRun}
+use Rattle.mr_streams.specs.Steps.{StreamsRun}
 use Rattle.mr_streams.specs.StreamsView.{StreamsView}
 use Rattle.mr_streams.proofs.Lists.{at_nothing}
 use Rattle.mr_streams.proofs.Telling.{told_safe}
@@ -26,8 +26,8 @@ thin_from number (proxy ∷ proxies) = ap (λ l. fresh_proxy number 0 proxy.rout
 -- a fleet in which legs fail is safe where the world is
 fleet_safe : Headline → (setup : SetupView) (start last : WorldView) (events : List FleetEvent) → All (λ (proxy : ProxySetup). IsPlan proxy.routing proxy.schedule) setup.proxies
     → Begins setup start → FleetRun start events last → AllAlike setup.proxies → IsNewPoolEmpty setup
-    → NeverGoesBack (map (λ (proxy : ProxySetup). proxy.reading) setup.proxies) (fleet_ticks_of events)
-    → StayWithin (least_interval_of setup.proxies) (map (λ (proxy : ProxySetup). proxy.reading) setup.proxies) (fleet_ticks_of events)
+    → NeverGoesBack (map (λ (proxy : ProxySetup). proxy.reading) setup.proxies) (ticks_of events)
+    → StayWithin (least_interval_of setup.proxies) (map (λ (proxy : ProxySetup). proxy.reading) setup.proxies) (ticks_of events)
     → IsSafe last.history
 fleet_safe headline setup start last events plans begins run same new_empty forward near =
     let is = thin_run events start last start.history (λ number delivery there. absurd (at_nothing (subst (λ r. At r number delivery) begins.replies there))) (Tells.begins start.history) run in
@@ -68,15 +68,15 @@ world_begins setup same new_empty = record {
   least = refl;
 }
 
-pub bytes_safe : Headline → RefinesWorld → (setup : SetupView) (first last : StreamsView) (events : List StreamsEvent)
+pub bytes_safe : Headline → RefinesWorld → (setup : SetupView) (first last : StreamsView) (ticks : List Tick)
     → All (λ (proxy : ProxySetup). IsPlan proxy.routing proxy.schedule) setup.proxies → All HasText setup.held
-    → Starts setup first → StreamsRun first events last → PremisesHold setup events → IsSafe last.history
-bytes_safe headline refines setup first last events plans texts starts run premises =
+    → Starts setup first → StreamsRun first ticks last → PremisesHold setup ticks → IsSafe last.history
+bytes_safe headline refines setup first last ticks plans texts starts run premises =
     let start : WorldView = begun_world setup in
     let begins : Begins setup start = world_begins setup premises.same premises.new_empty in
-    let is = refines setup first last start events plans texts starts begins run in
+    let is = refines setup first last start ticks plans texts starts begins run in
     let readings : List ℕ = map (λ (proxy : ProxySetup). proxy.reading) setup.proxies in
     let safe : IsSafe is.world.history = fleet_safe headline setup start is.world is.happened plans begins is.run premises.same premises.new_empty
-    (subst (λ t. NeverGoesBack readings t) (sym is.ticks) premises.forward)
-    (subst (λ t. StayWithin (least_interval_of setup.proxies) readings t) (sym is.ticks) premises.near) in
+    (subst (λ t. NeverGoesBack readings t) (sym is.same_ticks) premises.forward)
+    (subst (λ t. StayWithin (least_interval_of setup.proxies) readings t) (sym is.same_ticks) premises.near) in
     told_safe is.world.history last.history is.history safe

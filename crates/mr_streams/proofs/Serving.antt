@@ -1,10 +1,11 @@
 -- What a node serves of a connection, whichever way it ends.
-use Rattle.std.proofs.Common.{◌≡◌, ◌≢◌, ℕ, ◌⊎◌, inl, inr, true, false, List, [], ◌∷◌, ◌++◌, Option, None, refl, sym, ap, ◌∙◌, subst, append_assoc}
+use Rattle.std.proofs.Common.{◌≡◌, ◌≢◌, ℕ, ◌⊎◌, inl, inr, true, false, List, [], ◌∷◌, ◌++◌, Option, None, flat_map, refl, sym, ap, ◌∙◌, subst, append_assoc}
 use Rattle.std.proofs.lemmas.List.{append-nil}
 use Rattle.mr_text.specs.Canonical.{canonical_reply}
 use Rattle.mr_text.specs.Valid.{IsValidReply}
 use Rattle.mr_text.specs.declared.reply.Reply.{Reply}
 use Rattle.mr_history.specs.Places.{At}
+use Rattle.mr_history.specs.declared.entry.Author.{Author}
 use Rattle.mr_history.specs.declared.entry.Entry.{Entry}
 use Rattle.mr_node.specs.Output.{output_of, text_of_answer}
 use Rattle.mr_node.specs.Recency.{CacheView}
@@ -13,11 +14,10 @@ use Rattle.mr_loop.specs.node.Serving.{Seat, ServesSome, IsOver, to_tell}
 use Rattle.mr_world.specs.WorldView.{WorldView}
 use Rattle.mr_world.specs.declared.message.Delivery.{Delivery}
 use Rattle.mr_world.specs.declared.message.Message.{Message}
-use Rattle.mr_streams.specs.Entries.{StoresAll}
+use Rattle.mr_streams.specs.Entries.{stored_by, stored_in}
 use Rattle.mr_streams.specs.Flows.{AreReplies, AreRequests, WasAnswered}
 use Rattle.mr_streams.specs.Kept.{AreTellable}
 use Rattle.mr_streams.specs.OneNode.{IsBusy, HasServed, holding}
-use Rattle.mr_streams.specs.Steps.{Stores}
 use Rattle.mr_streams.specs.StreamsView.{node_does}
 use Rattle.mr_streams.proofs.Delivering.{ServedAll, serve_all, serves_nothing, replies_still, replies_both}
 use Rattle.mr_streams.proofs.Exchanges.{RequestLaws, IsLastWord, asks_all, spells_all, last_word}
@@ -98,16 +98,16 @@ module _ (messages : List Message) (deliveries : List Delivery) (w : WorldView) 
         kept = all.kept;
       }
 
-some_served : RequestLaws → (messages : List Message) (deliveries : List Delivery) (w : WorldView) (number reading most : ℕ) (name back later : List ℕ) (old new : Seat CacheView)
-    (returning going : List SentLeg) (heard gains : List Entry) (some : ServesSome node_does reading most old new)
+some_served : RequestLaws → (by : Author) (messages : List Message) (deliveries : List Delivery) (w : WorldView) (number reading most : ℕ) (name back later : List ℕ) (old new : Seat CacheView)
+    (returning going : List SentLeg) (heard : List Entry) (some : ServesSome node_does reading most old new)
     → w.sent ≡ messages → w.replies ≡ deliveries → At w.nodes number (holding name old.cache) → AreTellable old.cache.items
     → IsBusy messages deliveries number old.client.inbox.is_done returning going (back ++ to_tell old.client) (old.client.inbox.reader.kept ++ later)
-    → StoresAll some.exchanges gains
-    → HasServed messages deliveries w number name new returning going back later heard (heard ++ gains)
-some_served laws messages deliveries w number reading most name back later old new returning going heard gains some ws wr there kept busy stores =
+    → HasServed messages deliveries w number name new returning going back later heard (heard ++ flat_map (stored_by by) some.exchanges)
+some_served laws by messages deliveries w number reading most name back later old new returning going heard some ws wr there kept busy =
+    let gains : List Entry = flat_map (stored_by by) some.exchanges in
     let cut = subst (λ b. AreRequests messages number going b) (ap (λ b. b ++ later) some.splits ∙ append_assoc some.bytes some.rest later) (busy.requests some.is_open) in
-    let all = serve_all laws some.exchanges messages deliveries w number reading name old.cache new.cache going some.bytes (some.rest ++ later) heard gains ws wr there kept
-    (asks_all reading old.cache new.cache some.exchanges some.asks) (spells_all some.bytes some.exchanges some.reads) cut stores in
+    let all = serve_all laws by some.exchanges messages deliveries w number reading name old.cache new.cache going some.bytes (some.rest ++ later) heard ws wr there kept
+    (asks_all reading old.cache new.cache some.exchanges some.asks) (spells_all some.bytes some.exchanges some.reads) cut in
     let out : List ℕ = output_of some.exchanges in
     let told : List ℕ = to_tell old.client in
     elim some.leaves [
@@ -121,15 +121,14 @@ some_served laws messages deliveries w number reading most name back later old n
     ]
 
 over_served : (messages : List Message) (deliveries : List Delivery) (w : WorldView) (number : ℕ) (name back later : List ℕ) (old new : Seat CacheView)
-    (returning going : List SentLeg) (heard gains : List Entry) (over : IsOver old new)
+    (returning going : List SentLeg) (heard : List Entry) (over : IsOver old new)
     → At w.nodes number (holding name old.cache) → AreTellable old.cache.items
     → IsBusy messages deliveries number old.client.inbox.is_done returning going (back ++ to_tell old.client) (old.client.inbox.reader.kept ++ later)
-    → gains ≡ [] → HasServed messages deliveries w number name new returning going back later heard (heard ++ gains)
-over_served messages deliveries w number name back later old new returning going heard gains over there kept busy none =
+    → HasServed messages deliveries w number name new returning going back later heard (heard ++ [])
+over_served messages deliveries w number name back later old new returning going heard over there kept busy =
     let deaf : new.client.inbox.is_done ≡ true = ap (λ i. i.is_done) over.same_inbox ∙ over.over in
     record {
-      so = serves_nothing w number name new.cache heard (heard ++ gains) (subst (λ c. At w.nodes number (holding name c)) (sym over.same_cache) there)
-          (ap (λ g. heard ++ g) none ∙ append-nil heard);
+      so = serves_nothing w number name new.cache heard (heard ++ []) (subst (λ c. At w.nodes number (holding name c)) (sym over.same_cache) there) (append-nil heard);
       answered = [];
       left = going;
       splits = refl;
@@ -143,13 +142,12 @@ over_served messages deliveries w number name back later old new returning going
     }
 
 -- whatever bytes come
-pub served : RequestLaws → (messages : List Message) (deliveries : List Delivery) (w : WorldView) (number reading most : ℕ) (name back later : List ℕ) (old new : Seat CacheView)
-    (returning going : List SentLeg) (heard gains : List Entry) (serves : ServesSome node_does reading most old new ⊎ IsOver old new)
+pub served : RequestLaws → (by : Author) (messages : List Message) (deliveries : List Delivery) (w : WorldView) (number reading most : ℕ) (name back later : List ℕ) (old new : Seat CacheView)
+    (returning going : List SentLeg) (heard : List Entry) (serves : ServesSome node_does reading most old new ⊎ IsOver old new)
     → w.sent ≡ messages → w.replies ≡ deliveries → At w.nodes number (holding name old.cache) → AreTellable old.cache.items
     → IsBusy messages deliveries number old.client.inbox.is_done returning going (back ++ to_tell old.client) (old.client.inbox.reader.kept ++ later)
-    → Stores serves gains
-    → HasServed messages deliveries w number name new returning going back later heard (heard ++ gains)
-served laws messages deliveries w number reading most name back later old new returning going heard gains (inl some) ws wr there kept busy stores =
-    some_served laws messages deliveries w number reading most name back later old new returning going heard gains some ws wr there kept busy stores
-served laws messages deliveries w number reading most name back later old new returning going heard gains (inr over) ws wr there kept busy stores =
-    over_served messages deliveries w number name back later old new returning going heard gains over there kept busy stores
+    → HasServed messages deliveries w number name new returning going back later heard (heard ++ stored_in by serves)
+served laws by messages deliveries w number reading most name back later old new returning going heard (inl some) ws wr there kept busy =
+    some_served laws by messages deliveries w number reading most name back later old new returning going heard some ws wr there kept busy
+served laws by messages deliveries w number reading most name back later old new returning going heard (inr over) ws wr there kept busy =
+    over_served messages deliveries w number name back later old new returning going heard over there kept busy

@@ -1,5 +1,5 @@
 -- The headline over bytes, and what it says of the premises.
-use Rattle.std.specs.Prelude.{◌≡◌, All, List, [], ◌∷◌, map, flat_map}
+use Rattle.std.specs.Prelude.{◌≡◌, All, List, [], map}
 use Rattle.std.specs.List.{AllByRecursion}
 use Rattle.mr_clock.specs.Clocks.{NeverGoesBack, StayWithin}
 use Rattle.mr_clock.specs.Readings.{Tick, readings_at_first}
@@ -11,7 +11,7 @@ use Rattle.mr_world.specs.Headline.{IsPlan}
 use Rattle.mr_world.specs.Setup.{SetupView, AllAlike, IsNewPoolEmpty, least_interval_of, proxies_from, nodes_at_first, held_entry}
 use Rattle.mr_world.specs.declared.setup.HeldItem.{HeldItem}
 use Rattle.mr_streams.specs.Served.{AreServed}
-use Rattle.mr_streams.specs.Steps.{StreamsEvent, StreamsRun}
+use Rattle.mr_streams.specs.Steps.{StreamsRun}
 use Rattle.mr_streams.specs.StreamsView.{StreamsView, NodeEnd, cores_of, world_nodes}
 
 -- a loop without clients, whose links are down
@@ -37,38 +37,18 @@ pub record Starts (setup : SetupView) (s : StreamsView) : Type 0 where
   pub connections : s.connections ≡ []
   pub history : s.history ≡ map held_entry setup.held
 
--- only an event of a clock changes a reading
-abbrev pub ticks_in : StreamsEvent → List Tick
-ticks_in (StreamsEvent.Clock proxy reading) = record { proxy = proxy; reading = reading } ∷ []
-ticks_in event = []
-
--- the ticks among events, in order
-abbrev pub ticks_of : List StreamsEvent → List Tick
-ticks_of events = flat_map ticks_in events
-
 -- the four premises, of a setup and of the readings at which requests are issued
-pub record PremisesHold (setup : SetupView) (events : List StreamsEvent) : Type 0 where
+pub record PremisesHold (setup : SetupView) (ticks : List Tick) : Type 0 where
   pub same : AllAlike setup.proxies
   pub new_empty : IsNewPoolEmpty setup
-  pub forward : NeverGoesBack (map (λ proxy. proxy.reading) setup.proxies) (ticks_of events)
-  pub near : StayWithin (least_interval_of setup.proxies) (map (λ proxy. proxy.reading) setup.proxies) (ticks_of events)
-
--- Whatever pieces bytes travel in, whenever connections break, nodes and proxies restart and memory is refused: each hit is fresh.
-abbrev pub BytesAreSafe : Type 0
-BytesAreSafe =
-    (setup : SetupView) (first last : StreamsView) (events : List StreamsEvent)
-    → All (λ proxy. IsPlan proxy.routing proxy.schedule) setup.proxies → All HasText setup.held
-    → Starts setup first → StreamsRun first events last → PremisesHold setup events → IsSafe last.history
-
--- Whatever happens, each client was told the answers of the history to its requests, in their order.
-abbrev pub ClientsAreServed : Type 0
-ClientsAreServed = (setup : SetupView) (first last : StreamsView) (events : List StreamsEvent) → Starts setup first → StreamsRun first events last → AreServed last
+  pub forward : NeverGoesBack (map (λ proxy. proxy.reading) setup.proxies) ticks
+  pub near : StayWithin (least_interval_of setup.proxies) (map (λ proxy. proxy.reading) setup.proxies) ticks
 
 -- Whatever pieces bytes travel in, whenever connections break, nodes and proxies restart and memory is refused: each hit is fresh, and
 -- each client was told the answers of the history to its requests, in their order.
 abbrev pub HeadlineOverBytes : Type 0
 HeadlineOverBytes =
-    (setup : SetupView) (first last : StreamsView) (events : List StreamsEvent)
+    (setup : SetupView) (first last : StreamsView) (ticks : List Tick)
     → All (λ proxy. IsPlan proxy.routing proxy.schedule) setup.proxies → All HasText setup.held
-    → Starts setup first → StreamsRun first events last → PremisesHold setup events
+    → Starts setup first → StreamsRun first ticks last → PremisesHold setup ticks
     → IsSafe last.history × AreServed last

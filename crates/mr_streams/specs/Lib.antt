@@ -1,8 +1,10 @@
 pub mod StreamsView
 pub mod Entries
+pub mod Putting
 pub mod Steps
 pub mod Served
 pub mod Headline
+pub mod Halves
 pub mod Fleet
 pub mod Refines
 pub mod Flows
@@ -12,3 +14,4 @@ pub mod OneLink
 pub mod OneNode
 pub mod Flushing
 pub mod Beginning
+pub mod Issuing

@@ -1,6 +1,7 @@
 -- What bytes that reach a node over one connection do to the world: its node performs the messages that they are, in their order.
 use Rattle.std.specs.Prelude.{◌≡◌, ◌⊎◌, ℕ, Bool, false, List, [], ◌++◌, slice_set}
 use Rattle.mr_history.specs.Places.{At}
+use Rattle.mr_history.specs.declared.entry.Author.{Author}
 use Rattle.mr_history.specs.declared.entry.Entry.{Entry}
 use Rattle.mr_node.specs.Recency.{CacheView}
 use Rattle.mr_loop.specs.declared.sent_legs.SentLeg.{SentLeg}
@@ -10,11 +11,11 @@ use Rattle.mr_world.specs.WorldView.{WorldView}
 use Rattle.mr_world.specs.declared.message.Delivery.{Delivery}
 use Rattle.mr_world.specs.declared.message.Message.{Message}
 use Rattle.mr_world.specs.declared.node.Node.{Node}
+use Rattle.mr_streams.specs.Entries.{stored_in}
 use Rattle.mr_streams.specs.Fleet.{FleetEvent, FleetRun, ticks_of}
 use Rattle.mr_streams.specs.Flows.{AreReplies, AreRequests}
 use Rattle.mr_streams.specs.Kept.{AreTellable}
 use Rattle.mr_streams.specs.Refines.{Tells}
-use Rattle.mr_streams.specs.Steps.{Stores}
 use Rattle.mr_streams.specs.StreamsView.{node_does}
 
 -- a node of this name that holds this
@@ -55,9 +56,8 @@ pub record HasServed (messages : List Message) (deliveries : List Delivery) (w :
 -- whatever bytes come: each request that is whole is the message of its leg, delivered, and its reply is on the way back behind the others
 abbrev pub RequestsAreDelivered : Type 0
 RequestsAreDelivered =
-    (messages : List Message) (deliveries : List Delivery) (w : WorldView) (number reading most : ℕ) (name back later : List ℕ) (old new : Seat CacheView)
-    (returning going : List SentLeg) (heard gains : List Entry) (serves : ServesSome node_does reading most old new ⊎ IsOver old new)
+    (by : Author) (messages : List Message) (deliveries : List Delivery) (w : WorldView) (number reading most : ℕ) (name back later : List ℕ) (old new : Seat CacheView)
+    (returning going : List SentLeg) (heard : List Entry) (serves : ServesSome node_does reading most old new ⊎ IsOver old new)
     → w.sent ≡ messages → w.replies ≡ deliveries → At w.nodes number (holding name old.cache) → AreTellable old.cache.items
     → IsBusy messages deliveries number old.client.inbox.is_done returning going (back ++ to_tell old.client) (old.client.inbox.reader.kept ++ later)
-    → Stores serves gains
-    → HasServed messages deliveries w number name new returning going back later heard (heard ++ gains)
+    → HasServed messages deliveries w number name new returning going back later heard (heard ++ stored_in by serves)

@@ -4,6 +4,7 @@ use Rattle.mr_text.specs.declared.cause.Cause.{Cause}
 use Rattle.mr_text.specs.declared.reply.Reply.{Reply}
 use Rattle.mr_text.specs.declared.reply.Reply.TheVariants.{ServerError}
 use Rattle.mr_text.specs.declared.request.Request.{Request}
+use Rattle.mr_clock.specs.Readings.{Tick}
 use Rattle.mr_history.specs.declared.entry.Author.{Author}
 use Rattle.mr_history.specs.declared.entry.Entry.{Entry}
 use Rattle.mr_history.specs.declared.entry.Entry.TheVariants.{Issued, Stored, Removed, Answered}
@@ -13,9 +14,9 @@ use Rattle.mr_world.specs.Headline.{IsPlan}
 use Rattle.mr_world.specs.Lists.{Has}
 use Rattle.mr_world.specs.Setup.{SetupView, Begins}
 use Rattle.mr_world.specs.WorldView.{WorldView}
-use Rattle.mr_streams.specs.Fleet.{FleetEvent, FleetRun, ticks_of as fleet_ticks_of}
-use Rattle.mr_streams.specs.Headline.{Starts, HasText, ticks_of}
-use Rattle.mr_streams.specs.Steps.{StreamsEvent, StreamsRun}
+use Rattle.mr_streams.specs.Fleet.{FleetEvent, FleetRun, ticks_of}
+use Rattle.mr_streams.specs.Headline.{Starts, HasText}
+use Rattle.mr_streams.specs.Steps.{StreamsRun}
 use Rattle.mr_streams.specs.StreamsView.{StreamsView, cores_of, world_nodes}
 
 -- The first list tells what the second does, in the same order: but it tells answers earlier, and some that the second never tells;
@@ -39,11 +40,11 @@ pub data Tells : List Entry → List Entry → Type 0 where
 
 -- events of the world, with legs that fail, lead to a fleet of the same cores and the same nodes, at the same readings, whose history
 -- tells all that happened in the streams
-pub record ReachesWorld (start : WorldView) (events : List StreamsEvent) (last : StreamsView) : Type 0 where
+pub record ReachesWorld (start : WorldView) (ticks : List Tick) (last : StreamsView) : Type 0 where
   pub world : WorldView
   pub happened : List FleetEvent
   pub run : FleetRun start happened world
-  pub ticks : fleet_ticks_of happened ≡ ticks_of events
+  pub same_ticks : ticks_of happened ≡ ticks
   pub readings : world.readings ≡ last.readings
   pub cores : world.proxies ≡ cores_of last.loops
   pub nodes : world.nodes ≡ world_nodes last.nodes
@@ -52,6 +53,6 @@ pub record ReachesWorld (start : WorldView) (events : List StreamsEvent) (last :
 -- whatever happens to streams from a fresh start on, events of the world come to the same
 abbrev pub RefinesWorld : Type 0
 RefinesWorld =
-    (setup : SetupView) (first last : StreamsView) (start : WorldView) (events : List StreamsEvent)
+    (setup : SetupView) (first last : StreamsView) (start : WorldView) (ticks : List Tick)
     → All (λ proxy. IsPlan proxy.routing proxy.schedule) setup.proxies → All HasText setup.held
-    → Starts setup first → Begins setup start → StreamsRun first events last → ReachesWorld start events last
+    → Starts setup first → Begins setup start → StreamsRun first ticks last → ReachesWorld start ticks last

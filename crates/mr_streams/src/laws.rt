@@ -1,7 +1,9 @@
 //! What holds of a fleet as streams of bytes.
 ghost use Rattle.mr_streams.specs.Beginning.{SetupsStart};
 ghost use Rattle.mr_streams.specs.Flushing.{FlushesPutTexts};
-ghost use Rattle.mr_streams.specs.Headline.{BytesAreSafe, ClientsAreServed, HeadlineOverBytes};
+ghost use Rattle.mr_streams.specs.Halves.{BytesAreSafe, ClientsAreServed};
+ghost use Rattle.mr_streams.specs.Headline.{HeadlineOverBytes};
+ghost use Rattle.mr_streams.specs.Issuing.{RequestsAreIssuedAsTheyCome};
 ghost use Rattle.mr_streams.specs.OneLink.{RepliesComeBack, LinksGiveUp};
 ghost use Rattle.mr_streams.specs.OneNode.{RequestsAreDelivered};
 ghost use Rattle.mr_streams.specs.Refines.{RefinesWorld};
@@ -73,6 +75,12 @@ pub fn bytes_are_safe()
 /// first of the requests that its bytes spell, in their order, and each of these answers stands in the history.
 pub fn clients_are_served()
     ensures { ClientsAreServed }
+{}
+
+/// A request is issued when it becomes due to its client, which is when its bytes come or later: so a get that comes once an
+/// acknowledgement was told is issued behind that.
+pub fn requests_are_issued_as_they_come()
+    ensures { RequestsAreIssuedAsTheyCome }
 {}
 
 /// The headline over bytes. Whatever pieces bytes travel in, whenever connections are made, break or are left with bytes on their

@@ -4,6 +4,7 @@
 mod asking;
 mod breaking;
 mod counting;
+mod denying;
 mod leaving;
 mod memory;
 mod node;

@@ -1,5 +1,5 @@
 -- A set of which the line was read: what its line says, and what is read of it behind the line.
-use Rattle.std.proofs.Common.{◌≡◌, ◌≢◌, ℕ, ◌+◌, ◌≤◌, Bool, true, false, List, [], ◌++◌, length, take, drop, Ok, Err, refl, ◌∙◌, ap, subst, arith, inl, inr, ℤ, length-drop}
+use Rattle.std.proofs.Common.{◌≡◌, ℕ, ◌+◌, ◌≤◌, Bool, true, false, List, ◌++◌, length, take, drop, Ok, Err, refl, ◌∙◌, subst, arith, inl, inr, ℤ, length-drop}
 use Rattle.std.proofs.Math.Seq.{drop-append_seam}
 use Rattle.mr_lines.specs.Words.{words_of}
 use Rattle.mr_text.specs.Limits.{MAX_BLOCK}
@@ -10,7 +10,7 @@ use Rattle.mr_text.specs.steps.Reading.StretchReading.{Waits, Gives, Refused}
 use Rattle.mr_text.specs.steps.Reading.CommandLine.{SetLine}
 use Rattle.mr_text.specs.declared.error.TextError.{TextError}
 use Rattle.mr_text.specs.declared.request.Request.TheVariants.{Set}
-use Rattle.mr_text.proofs.Lines.{IsRead, LineIs, line_is, line_length}
+use Rattle.mr_text.proofs.Lines.{IsRead, LineIs, line_is}
 use Rattle.mr_text.proofs.RequestReading.{LineSays, line_says, set_line, set_line_found, words_found}
 use Rattle.mr_text.proofs.ShortRequests.{block_waits, line_waits}
 
@@ -37,9 +37,6 @@ module _ (key : List ℕ) (flags : ℕ) (exptime : ℤ) (n : ℕ) (noreply : Boo
       omega arith
 
   module _ (front unread : List ℕ) (h : IsSetLine front key flags exptime n noreply) where
-    pub begun_some : front ≢ []
-    begun_some empty = let size = line_length front h.is_line.is_line.line h.is_line.is_line.is_line in let none : length front ≡ 0 = ap length empty in absurd (omega arith)
-
     pub begun_read : HasReadLine (front ++ unread) (length front)
     begun_read = inl (front, h.is_line.is_line.line, unread, refl, h.is_line.is_line.is_line, refl)
 

@@ -126,13 +126,6 @@ wrong_item_found (key ∷ flags ∷ []) h = refl
 wrong_item_found (key ∷ flags ∷ bytes ∷ []) h = absurd (h refl)
 wrong_item_found (key ∷ flags ∷ bytes ∷ other ∷ words) h = refl
 
-three : (words : List (List ℕ)) → length words ≡ 3 → (key : List ℕ) × (flags_word : List ℕ) × (length_word : List ℕ) × (words ≡ key ∷ flags_word ∷ length_word ∷ [])
-three [] e = absurd (omega arith)
-three (key ∷ []) e = absurd (omega arith)
-three (key ∷ flags ∷ []) e = absurd (omega arith)
-three (key ∷ flags ∷ bytes ∷ []) e = (key, flags, bytes, refl)
-three (key ∷ flags ∷ bytes ∷ other ∷ words) e = absurd (omega arith)
-
 -- what is read of a line behind an item
 abbrev pub NextLineIs : ℕ → List (List ℕ) → Result ReplyLine TextError → Type 0
 NextLineIs room words (Ok (ItemLine key flags block_length)) =

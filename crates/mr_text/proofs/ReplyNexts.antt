@@ -211,13 +211,6 @@ reply_refused old new refusal still e part is = record {
     begun Closed more same part so = same
     begun OutOfMemory more same part so = absurd so
 
-pub reply_closed : (old new : ReaderView) → old.closed ≡ true → new ≡ old → IsNextReply old new (Err Closed)
-reply_closed old new closed is = record {
-  answer = λ rest stands. (closed, record { stands = ap (λ v. v.kept) is ∙ stands; is_ended = ap (λ v. v.ended) is; is_closed = ap (λ v. v.closed) is ∙ closed });
-  begun = ap (λ v. v.begun) is;
-  short = λ none. cc;
-}
-
 -- what was read of a reply before doesn't show
 pub next_from : (old now : StreamView) (new : ReaderView) (result : Result (Option Reply) TextError) → now.closed ≡ false → ReadsOn old now → IsNextReply (reader_of now) new result
     → IsNextReply (reader_of old) new result

@@ -352,10 +352,6 @@ block_read front unread items said h e =
       few = (omega arith);
     }
 
--- nothing is read
-pub nothing_read : HasRead [] [] None
-nothing_read = record { line = []; begins = refl; is_line = refl; few = (omega arith) }
-
 -- where no line is whole
 pub first_waits : (bytes : List ℕ) → line_reading bytes ≡ Waits → reply_reading bytes ≡ Waits
 unfolding reply_reading

@@ -103,10 +103,3 @@ module _ (old new : ReaderView) (still : old.closed ≡ false) where
   request_refused Truncated size e is = absurd (request_refuses old.kept Truncated size e)
   request_refused Closed size e is = absurd (request_refuses old.kept Closed size e)
   request_refused OutOfMemory size e is = absurd (request_refuses old.kept OutOfMemory size e)
-
-pub request_closed : (old new : ReaderView) → old.closed ≡ true → new ≡ old → IsNextRequest old new (Err Closed)
-request_closed old new closed is = record {
-  answer = λ rest stands. (closed, record { stands = ap (λ v. v.kept) is ∙ stands; is_ended = ap (λ v. v.ended) is; is_closed = ap (λ v. v.closed) is ∙ closed });
-  begun = ap (λ v. v.begun) is;
-  short = λ none. cc;
-}

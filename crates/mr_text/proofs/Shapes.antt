@@ -22,10 +22,6 @@ shape_found words (DeleteShape key true) (inl h) = rw h refl
 shape_found words (DeleteShape key true) (inr h) = rw h refl
 shape_found words QuitShape h = rw h refl
 
--- so words have one shape at most
-pub one_shape : (words : List (List ℕ)) (a b : Shape) → HasShape words a → HasShape words b → a ≡ b
-one_shape words a b h k = let x = shape_found words a h in let y = shape_found words b k in cc
-
 abbrev Options : List (List ℕ) → Option Bool → Type 0
 Options words None = Unit {0}
 Options words (Some false) = words ≡ []

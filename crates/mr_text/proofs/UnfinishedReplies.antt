@@ -290,12 +290,6 @@ module _ (old : UnfinishedReply) (h : IsProgress old) (still : old.stream.closed
   first_refused new refusal e a b c =
       (moved old new h (ap (λ v. v.front) a) b c, reply_refused old.stream new.stream refusal still (ap reply_reading all_unread ∙ e) part a)
 
--- what may be copied isn't refused
-pub not_refused : (ended : Bool) (r : StretchReading (List Item)) → MayCopy ended r → (refusal : TextError) → r ≢ Refused refusal 0
-not_refused ended Waits may refusal = λ e. cc
-not_refused ended (Gives items size) may refusal = λ e. cc
-not_refused ended (Refused other size) may refusal = absurd may
-
 -- the reply of items, from what the last step came to
 module _ (old between now : UnfinishedReply) (h : IsProgress old) (still : old.stream.closed ≡ false) (begun : has_begun old ≡ true)
     (before : ReadsOn old.stream between.stream) where

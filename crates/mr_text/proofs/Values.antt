@@ -79,9 +79,6 @@ fits_negative (suc n) h = search rules
 no_digits : (digits : List ℕ) (n : ℕ) → ¬ IsNumber (45 ∷ digits) n
 no_digits digits n h = let first = h.digits.digits 0 0 (omega arith) in let low = first.0 in omega arith
 
-negated : ℕ → ℤ
-negated n = neg_ℤ (pos n)
-
 not_minus : (byte : ℕ) (bytes : List ℕ) (n : ℕ) → IsNumber (byte ∷ bytes) n → (byte == 45) ≡ false
 not_minus byte bytes n h = go (byte == 45) refl
   where

@@ -61,11 +61,6 @@ stopped_at_once bytes old new e (written, handed, failed, last, counted) =
       last = last;
     }
 
--- one call is a writer of its bytes
-pub writes_at_once : (bytes : List ℕ) (old new : SinkView) (result : Result (Unit {0}) WriteFault) → IsOneWrite bytes old result new → Writes bytes old result new
-writes_at_once bytes old new (Ok _) (wrote, last, counted) = wrote
-writes_at_once bytes old new (Err e) one = stopped_at_once bytes old new e one
-
 -- a text, and then what a writer leaves of another
 pub writes_behind : (a b : List ℕ) (old mid new : SinkView) (result : Result (Unit {0}) WriteFault) → HasWritten a old mid → Writes b mid result new → Writes (a ++ b) old result new
 writes_behind a b old mid new (Ok _) first then = written_then a b old mid new first then

@@ -58,6 +58,7 @@ impl Block {
     }
 
     /// The block of bytes that are known to be one.
+    #[inline(always)]
     pub(crate) fn of(alloc: Global, bytes: &[u8]) -> Result<Block, AllocError>
         requires { IsBlock bytes.now }
         ensures { IfOk result (λ block. block ≡ bytes.now) }
@@ -91,6 +92,7 @@ impl Block {
     }
 
     /// The bytes of the block.
+    #[inline(always)]
     pub fn as_bytes(&self) -> &[u8]
         ensures bytes { result.now ≡ self.now }
         ensures block { IsBlock result.now }
@@ -109,6 +111,7 @@ impl Block {
     }
 
     /// An equal block.
+    #[inline(always)]
     pub fn copy(&self) -> Result<Block, AllocError>
         ensures { IfOk result (λ block. block ≡ self.now) }
     {

@@ -44,6 +44,7 @@ impl Model for ItemList {
 
 impl ItemList {
     /// The list of these items.
+    #[inline(always)]
     pub fn new(items: Vec<Item>) -> ItemList
         requires { vec_len items ≤ MAX_ITEMS }
         ensures { result ≡ items.items }
@@ -54,6 +55,7 @@ impl ItemList {
     }
 
     /// The list of one item. It takes no memory.
+    #[inline(always)]
     pub fn one(item: Item) -> ItemList
         ensures { result ≡ item ∷ [] }
     {
@@ -63,6 +65,7 @@ impl ItemList {
     }
 
     /// The items in order.
+    #[inline(always)]
     pub fn as_slice(&self) -> &[Item]
         ensures items { result.now ≡ self.now }
         ensures within { length result.now ≤ MAX_ITEMS }
@@ -74,6 +77,7 @@ impl ItemList {
     }
 
     /// The item of a list of one. None where there are none or more. It takes no memory.
+    #[inline(always)]
     pub fn into_only(self) -> Option<Item>
         ensures { MatchOption result (length self ≢ 1) (λ item. self ≡ item ∷ []) }
     {

@@ -46,6 +46,7 @@ impl Model for Key {
 }
 
 /// Whether a byte may stand in a key.
+#[inline(always)]
 fn is_key_byte(byte: u8) -> bool
     ensures { result ≡ key_byte_test byte }
 {
@@ -53,6 +54,7 @@ fn is_key_byte(byte: u8) -> bool
 }
 
 /// Whether each byte may stand in a key.
+#[inline(always)]
 fn are_key_bytes(bytes: &[u8]) -> bool
     ensures { result ≡ list_all key_byte_test bytes.now }
 {
@@ -60,6 +62,7 @@ fn are_key_bytes(bytes: &[u8]) -> bool
 }
 
 /// Whether the bytes are a key.
+#[inline(always)]
 #[tactic(auto, unfolding(crate::specs::Key::key_test))]
 pub(crate) fn is_key(bytes: &[u8]) -> bool
     ensures { result ≡ key_test bytes.now }
@@ -68,6 +71,7 @@ pub(crate) fn is_key(bytes: &[u8]) -> bool
 }
 
 /// These bytes, which have room in a key itself.
+#[inline(always)]
 fn within(bytes: &[u8]) -> KeyPlace
     requires { length bytes.now ≤ 40 }
     ensures filled { IsFilled result }
@@ -93,6 +97,7 @@ impl Key {
     }
 
     /// The key of bytes that are known to be one.
+    #[inline(always)]
     pub(crate) fn of(alloc: Global, bytes: &[u8]) -> Result<Key, AllocError>
         requires { IsKey bytes.now }
         ensures { IfOk result (λ key. key ≡ bytes.now) }
@@ -106,6 +111,7 @@ impl Key {
     }
 
     /// The bytes of the key.
+    #[inline(always)]
     pub fn as_bytes(&self) -> &[u8]
         ensures bytes { result.now ≡ self.now }
         ensures key { IsKey result.now }
@@ -117,6 +123,7 @@ impl Key {
     }
 
     /// How many bytes the key has.
+    #[inline(always)]
     pub fn len(&self) -> usize
         ensures length { result ≡ length self.now }
         ensures some { 1 ≤ result }
@@ -126,6 +133,7 @@ impl Key {
     }
 
     /// Whether the other key is equal.
+    #[inline(always)]
     pub fn same_as(&self, other: &Key) -> bool
         ensures { IsTrue result ↔ (self.now ≡ other.now) }
     {
@@ -133,6 +141,7 @@ impl Key {
     }
 
     /// An equal key.
+    #[inline(always)]
     pub fn copy(&self) -> Result<Key, AllocError>
         ensures { IfOk result (λ key. key ≡ self.now) }
     {

@@ -62,6 +62,7 @@ impl KeyList {
     }
 
     /// The list of keys that are known to be one's.
+    #[inline(always)]
     pub(crate) fn of(keys: Vec<Key>) -> KeyList
         requires has_key { HasKey keys.items }
         requires fit_line { FitLine keys.items }
@@ -72,6 +73,7 @@ impl KeyList {
     }
 
     /// The keys in order.
+    #[inline(always)]
     pub fn as_slice(&self) -> &[Key]
         ensures keys { result.now ≡ self.now }
         ensures has_key { HasKey result.now }

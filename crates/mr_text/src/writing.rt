@@ -72,6 +72,7 @@ pub fn send_server_error<W: Sink>(
 }
 
 /// Writes a get of one key as `write_request` does, through a buffer that is lent to it, as `send_reply` does.
+#[inline(always)]
 pub fn send_get<W: Sink>(
     key: &Key,
     buffer: &mut FixedBuffer,
@@ -86,6 +87,7 @@ pub fn send_get<W: Sink>(
 }
 
 /// Writes a set that is answered, as `send_get` does.
+#[inline(always)]
 pub fn send_set<W: Sink>(
     key: &Key,
     flags: u32,
@@ -105,6 +107,7 @@ pub fn send_set<W: Sink>(
 }
 
 /// Writes a delete that is answered, as `send_get` does.
+#[inline(always)]
 pub fn send_delete<W: Sink>(
     key: &Key,
     buffer: &mut FixedBuffer,
@@ -119,6 +122,7 @@ pub fn send_delete<W: Sink>(
 }
 
 /// Puts an item of a get's reply behind what is gathered: its line, and the block behind it.
+#[inline(always)]
 pub fn put_item<W: Sink>(
     key: &Key,
     flags: u32,
@@ -134,6 +138,7 @@ pub fn put_item<W: Sink>(
     buffer.put_block(block.as_bytes(), writer)
 }
 
+#[inline(always)]
 fn put_value_line<W: Sink>(
     key: &Key,
     flags: u32,
@@ -176,6 +181,7 @@ fn put_items<W: Sink>(
 }
 
 /// Puts what stands behind the items of a reply.
+#[inline(always)]
 pub fn put_end<W: Sink>(buffer: &mut FixedBuffer, writer: &mut W) -> Result<(), WriteFault>
     ensures text { Gathers (codes "END" ++ line_end)
         buffer.old (W.told writer.old) result buffer.new (W.told writer.new) }
@@ -232,6 +238,7 @@ fn noreply_word<'a>(noreply: bool) -> &'a [u8]
     if noreply { b" noreply" } else { b"" }
 }
 
+#[inline(always)]
 fn put_set_line<W: Sink>(
     key: &Key,
     flags: u32,
@@ -266,6 +273,7 @@ fn put_set_line<W: Sink>(
 }
 
 /// Puts a set: its line, and the block behind it.
+#[inline(always)]
 fn put_set<W: Sink>(
     key: &Key,
     flags: u32,

@@ -1,5 +1,5 @@
 -- What the reads of an input say of what was taken of it.
-use Rattle.std.proofs.Common.{arith, ◌≡◌, ℕ, ◌<◌, ◌≤◌, Bool, true, false, List, [], ◌++◌, length, Option, Some, None, Result, Ok, Err, IfErr, IsErrAnd, inl, refl, subst, sym, ◌∙◌, ap, length-append}
+use Rattle.std.proofs.Common.{arith, ◌≡◌, ℕ, ◌<◌, ◌≤◌, Bool, true, false, List, [], ◌++◌, length, Option, Some, None, Result, Ok, Err, IfErr, IsErrAnd, inl, subst, sym, ◌∙◌, ap, length-append}
 use Rattle.std.proofs.lemmas.List.{append_assoc, append-nil}
 use Rattle.std.specs.Io.KnownBytes.{Consumes}
 use Rattle.mr_text.specs.Source.{SourceView, AreOffered, least_with}
@@ -7,10 +7,6 @@ use Rattle.mr_tool.specs.InputSteps.{AddsPiece, BringsInput}
 use Rattle.mr_tool.specs.Input.{FailsWhole, Takes, TakesWhole, most_taken}
 use Rattle.mr_tool.specs.declared.fault.Fault.{Fault}
 use Rattle.mr_tool.specs.declared.fault.Fault.TheVariants.{Memory, Input, Output, File, Net, Plan, Pools, Phases, Node, Text}
-
-consumes_nothing : (left : Option (List ℕ)) → Consumes left left []
-consumes_nothing None = tt
-consumes_nothing (Some bytes) = refl
 
 consumes_more : (before now after : Option (List ℕ)) (early piece : List ℕ) → Consumes before now early → Consumes now after piece
     → Consumes before after (early ++ piece)
@@ -23,16 +19,6 @@ consumes_more (Some bytes) (Some rest) (Some end) early piece h more = h ∙ (ap
 offered_more : (before : Option ℕ) (room more : ℕ) → room ≤ more → AreOffered room before → AreOffered room (least_with before more)
 offered_more None room more fits h = fits
 offered_more (Some least) room more fits h = omega arith
-
--- nothing was taken yet
-pub takes_nothing : (view : SourceView) → Takes [] 0 view view
-takes_nothing view = record {
-  taken = sym (append-nil view.taken);
-  consumes = consumes_nothing view.left;
-  fits = omega arith;
-  reads = omega arith;
-  offered = λ room small fits h. h;
-}
 
 module _ (before now after : SourceView) (early : List ℕ) (h : Takes early 0 before now) where
   -- one more piece

@@ -4,7 +4,6 @@ pub mod GivenLemmas
 pub mod InputLemmas
 pub mod RequestLemmas
 pub mod RunLemmas
-pub mod WatchLemmas
 pub mod WholeRun
 pub mod PlanLemmas
 pub mod PlannedLemmas

@@ -5,7 +5,6 @@ use Rattle.std.proofs.lemmas.List.{append_assoc, append-nil, length-take-le}
 use Rattle.mr_text.specs.Requests.{SpellsRequest, RefusesRequest, SkipsLine, is_quit}
 use Rattle.mr_text.specs.Source.{SourceView, IsOneRead}
 use Rattle.mr_text.specs.Stream.{ReaderView, Becomes, NextIs, FeedIs}
-use Rattle.mr_text.specs.declared.error.ReadFault.{ReadFault}
 use Rattle.mr_text.specs.declared.request.Request.{Request}
 use Rattle.mr_text.specs.declared.error.TextError.{TextError}
 use Rattle.mr_text.specs.declared.error.TextError.TheVariants.{LineTooLong, BadKey, BadNumber, WrongWords, DataTooLong, BadDataEnd, UnknownCommand, Truncated, Closed, OutOfMemory}
@@ -135,31 +134,6 @@ fed_completes before now after reader turns count buffer result h read holds =
       holds = holds;
     })
     holds
-
--- the input ended
-pub fed_ends : (before now after : SourceView) (reader : ReaderView) (turns count : ℕ) (buffer : List ℕ) → HasFed before now reader turns
-    → IsOneRead buffer now (Ok count) after → count ≡ 0 → 0 < length buffer → ReadsRequest before after (Err (Text Truncated))
-fed_ends before now after reader turns count buffer h read none room = record {
-  early = h.fed;
-  read = subst (λ (n : ℕ). HasRead h.fed (take n buffer) before after) none (piece_read before now after reader turns count buffer h read);
-  steady = read.gives.2 ∙ h.steady;
-  ended = read.consumes.1 none room;
-}
-
--- a read failed
-pub fed_fails : (before now after : SourceView) (reader : ReaderView) (turns : ℕ) (buffer : List ℕ) (fault : ReadFault) → HasFed before now reader turns
-    → IsOneRead buffer now (Err fault) after → ReadsRequest before after (Err Input)
-fed_fails before now after reader turns buffer fault h read =
-    let counted = read.counted in
-    let reads = h.reads in
-    let brought = h.brought in
-    let failed = read.gives.1 in
-    let steady = h.steady in
-    record {
-      early = h.fed;
-      read = record { taken = read.gives.0 ∙ (h.taken ∙ ap (λ s. before.taken ++ s) (sym (append-nil h.fed))); waits = h.waits; reads = omega arith };
-      failed = omega arith;
-    }
 
 -- so many reads are never made: their bytes hold a request or a refusal
 pub fed_spent : (before now : SourceView) (reader : ReaderView) (turns : ℕ) → HasFed before now reader turns → most_reads ≤ turns → ⊥

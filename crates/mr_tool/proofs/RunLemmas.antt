@@ -159,6 +159,8 @@ command_steady (wanted.Run file) ended before between idle busy h silent =
     idle_steady _ _ _ _ (text_steady _ (path_in file) ended before between h.0 silent) h.1
 command_steady (wanted.Check file) ended before between idle busy h silent =
     idle_steady _ _ _ _ (text_steady _ (path_in file) ended before between h.0 silent) h.1
+command_steady (wanted.Draw file) ended before between idle busy h silent =
+    idle_steady _ _ _ _ (text_steady _ (path_in file) ended before between h.0 silent) h.1
 command_steady (wanted.Upgrade file) ended before between idle busy h silent =
     idle_steady _ _ _ _ (text_steady _ (path_in file) ended before between h.0 silent) h.1
 command_steady (wanted.Node values) ended before between idle busy h silent = node_steady values ended before between idle busy h silent

@@ -1,5 +1,6 @@
 pub mod CheckCommand
 pub mod Devices
+pub mod DrawCommand
 pub mod ExplainCommand
 pub mod Fault
 pub mod GivenText

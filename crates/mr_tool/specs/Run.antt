@@ -2,6 +2,7 @@
 use Rattle.std.specs.Prelude.{◌≡◌, ℕ, ◌+◌, ◌≤◌, ◌⊎◌, List, Option, Some, None, Result, Ok, Err}
 use Rattle.mr_text.specs.Sink.{SinkView}
 use Rattle.mr_tool.specs.CheckCommand.{CheckGives}
+use Rattle.mr_tool.specs.DrawCommand.{DrawGives}
 use Rattle.mr_tool.specs.Devices.{Devices, IsToldAtOnce, Machine, NoneFailed, Tells}
 use Rattle.mr_words.specs.Explain.{told_by}
 use Rattle.mr_tool.specs.ExplainCommand.{ExplainGives}
@@ -22,7 +23,7 @@ use Rattle.mr_tool.specs.declared.fault.Fault.{Fault}
 use Rattle.mr_tool.specs.declared.fault.Fault.TheVariants.{Memory}
 use Rattle.mr_servers.specs.Servers.{ServersView}
 use Rattle.mr_words.specs.declared.words.Wanted.{Wanted}
-use Rattle.mr_words.specs.declared.words.Wanted.TheVariants.{Plan, Timeline, Run, Check, Upgrade, Node, Proxy, Watch, Explain}
+use Rattle.mr_words.specs.declared.words.Wanted.TheVariants.{Plan, Timeline, Run, Check, Draw, Upgrade, Node, Proxy, Watch, Explain}
 
 -- the status of a run that did what was wanted
 abbrev pub DONE : ℕ
@@ -52,6 +53,7 @@ Gives (Plan values) before after idle busy result = PlanGives values before afte
 Gives (Timeline values) before after idle busy result = TimelineGives values before after result × (busy ≡ idle)
 Gives (Run file) before after idle busy result = RunGives (path_in file) before after result × (busy ≡ idle)
 Gives (Check file) before after idle busy result = CheckGives (path_in file) before after result × (busy ≡ idle)
+Gives (Draw file) before after idle busy result = DrawGives (path_in file) before after result × (busy ≡ idle)
 Gives (Upgrade file) before after idle busy result = UpgradeGives (path_in file) before after result × (busy ≡ idle)
 Gives (Node values) before after idle busy result = NodeGives values before after idle busy result
 Gives (Proxy values) before after idle busy result = ProxyGives values before after idle busy result
@@ -123,6 +125,7 @@ most_reads_of (Plan values) = most_reads
 most_reads_of (Timeline values) = 0
 most_reads_of (Run file) = reads_without (path_in file)
 most_reads_of (Check file) = reads_without (path_in file)
+most_reads_of (Draw file) = reads_without (path_in file)
 most_reads_of (Upgrade file) = reads_without (path_in file)
 most_reads_of (Node values) = 0
 most_reads_of (Proxy values) = 0

@@ -4,6 +4,7 @@ ghost use Rattle.mr_text.specs.Source.{SourceView};
 ghost use Rattle.mr_text.specs.Sink.{SinkView};
 ghost use Rattle.mr_tool.specs.CheckCommand.{CheckGives, end_of};
 ghost use Rattle.mr_tool.specs.Devices.{devices};
+ghost use Rattle.mr_tool.specs.DrawCommand.{DrawGives};
 ghost use Rattle.mr_words.specs.Explain.{told_by};
 ghost use Rattle.mr_tool.specs.ExplainCommand.{ExplainGives};
 ghost use Rattle.mr_words.specs.Words.{path_in};
@@ -20,9 +21,11 @@ use crate::input::{first_request, given_bytes, load_config};
 use crate::planned::config_planned;
 use crate::script_text::{text_of_play, text_of_upgrade};
 use crate::sources::Sources;
-use mr_printing::{write_at_once, write_check, write_explanation, write_plan, write_timeline};
+use mr_printing::{
+    write_at_once, write_check, write_drawing, write_explanation, write_plan, write_timeline,
+};
 use mr_text::{Sink, Source};
-use mr_transcripts::{Outcome, check_transcript};
+use mr_transcripts::{Outcome, check_transcript, see_transcript};
 use mr_words::{Explanation, PlanValues, TimelineValues, version_line};
 use std::alloc::Global;
 
@@ -104,6 +107,24 @@ pub fn run_check<S: Sources, I: Source, O: Sink>(
     let checked = check_transcript(alloc, bytes.as_slice())?;
     write_check(alloc, &checked, output)?;
     Ok(end_of(checked.outcome))
+}
+
+/// Writes the picture of the transcript in a file, or of the one on the input.
+pub fn run_draw<S: Sources, I: Source, O: Sink>(
+    alloc: Global,
+    file: Option<&str>,
+    sources: &mut S,
+    input: &mut I,
+    output: &mut O,
+) -> Result<Ended, Fault>
+    ensures { (faults : SinkView) → DrawGives (path_in file.entry)
+        (devices (S.told sources.old) (I.told input.old) (O.told output.old) faults)
+        (devices (S.told sources.new) (I.told input.new) (O.told output.new) faults) result }
+{
+    let bytes = given_bytes(alloc, file, sources, input)?;
+    let seen = see_transcript(alloc, bytes.as_slice())?;
+    write_drawing(alloc, &seen, output)?;
+    Ok(Ended::Done)
 }
 
 /// Writes in format 2 the script in a file, or the one on the input.

@@ -9,7 +9,8 @@ ghost use Rattle.mr_tool.specs.Sources.{SourcesView};
 ghost use Rattle.mr_words.specs.Words.{ReadsWords};
 
 use crate::commands::{
-    run_check, run_explain, run_plan, run_script, run_timeline, run_upgrade, write_version,
+    run_check, run_draw, run_explain, run_plan, run_script, run_timeline, run_upgrade,
+    write_version,
 };
 use crate::ended::Ended;
 use crate::fault::Fault;
@@ -118,6 +119,7 @@ fn give<
         Wanted::Timeline(values) => run_timeline(alloc, values, sources, output),
         Wanted::Run(file) => run_script(alloc, *file, sources, input, output),
         Wanted::Check(file) => run_check(alloc, *file, sources, input, output),
+        Wanted::Draw(file) => run_draw(alloc, *file, sources, input, output),
         Wanted::Upgrade(file) => run_upgrade(alloc, *file, sources, input, output),
         Wanted::Node(values) => run_node(alloc, values, servers, output),
         Wanted::Proxy(values) => run_proxy(alloc, values, servers, sources, output),

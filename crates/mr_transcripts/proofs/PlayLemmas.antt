@@ -4,7 +4,7 @@ use Rattle.mr_world.specs.Refusals.{refusal_of_event}
 use Rattle.mr_world.specs.Setup.{SetupView, Begins}
 use Rattle.mr_world.specs.Steps.{WorldStep, WorldRun}
 use Rattle.mr_world.specs.WorldView.{WorldView}
-use Rattle.mr_world.specs.declared.error.WorldError.{WorldError}
+use Rattle.mr_proxy.specs.declared.world_error.WorldError.{WorldError}
 use Rattle.mr_world.specs.declared.event.Event.{Event}
 use Rattle.mr_world.specs.declared.note.Note.{Note}
 use Rattle.mr_shown.specs.Verdict.{JudgesSo}

@@ -60,6 +60,12 @@ abbrev pub outcome_of : Format → Data → Option Stop → List Note → List E
 outcome_of format transcript (Some stop) notes history premises verdict = EventRefused stop.index
 outcome_of format transcript None notes history premises verdict = outcome_of_play format transcript notes history premises verdict
 
+-- what is found of a transcript by a play with these notes, which came to this world
+pub record IsFoundOf (format : Format) (transcript : Data) (stop : Option Stop) (notes : List Note) (world : WorldView) (checked : Checked) : Type 0 where
+  pub premises : checked.premises ≡ premises_of world
+  pub judges : JudgesSo world.history checked.verdict
+  pub outcome : checked.outcome ≡ outcome_of format transcript stop notes world.history checked.premises checked.verdict
+
 -- the transcript's events were played on its setup; premises and verdict are those of the play
 pub record IsChecked (format : Format) (transcript : Data) (setup : SetupView) (events : List Event) (checked : Checked) : Type 0 where
   pub notes : List Note

@@ -3,12 +3,12 @@ ghost use Rattle.std.specs.Prelude.{◌≡◌, ◌^◌, ◌<◌, length, Ok, IfO
 ghost use Rattle.serde_json.specs.View.{view};
 ghost use Rattle.mr_world.specs.Premises.{premises_of};
 ghost use Rattle.mr_world.specs.Setup.{CanBeMade};
-ghost use Rattle.mr_transcripts.specs.Check.{tells, all_hold, is_safe, outcome_when_told, outcome_of_play, IsChecked, IsVouchedFor};
+ghost use Rattle.mr_transcripts.specs.Check.{tells, all_hold, is_safe, outcome_when_told, outcome_of_play, IsChecked, IsFoundOf, IsVouchedFor};
 ghost use Rattle.mr_scripts.specs.Script.{IsPlayable};
 ghost use Rattle.mr_transcripts.specs.Transcripts.{outcome_check, played_parts, RefusesPlayed, IsCheckOf, RefusesCheck};
 ghost use Rattle.mr_configs.specs.declared.error.PlanError.TheVariants.{OutOfMemory};
 
-use crate::play::play_events;
+use crate::play::{Play, play_events};
 use mr_configs::fields::{check_object, field};
 use mr_configs::{PlanError, json_of};
 use mr_scripts::{MAX_SCRIPT, is_same, read_parts};
@@ -132,20 +132,16 @@ fn outcome_of_play(
     Ok(outcome_when_told(premises, verdict))
 }
 
-/// Plays a transcript's events on its setup, and holds the rest of it against the play.
-fn compare_with_play(
+/// Holds a transcript against a play of its events.
+pub(crate) fn checked_play(
     alloc: Global,
     format: Format,
     transcript: &Value,
-    setup: Setup,
-    events: Vec<Event>,
-) -> Result<Checked, PlanError>
-    requires few { length setup.proxies < 2 ^ 32 }
-    requires makeable { CanBeMade setup }
-    ensures checked { IfOk result (IsChecked format (view transcript.now) setup events.items) }
-    ensures refused { IfErr result (λ e. e ≡ OutOfMemory) }
+    play: &Play,
+) -> Result<Checked, AllocError>
+    ensures { IfOk result (λ checked. IsFoundOf format (view transcript.now)
+        play.now.stop play.now.notes.items play.now.world checked) }
 {
-    let play = play_events(alloc, setup, events)?;
     let verdict = KeptVerdict::on(alloc, &play.world)?;
     let outcome = match play.stop {
         Some(stop) => Outcome::EventRefused(stop.index),
@@ -163,6 +159,23 @@ fn compare_with_play(
         verdict,
         outcome,
     })
+}
+
+/// Plays a transcript's events on its setup, and holds the rest of it against the play.
+fn compare_with_play(
+    alloc: Global,
+    format: Format,
+    transcript: &Value,
+    setup: Setup,
+    events: Vec<Event>,
+) -> Result<Checked, PlanError>
+    requires few { length setup.proxies < 2 ^ 32 }
+    requires makeable { CanBeMade setup }
+    ensures checked { IfOk result (IsChecked format (view transcript.now) setup events.items) }
+    ensures refused { IfErr result (λ e. e ≡ OutOfMemory) }
+{
+    let play = play_events(alloc, setup, events)?;
+    Ok(checked_play(alloc, format, transcript, &play)?)
 }
 
 /// Plays a transcript's events on its setup, and holds the rest of it against the play. What is accepted is the transcript
@@ -203,7 +216,10 @@ fn check_outcome(value: &Value) -> Result<(), PlanError>
 }
 
 /// What a transcript says was played.
-fn played_parts(alloc: Global, value: &Value) -> Result<(Format, Setup, Vec<Event>), PlanError>
+pub(crate) fn played_parts(
+    alloc: Global,
+    value: &Value,
+) -> Result<(Format, Setup, Vec<Event>), PlanError>
     ensures played { IfOk result
         (λ parts. played_parts (view value.now) ≡ Ok (record { format = parts.0; setup = parts.1; events = parts.2.items })) }
     ensures playable { IfOk result (λ parts. IsPlayable parts.1) }

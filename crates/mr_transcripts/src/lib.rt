@@ -4,7 +4,9 @@
 mod check;
 mod least;
 mod play;
+mod seen;
 mod transcript;
 
 pub use check::{Checked, Outcome, check_transcript};
+pub use seen::{Seen, see_transcript};
 pub use transcript::write_transcript;

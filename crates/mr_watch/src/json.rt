@@ -269,18 +269,38 @@ fn spread_value(alloc: Global, spread: Option<Spread>) -> Result<Value, AllocErr
 fn look_value(alloc: Global, view: &View<'_>) -> Result<Value, AllocError>
     ensures { IfOk result (λ value. value_view value ≡ look_json view.now) }
 {
-    let next = next_value(alloc, next_of(&view.schedule, view.at))?;
-    let nodes = nodes_value(alloc, view.look.nodes)?;
-    let premises = premises_value(alloc, &view.findings)?;
-    let proxies = proxies_value(alloc, view.earlier, view.look.proxies)?;
-    let spread = spread_value(alloc, spread_of(view.look.proxies))?;
     let mut map = Map::new(alloc);
     put(&mut map, alloc, "at", Value::from(view.at))?;
-    put(&mut map, alloc, "next", next)?;
-    put(&mut map, alloc, "nodes", nodes)?;
-    put(&mut map, alloc, "premises", premises)?;
-    put(&mut map, alloc, "proxies", proxies)?;
-    put(&mut map, alloc, "spread", spread)?;
+    put(
+        &mut map,
+        alloc,
+        "next",
+        next_value(alloc, next_of(&view.schedule, view.at))?,
+    )?;
+    put(
+        &mut map,
+        alloc,
+        "nodes",
+        nodes_value(alloc, view.look.nodes)?,
+    )?;
+    put(
+        &mut map,
+        alloc,
+        "premises",
+        premises_value(alloc, &view.findings)?,
+    )?;
+    put(
+        &mut map,
+        alloc,
+        "proxies",
+        proxies_value(alloc, view.earlier, view.look.proxies)?,
+    )?;
+    put(
+        &mut map,
+        alloc,
+        "spread",
+        spread_value(alloc, spread_of(view.look.proxies))?,
+    )?;
     Ok(Value::Object(map))
 }
 

@@ -1,4 +1,4 @@
--- That words which plainly say a run, a check or an upgrade are read as it.
+-- That words which plainly say a run, a check, a drawing or an upgrade are read as it.
 use Rattle.std.proofs.Common.{◌≡◌, ◌∙◌, ap, ap₂, refl, sym, subst, List, [], ◌∷◌, Option, None, Some, false, codes}
 use Rattle.std.specs.Borrow.{Bor}
 use Rattle.clap.proofs.OnLiterals.{clap_on_literals}
@@ -10,7 +10,7 @@ use Rattle.clap.specs.Words.{Row, Text, fault_of, subcommand_of}
 use Rattle.mr_words.proofs.PlainWalk.{IsPlainWord, plain_word, word_step, no_word_left}
 use Rattle.mr_words.specs.Command.{file_app, program_app}
 use Rattle.mr_words.specs.Words.{HasFile, Say, SaysFile, path_in}
-use Rattle.mr_words.specs.declared.words.Wanted.TheVariants.{Run, Check, Upgrade}
+use Rattle.mr_words.specs.declared.words.Wanted.TheVariants.{Run, Check, Draw, Upgrade}
 
 -- what is held after the file's name
 abbrev held_file : Text → Held
@@ -96,6 +96,18 @@ check_found said None says = refl
 check_found said (Some file) says =
     ap (λ (w : Walk). Some (codes "check", finished (leaf (codes "check")).rules w.held)) (walk_is (codes "check") file (plain_word file says.1))
 
+draw_passed : (said : List Text) (file : Option Text) → SaysFile (codes "draw") said file → fault_of program_app (codes "draw" ∷ words_with file) ≡ []
+unfolding clap_on_literals
+draw_passed said None says = ap (λ (below : Kinds). or_else below []) (nothing_taken (codes "draw"))
+draw_passed said (Some file) says = ap (λ (below : Kinds). or_else below []) (file_taken (codes "draw") file (plain_word file says.1))
+
+draw_found : (said : List Text) (file : Option Text) → SaysFile (codes "draw") said file
+    → subcommand_of program_app (codes "draw" ∷ words_with file) ≡ Some (codes "draw", rows_with file)
+unfolding clap_on_literals
+draw_found said None says = refl
+draw_found said (Some file) says =
+    ap (λ (w : Walk). Some (codes "draw", finished (leaf (codes "draw")).rules w.held)) (walk_is (codes "draw") file (plain_word file says.1))
+
 upgrade_passed : (said : List Text) (file : Option Text) → SaysFile (codes "upgrade") said file
     → fault_of program_app (codes "upgrade" ∷ words_with file) ≡ []
 unfolding clap_on_literals
@@ -109,7 +121,7 @@ upgrade_found said None says = refl
 upgrade_found said (Some file) says =
     ap (λ (w : Walk). Some (codes "upgrade", finished (leaf (codes "upgrade")).rules w.held)) (walk_is (codes "upgrade") file (plain_word file says.1))
 
--- words that plainly say a run, a check or an upgrade say it to `clap`
+-- words that plainly say a run, a check, a drawing or an upgrade say it to `clap`
 pub run_said : (said : List Text) (file : Option (Bor Text)) → SaysFile (codes "run") said (path_in file) → Say said (Run file)
 run_said said file says =
     let named = file_named (codes "run") said (path_in file) says in
@@ -130,6 +142,18 @@ check_said said file says =
       finds = (
         rows_with (path_in file),
         subst (λ (w : List Text). subcommand_of program_app w ≡ Some (codes "check", rows_with (path_in file))) (sym named) (check_found said (path_in file) says),
+        rows_have (path_in file),
+      );
+    }
+
+pub draw_said : (said : List Text) (file : Option (Bor Text)) → SaysFile (codes "draw") said (path_in file) → Say said (Draw file)
+draw_said said file says =
+    let named = file_named (codes "draw") said (path_in file) says in
+    record {
+      fits = subst (λ (w : List Text). fault_of program_app w ≡ []) (sym named) (draw_passed said (path_in file) says);
+      finds = (
+        rows_with (path_in file),
+        subst (λ (w : List Text). subcommand_of program_app w ≡ Some (codes "draw", rows_with (path_in file))) (sym named) (draw_found said (path_in file) says),
         rows_have (path_in file),
       );
     }

@@ -9,7 +9,7 @@ use Rattle.clap.specs.declared.error.Error.{Error}
 use Rattle.clap.specs.declared.error.kind.ErrorKind.{ErrorKind}
 use Rattle.clap.specs.declared.error.kind.ErrorKind.TheVariants.{OutOfMemory, DisplayVersion}
 use Rattle.mr_words.proofs.PlainExplain.{explanation_said}
-use Rattle.mr_words.proofs.PlainFile.{check_said, run_said, upgrade_said}
+use Rattle.mr_words.proofs.PlainFile.{check_said, draw_said, run_said, upgrade_said}
 use Rattle.mr_words.proofs.PlainNode.{node_said}
 use Rattle.mr_words.proofs.PlainPlan.{file_plan_said}
 use Rattle.mr_words.proofs.PlainProxy.{proxy_said}
@@ -23,7 +23,7 @@ use Rattle.mr_words.specs.WordSteps.{GivesCommand, IsFaultOf}
 use Rattle.mr_words.specs.declared.plan_words.Planned.{Planned}
 use Rattle.mr_words.specs.declared.plan_words.Planned.TheVariants.{InFile, InWords}
 use Rattle.mr_words.specs.declared.words.Wanted.{Wanted}
-use Rattle.mr_words.specs.declared.words.Wanted.TheVariants.{Plan, Timeline, Run, Check, Upgrade, Node, Proxy, Watch, Explain}
+use Rattle.mr_words.specs.declared.words.Wanted.TheVariants.{Plan, Timeline, Run, Check, Draw, Upgrade, Node, Proxy, Watch, Explain}
 use Rattle.mr_words.specs.declared.words.WordsFault.{WordsFault}
 use Rattle.mr_words.specs.declared.words.WordsFault.TheVariants.{Wrong, Version, Readings, Memory}
 
@@ -34,14 +34,6 @@ simple = refl
 pub simple_and_free : is_simple_and_free program_app ≡ true
 unfolding clap_on_literals
 simple_and_free = refl
-
--- a refusal of memory says nothing of the words
-pub memory_refused : (words : List Text) (result : Result Wanted WordsFault) → IsErrAnd result (λ fault. fault ≡ Memory) → ReadsWords words result
-memory_refused words (Ok read) h = absurd h
-memory_refused words (Err (Wrong text)) h = cc
-memory_refused words (Err Version) h = cc
-memory_refused words (Err Readings) h = cc
-memory_refused words (Err Memory) h = tt
 
 no_kind : (kinds : Kinds) (error : Error) → kinds ≡ [] → HasKind kinds error → kind_of error ≡ OutOfMemory
 no_kind [] error e (inl memory) = memory
@@ -109,6 +101,7 @@ plainly_said words (Plan values) says = plan_said words values.planned values.at
 plainly_said words (Timeline values) says = timeline_said words values says.0 says.1 says.2
 plainly_said words (Run file) says = run_said words file says
 plainly_said words (Check file) says = check_said words file says
+plainly_said words (Draw file) says = draw_said words file says
 plainly_said words (Upgrade file) says = upgrade_said words file says
 plainly_said words (Node values) says = node_said words values says
 plainly_said words (Proxy values) says = proxy_said words values says

@@ -25,9 +25,9 @@ use Rattle.mr_node.specs.declared.error.NodeError.TheVariants as node
 use Rattle.mr_proxy.specs.ProxyError.{number_of_refusal as proxy_number}
 use Rattle.mr_proxy.specs.declared.error.ProxyError.{ProxyError}
 use Rattle.mr_proxy.specs.declared.error.ProxyError.TheVariants as proxy
-use Rattle.mr_world.specs.WorldError.{number_of_refusal as world_number}
-use Rattle.mr_world.specs.declared.error.WorldError.{WorldError}
-use Rattle.mr_world.specs.declared.error.WorldError.TheVariants as world
+use Rattle.mr_proxy.specs.WorldError.{number_of_refusal as world_number}
+use Rattle.mr_proxy.specs.declared.world_error.WorldError.{WorldError}
+use Rattle.mr_proxy.specs.declared.world_error.WorldError.TheVariants as world
 use Rattle.mr_desks.specs.declared.error.WorkerError.TheVariants as worker
 use Rattle.mr_configs.specs.PlanError.{number_of_refusal as plan_number}
 use Rattle.mr_configs.specs.declared.error.PlanError.{PlanError}

@@ -19,7 +19,7 @@ use Rattle.mr_pools.specs.declared.hash.NamedHash.TheVariants.{Sum, Fnv}
 use Rattle.mr_words.proofs.TableLemmas.{table_complete}
 use Rattle.mr_words.specs.Explain.{Told, explanation_of, told_by}
 use Rattle.mr_words.specs.declared.explain.Explanation.{Explanation}
-use Rattle.mr_words.specs.Words.{AgreesWith, AreLoopValues, AreNumberWords, AreReadings, FindsBadReadings, FindsCommand, Found, HasBadReadings, HasExplanation, HasLoopValues, HasNodeValues, HasOptions, HasPlan, HasPlanned, HasProxyValues, HasSixWords, HasTimeline, HasWatchValues, IsBoundOr, IsNumberIfGiven, IsNumberIn, IsNumberList, IsNumberOr, IsNumberWord, IsRoom, LacksOptions, LacksSixWords, SamePlanned, Say, SayBadReadings, SayVersion, readings_in, usual_loop_room, usual_room, without_end}
+use Rattle.mr_words.specs.Words.{AgreesWith, AreLoopValues, AreNumberWords, AreReadings, FindsBadReadings, FindsCommand, Found, HasBadReadings, HasExplanation, HasLoopValues, HasNodeValues, HasOptions, HasPlan, HasPlanned, HasProxyValues, HasSixWords, HasTimeline, HasWatchValues, IsBoundOr, IsNumberIfGiven, IsNumberIn, IsNumberList, IsNumberOr, IsNumberWord, IsRoom, LacksSixWords, SamePlanned, Say, SayBadReadings, SayVersion, readings_in, usual_loop_room, usual_room, without_end}
 use Rattle.mr_words.specs.declared.loop_words.LoopValues.{LoopValues}
 use Rattle.mr_words.specs.declared.service_words.NodeValues.{NodeValues}
 use Rattle.mr_words.specs.declared.service_words.ProxyValues.{ProxyValues}
@@ -30,7 +30,7 @@ use Rattle.mr_words.specs.declared.plan_words.Planned.{Planned}
 use Rattle.mr_words.specs.declared.plan_words.Planned.TheVariants.{InFile, InWords}
 use Rattle.mr_words.specs.declared.words.TimelineValues.{TimelineValues}
 use Rattle.mr_words.specs.declared.words.Wanted.{Wanted}
-use Rattle.mr_words.specs.declared.words.Wanted.TheVariants.{Plan, Timeline, Run, Check, Upgrade, Node, Proxy, Watch, Explain}
+use Rattle.mr_words.specs.declared.words.Wanted.TheVariants.{Plan, Timeline, Run, Check, Draw, Upgrade, Node, Proxy, Watch, Explain}
 
 row_of_subcommand : {Z : Type 0} (o : Option (Box SubCommand Z)) (name : List ℕ) (rows : List Row)
     → option_map (λ (b : Box SubCommand Z). (out-SubCommand (box_value b)).name.now) o ≡ Some name
@@ -217,6 +217,7 @@ name_of (Plan values) = codes "plan"
 name_of (Timeline values) = codes "timeline"
 name_of (Run file) = codes "run"
 name_of (Check file) = codes "check"
+name_of (Draw file) = codes "draw"
 name_of (Upgrade file) = codes "upgrade"
 name_of (Node values) = codes "node"
 name_of (Proxy values) = codes "proxy"
@@ -229,6 +230,7 @@ found_named found (Plan values) h = (h.0, h.1)
 found_named found (Timeline values) h = (h.0, h.1)
 found_named found (Run file) h = (h.0, h.1)
 found_named found (Check file) h = (h.0, h.1)
+found_named found (Draw file) h = (h.0, h.1)
 found_named found (Upgrade file) h = (h.0, h.1)
 found_named found (Node values) h = (h.0, h.1)
 found_named found (Proxy values) h = (h.0, h.1)
@@ -302,6 +304,7 @@ one_found found (Timeline read) (Timeline values) r p =
     )
 one_found found (Run read) (Run file) r p = sym r.2 ∙ (ap (first_of (codes "file")) (same_rows found _ r.0 p.0 r.1 p.1) ∙ p.2)
 one_found found (Check read) (Check file) r p = sym r.2 ∙ (ap (first_of (codes "file")) (same_rows found _ r.0 p.0 r.1 p.1) ∙ p.2)
+one_found found (Draw read) (Draw file) r p = sym r.2 ∙ (ap (first_of (codes "file")) (same_rows found _ r.0 p.0 r.1 p.1) ∙ p.2)
 one_found found (Upgrade read) (Upgrade file) r p = sym r.2 ∙ (ap (first_of (codes "file")) (same_rows found _ r.0 p.0 r.1 p.1) ∙ p.2)
 one_found found (Node read) (Node values) r p =
     let also : HasNodeValues r.0 values = subst (λ (rows : List Row). HasNodeValues rows values) (same_rows found _ p.0 r.0 p.1 r.1) p.2 in (
@@ -387,14 +390,6 @@ no_file_planned rows none lacks (InWords words) at has = let never : Some words.
 pub no_file_plan : (rows : List Row) → LacksSixWords rows → ((path : Text) (at : ℕ) → ¬ HasOptions rows path at) → (values : PlanValues)
     → ¬ HasPlan rows values
 no_file_plan rows none lacks values has = no_file_planned rows none lacks values.planned values.at has
-
--- nor where the first is there and an option is too
-no_planned_beside : (rows : List Row) → ¬ LacksSixWords rows → ¬ LacksOptions rows → (planned : Planned) (at : ℕ) → ¬ HasPlanned rows planned at
-no_planned_beside rows some lacks (InFile path) at has = some has.1
-no_planned_beside rows some lacks (InWords words) at has = lacks has.1
-
-pub no_plan_beside : (rows : List Row) → ¬ LacksSixWords rows → ¬ LacksOptions rows → (values : PlanValues) → ¬ HasPlan rows values
-no_plan_beside rows some lacks values has = no_planned_beside rows some lacks values.planned values.at has
 
 -- nor where the first is there and another one is missing
 no_said_planned : (rows : List Row) → ¬ LacksSixWords rows → ((words : MigrationWords) (at : ℕ) → ¬ HasSixWords rows words at) → (planned : Planned) (at : ℕ)

@@ -103,6 +103,10 @@ run_app = file_app (codes "run")
 abbrev pub check_app : App
 check_app = file_app (codes "check")
 
+-- the command `draw`
+abbrev pub draw_app : App
+draw_app = file_app (codes "draw")
+
 -- the command `upgrade`
 abbrev pub upgrade_app : App
 upgrade_app = file_app (codes "upgrade")
@@ -169,7 +173,8 @@ program_app =
     let with_timeline = with_subcommand with_plan timeline_app.top in
     let with_run = with_subcommand with_timeline run_app.top in
     let with_check = with_subcommand with_run check_app.top in
-    let with_upgrade = with_subcommand with_check upgrade_app.top in
+    let with_draw = with_subcommand with_check draw_app.top in
+    let with_upgrade = with_subcommand with_draw upgrade_app.top in
     let with_node = with_subcommand with_upgrade node_app.top in
     let with_proxy = with_subcommand with_node proxy_app.top in
     let with_watch = with_subcommand with_proxy watch_app.top in

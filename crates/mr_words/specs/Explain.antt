@@ -14,8 +14,8 @@ use Rattle.mr_node.specs.NodeError.{number_of_refusal as node_number}
 use Rattle.mr_node.specs.declared.error.NodeError.{NodeError}
 use Rattle.mr_proxy.specs.ProxyError.{number_of_refusal as proxy_number}
 use Rattle.mr_proxy.specs.declared.error.ProxyError.{ProxyError}
-use Rattle.mr_world.specs.WorldError.{number_of_refusal as world_number}
-use Rattle.mr_world.specs.declared.error.WorldError.{WorldError}
+use Rattle.mr_proxy.specs.WorldError.{number_of_refusal as world_number}
+use Rattle.mr_proxy.specs.declared.world_error.WorldError.{WorldError}
 use Rattle.mr_configs.specs.PlanError.{number_of_refusal as plan_number}
 use Rattle.mr_configs.specs.declared.error.PlanError.{PlanError}
 use Rattle.mr_words.specs.Lines.{text_fault_line, pool_fault_line, schedule_fault_line, node_fault_line, plan_fault_line}

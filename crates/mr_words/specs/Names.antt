@@ -12,8 +12,8 @@ use Rattle.mr_node.specs.declared.error.NodeError.{NodeError}
 use Rattle.mr_node.specs.declared.error.NodeError.TheVariants as node
 use Rattle.mr_proxy.specs.declared.error.ProxyError.{ProxyError}
 use Rattle.mr_proxy.specs.declared.error.ProxyError.TheVariants as proxy
-use Rattle.mr_world.specs.declared.error.WorldError.{WorldError}
-use Rattle.mr_world.specs.declared.error.WorldError.TheVariants as world
+use Rattle.mr_proxy.specs.declared.world_error.WorldError.{WorldError}
+use Rattle.mr_proxy.specs.declared.world_error.WorldError.TheVariants as world
 use Rattle.mr_desks.specs.DeskError.{number_of_desk_refusal}
 use Rattle.mr_desks.specs.WorkerError.{number_of_refusal as number_of_worker}
 use Rattle.mr_desks.specs.declared.desk_error.DeskError.TheVariants.{BookFull}

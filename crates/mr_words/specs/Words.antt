@@ -20,7 +20,7 @@ use Rattle.mr_words.specs.declared.service_words.ProxyValues.{ProxyValues}
 use Rattle.mr_words.specs.declared.watch_words.WatchValues.{WatchValues}
 use Rattle.mr_words.specs.declared.words.TimelineValues.{TimelineValues}
 use Rattle.mr_words.specs.declared.words.Wanted.{Wanted}
-use Rattle.mr_words.specs.declared.words.Wanted.TheVariants.{Plan, Timeline, Run, Check, Upgrade, Node, Proxy, Watch, Explain}
+use Rattle.mr_words.specs.declared.words.Wanted.TheVariants.{Plan, Timeline, Run, Check, Draw, Upgrade, Node, Proxy, Watch, Explain}
 use Rattle.mr_words.specs.declared.words.WordsFault.{WordsFault}
 use Rattle.mr_words.specs.declared.words.WordsFault.TheVariants.{Wrong, Version, Readings, Memory}
 
@@ -267,6 +267,7 @@ FindsCommand found (Plan values) = FindsRows (codes "plan") (λ rows. HasPlan ro
 FindsCommand found (Timeline values) = FindsRows (codes "timeline") (λ rows. HasTimeline rows values) found
 FindsCommand found (Run file) = FindsRows (codes "run") (λ rows. HasFile rows (path_in file)) found
 FindsCommand found (Check file) = FindsRows (codes "check") (λ rows. HasFile rows (path_in file)) found
+FindsCommand found (Draw file) = FindsRows (codes "draw") (λ rows. HasFile rows (path_in file)) found
 FindsCommand found (Upgrade file) = FindsRows (codes "upgrade") (λ rows. HasFile rows (path_in file)) found
 FindsCommand found (Node values) = FindsRows (codes "node") (λ rows. HasNodeValues rows values) found
 FindsCommand found (Proxy values) = FindsRows (codes "proxy") (λ rows. HasProxyValues rows values) found
@@ -468,6 +469,7 @@ SaysPlainly words (Timeline values) =
     (readings : Option Text) × SaysTimeline words values.config.now readings × AreReadings readings (readings_in values)
 SaysPlainly words (Run file) = SaysFile (codes "run") words (path_in file)
 SaysPlainly words (Check file) = SaysFile (codes "check") words (path_in file)
+SaysPlainly words (Draw file) = SaysFile (codes "draw") words (path_in file)
 SaysPlainly words (Upgrade file) = SaysFile (codes "upgrade") words (path_in file)
 SaysPlainly words (Node values) = SaysNodeAlone words values ⊎ SaysNode words values ⊎ SaysNodeForever words values
 SaysPlainly words (Proxy values) = SaysProxyAlone words values ⊎ SaysProxy words values ⊎ SaysProxyForever words values
@@ -496,6 +498,7 @@ AgreesWith (Plan values) (Plan read) = SamePlanned values.planned read.planned �
 AgreesWith (Timeline values) (Timeline read) = SameTimeline values read
 AgreesWith (Run file) (Run read) = path_in read ≡ path_in file
 AgreesWith (Check file) (Check read) = path_in read ≡ path_in file
+AgreesWith (Draw file) (Draw read) = path_in read ≡ path_in file
 AgreesWith (Upgrade file) (Upgrade read) = path_in read ≡ path_in file
 AgreesWith (Node values) (Node read) = (read.listen.now ≡ values.listen.now) × (read.capacity ≡ values.capacity)
     × (read.clients ≡ values.clients) × (read.turns ≡ values.turns) × (read.idle_timeout ≡ values.idle_timeout)

@@ -77,6 +77,15 @@ pub const CHECK_NOTES: &str = notes!(
     "migctl run examples/far-clocks.json | migctl check"
 );
 
+/// The notes of `draw`.
+pub const DRAW_NOTES: &str = notes!(
+    "The picture is one SVG, for a browser: each proxy and each node has a lane, each event a column, each request a bar, and\n\
+    each leg a line to its node. What 'check' prints stands above it; a transcript that isn't accepted is drawn too. Of\n\
+    more than 2,000 events the first 2,000 are drawn.\n\
+    Without a file the standard input is read to its end; with one it isn't read.",
+    "migctl draw examples/far-clocks.transcript.json >far-clocks.svg"
+);
+
 /// The notes of `upgrade`.
 pub const UPGRADE_NOTES: &str = notes!(
     "A script is one JSON object in format 1 or 2, at most 16,777,216 bytes; docs/FORMATS.md says all of it.\n\

@@ -1,14 +1,14 @@
 //! The words of the command line.
 ghost use Rattle.std.specs.Prelude.{◌≡◌, List, None, Some, false, map, IfOk, IsOkAnd, IfSome, IfNone, codes, option_map};
 ghost use Rattle.clap.specs.Words.{AddsSubcommand, Row, app_of, found_of, rows_of, rule_of, subcommand_name_of, subcommand_rows_of};
-ghost use Rattle.mr_words.specs.Command.{file_app, word_rule, timeline_app, run_app, check_app, upgrade_app, explain_app, program_app};
+ghost use Rattle.mr_words.specs.Command.{file_app, word_rule, timeline_app, run_app, check_app, draw_app, upgrade_app, explain_app, program_app};
 ghost use Rattle.mr_words.specs.Explain.{told_by};
 ghost use Rattle.mr_words.specs.Words.{AgreesWith, HasExplanation, ReadsWords, SaysPlainly, SaysVersion, ReadsAs, TellsVersion};
 ghost use Rattle.mr_words.specs.WordSteps.{IsFaultOf, GivesReadings, GivesTimeline, GivesCommand, SaysWhyNoProxy, neither_form, no_such_fault, why_no_node};
 
 use crate::explain::{Explanation, find_explanation};
 use crate::help::{
-    CHECK_NOTES, EXPLAIN_NOTES, PROGRAM_NOTES, RUN_NOTES, TIMELINE_NOTES, UPGRADE_NOTES,
+    CHECK_NOTES, DRAW_NOTES, EXPLAIN_NOTES, PROGRAM_NOTES, RUN_NOTES, TIMELINE_NOTES, UPGRADE_NOTES,
 };
 use crate::loop_words::{why_no_node, why_no_proxy};
 use crate::options::{config_option, option};
@@ -69,6 +69,8 @@ pub enum Wanted<'a> {
     Run(Option<&'a str>),
     /// What is found of the transcript in a file, or of the one on the input.
     Check(Option<&'a str>),
+    /// The picture of the transcript in a file, or of the one on the input.
+    Draw(Option<&'a str>),
     /// The script in a file, or the one on the input, in the newest format.
     Upgrade(Option<&'a str>),
     /// The service of a node.
@@ -91,6 +93,7 @@ impl<'a> Wanted<'a> {
             Wanted::Timeline(values) => Ok(Wanted::Timeline(values.copy()?)),
             Wanted::Run(file) => Ok(Wanted::Run(*file)),
             Wanted::Check(file) => Ok(Wanted::Check(*file)),
+            Wanted::Draw(file) => Ok(Wanted::Draw(*file)),
             Wanted::Upgrade(file) => Ok(Wanted::Upgrade(*file)),
             Wanted::Node(values) => Ok(Wanted::Node(*values)),
             Wanted::Proxy(values) => Ok(Wanted::Proxy(*values)),
@@ -190,6 +193,14 @@ fn check_command<'a>(alloc: Global) -> Result<Command<'a>, AllocError>
     file_command(alloc, "check", "transcript", about, CHECK_NOTES)
 }
 
+/// The command `draw`.
+fn draw_command<'a>(alloc: Global) -> Result<Command<'a>, AllocError>
+    ensures { IfOk result (λ command. app_of command ≡ draw_app) }
+{
+    let about = "Draws a transcript as an SVG";
+    file_command(alloc, "draw", "transcript", about, DRAW_NOTES)
+}
+
 /// The command `upgrade`.
 fn upgrade_command<'a>(alloc: Global) -> Result<Command<'a>, AllocError>
     ensures { IfOk result (λ command. app_of command ≡ upgrade_app) }
@@ -248,6 +259,7 @@ fn program<'a>(alloc: Global) -> Result<Command<'a>, AllocError>
     let program = with_command(program, timeline_command(alloc));
     let program = with_command(program, run_command(alloc));
     let program = with_command(program, check_command(alloc));
+    let program = with_command(program, draw_command(alloc));
     let program = with_command(program, upgrade_command(alloc));
     let program = with_command(program, node_command(alloc));
     let program = with_command(program, proxy_command(alloc));
@@ -320,6 +332,9 @@ fn wanted_of<'a>(alloc: Global, matches: &ArgMatches<'a>) -> Result<Option<Wante
     }
     if let Some(found) = matches.subcommand_matches("check") {
         return Ok(Some(Wanted::Check(found.get_str("file"))));
+    }
+    if let Some(found) = matches.subcommand_matches("draw") {
+        return Ok(Some(Wanted::Draw(found.get_str("file"))));
     }
     if let Some(found) = matches.subcommand_matches("upgrade") {
         return Ok(Some(Wanted::Upgrade(found.get_str("file"))));

@@ -233,73 +233,19 @@ w16 = returned w15 get_third c3 (Hit 0 block)
 s15 : WorldStep w15 (Return 4) (Answered (next_op c2)) w16
 s15 = does_return w15 4 4 get_third c3 (Hit 0 block) (record { gets = refl }) (record { gets = refl }) (record { gets = refl })
 
+abbrev later_events : List Event
+later_events = Client 2 early_set ∷ Deliver 3 1 ∷ Return 3 ∷ Client 2 later_get ∷ Deliver 4 1 ∷ Return 4 ∷ []
+
 abbrev events : List Event
 events =
     Client 0 early_set ∷ Deliver 0 1 ∷ Return 0 ∷ Client 1 later_delete ∷ Deliver 1 1 ∷ Deliver 2 1 ∷ Return 1 ∷ Return 2 ∷ Clock 0 21 ∷ Clock 2 25
-    ∷ Client 2 early_set ∷ Deliver 3 1 ∷ Return 3 ∷ Client 2 later_get ∷ Deliver 4 1 ∷ Return 4 ∷ []
+    ∷ later_events
+
+later_runs : WorldRun w10 later_events w16
+later_runs = (w11, _, s10, (w12, _, s11, (w13, _, s12, (w14, _, s13, (w15, _, s14, (w16, _, s15, refl))))))
 
 runs : WorldRun w0 events w16
-runs = (
-  w1,
-  _,
-  s0,
-  (
-    w2,
-    _,
-    s1,
-    (
-      w3,
-      _,
-      s2,
-      (
-        w4,
-        _,
-        s3,
-        (
-          w5,
-          _,
-          s4,
-          (
-            w6,
-            _,
-            s5,
-            (
-              w7,
-              _,
-              s6,
-              (
-                w8,
-                _,
-                s7,
-                (
-                  w9,
-                  _,
-                  s8,
-                  (
-                    w10,
-                    _,
-                    s9,
-                    (
-                      w11,
-                      _,
-                      s10,
-                      (
-                        w12,
-                        _,
-                        s11,
-                        (w13, _, s12, (w14, _, s13, (w15, _, s14, (w16, _, s15, refl)))),
-                      ),
-                    ),
-                  ),
-                ),
-              ),
-            ),
-          ),
-        ),
-      ),
-    ),
-  ),
-)
+runs = (w1, _, s0, (w2, _, s1, (w3, _, s2, (w4, _, s3, (w5, _, s4, (w6, _, s5, (w7, _, s6, (w8, _, s7, (w9, _, s8, (w10, _, s9, later_runs))))))))))
 
 -- the proxies have what they have
 each : (P : ProxySetup → Type 0) → ((reading : ℕ) → P (proxy_at reading)) → All P setup.proxies

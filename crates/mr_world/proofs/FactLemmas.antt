@@ -62,9 +62,6 @@ issued_left K issued = record { proxy = issued.proxy; there = at_left K issued.t
 told_left : {H : List Entry} {m : Message} (K : List Entry) → IsTold H m → IsTold (H ++ K) m
 told_left K t = record { request = t.request; place = t.place; issued = issued_left K t.issued; command = t.command }
 
-came_left : {S : List Message} {R : List Delivery} {m : Message} {r : LegReply} (T : List Message) (U : List Delivery) → CameBack S R m r → CameBack (S ++ T) (R ++ U) m r
-came_left T U c = record { number = c.number; from = c.from; came = at_left U c.came; was_sent = at_left T c.was_sent }
-
 came_replies : {S : List Message} {R : List Delivery} {m : Message} {r : LegReply} (U : List Delivery) → CameBack S R m r → CameBack S (R ++ U) m r
 came_replies U c = record { number = c.number; from = c.from; came = at_left U c.came; was_sent = c.was_sent }
 

@@ -77,13 +77,6 @@ has_head x xs = record { place = 0; there = record { gets = refl } }
 pub has_tail : {X : Type 0} (y : X) {xs : List X} {x : X} → Has xs x → Has (y ∷ xs) x
 has_tail y h = record { place = suc h.place; there = record { gets = h.there.gets } }
 
-get_cons : {X : Type 0} (y : X) (xs : List X) (i : ℕ) (x : X) → slice_get (y ∷ xs) i ≡ Some x → (x ≡ y) ⊎ Has xs x
-get_cons y xs zero x e = inl cc
-get_cons y xs (suc i) x e = inr (record { place = i; there = record { gets = e } })
-
-pub has_cons : {X : Type 0} (y : X) (xs : List X) {x : X} → Has (y ∷ xs) x → (x ≡ y) ⊎ Has xs x
-has_cons y xs {x = x} h = get_cons y xs h.place x h.there.gets
-
 pub has_none : {X : Type 0} {P : Type 0} {x : X} → Has [] x → P
 has_none {x = x} h = absurd (none-some x h.there.gets)
 

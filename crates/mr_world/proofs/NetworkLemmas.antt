@@ -31,8 +31,8 @@ use Rattle.mr_proxy.specs.Sound.{HasLegs}
 use Rattle.mr_proxy.specs.Sheets.{IsPlaced}
 use Rattle.mr_proxy.specs.ProxyView.{ProxyView, fresh_proxy}
 use Rattle.mr_proxy.specs.Sheets.{pool_at}
-use Rattle.mr_world.specs.declared.error.WorldError.{WorldError}
-use Rattle.mr_world.specs.declared.error.WorldError.TheVariants.{IssueRefused, OutOfMemory}
+use Rattle.mr_proxy.specs.declared.world_error.WorldError.{WorldError}
+use Rattle.mr_proxy.specs.declared.world_error.WorldError.TheVariants.{IssueRefused, OutOfMemory}
 use Rattle.mr_world.specs.declared.event.Event.TheVariants.{Client}
 use Rattle.mr_world.specs.declared.note.Note.{Note}
 use Rattle.mr_world.specs.declared.setup.HeldItem.{HeldItem}

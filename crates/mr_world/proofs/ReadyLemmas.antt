@@ -9,7 +9,7 @@ use Rattle.mr_proxy.specs.Issue.{after_issue}
 use Rattle.mr_proxy.specs.ProxyView.{ProxyView}
 use Rattle.mr_proxy.specs.Sound.ProxyStep.{takes, gives_up}
 use Rattle.mr_proxy.specs.Transitions.{after_take, after_give_up, after_restart}
-use Rattle.mr_world.specs.declared.error.WorldError.{WorldError}
+use Rattle.mr_proxy.specs.declared.world_error.WorldError.{WorldError}
 use Rattle.mr_world.specs.declared.event.Event.{Event}
 use Rattle.mr_world.specs.declared.event.Event.TheVariants.{Clock, Client, Deliver, Return, GiveUp, NodeRestart, ProxyRestart}
 use Rattle.mr_world.specs.declared.node.Node.{Node}
@@ -117,9 +117,6 @@ pub record HasRun (old : WorldView) (events : List Event) (index : ℕ) (rest : 
   pub all : events ≡ done ++ rest
   pub count : index ≡ length done
   pub run : WorldRun old done new
-
-pub not_run : (old : WorldView) (events : List Event) → HasRun old events 0 events old
-not_run old events = record { done = []; all = refl; count = refl; run = refl }
 
 run_more : (old : WorldView) (events : List Event) (event : Event) (note : Note) (middle new : WorldView) → WorldRun old events middle → WorldStep middle event note new
     → WorldRun old (events ++ event ∷ []) new

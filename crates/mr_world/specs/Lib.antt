@@ -1,4 +1,3 @@
-pub mod WorldError
 pub mod Lists
 pub mod Positions
 pub mod WorldView

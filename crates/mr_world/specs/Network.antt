@@ -3,7 +3,7 @@ use Rattle.std.specs.Prelude.{◌≡◌, ℕ, ◌<◌, List, [], length, slice_i
 use Rattle.mr_proxy.specs.declared.sheet.LegSheet.{LegSheet}
 use Rattle.mr_proxy.specs.Sheets.{pool_at}
 use Rattle.mr_world.specs.declared.message.Message.{Message}
-use Rattle.mr_world.specs.declared.error.WorldError.{WorldError}
+use Rattle.mr_proxy.specs.declared.world_error.WorldError.{WorldError}
 use Rattle.mr_world.specs.declared.event.Event.{Event}
 use Rattle.mr_world.specs.declared.note.Note.{Note}
 use Rattle.mr_world.specs.Facts.{IsFaithfulWorld}

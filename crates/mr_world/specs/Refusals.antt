@@ -10,8 +10,8 @@ use Rattle.mr_proxy.specs.Answer.{AnswerView}
 use Rattle.mr_proxy.specs.Issue.{refusal_of}
 use Rattle.mr_proxy.specs.ProxyView.{ProxyView}
 use Rattle.mr_proxy.specs.Transitions.{given_up_of}
-use Rattle.mr_world.specs.declared.error.WorldError.{WorldError}
-use Rattle.mr_world.specs.declared.error.WorldError.TheVariants.{NoSuchProxy, NoSuchNode, NoSuchMessage, IssueRefused, OutOfMemory, NoSuchOp}
+use Rattle.mr_proxy.specs.declared.world_error.WorldError.{WorldError}
+use Rattle.mr_proxy.specs.declared.world_error.WorldError.TheVariants.{NoSuchProxy, NoSuchNode, NoSuchMessage, IssueRefused, OutOfMemory, NoSuchOp}
 use Rattle.mr_world.specs.declared.event.Event.{Event}
 use Rattle.mr_world.specs.declared.event.Event.TheVariants.{Clock, Client, Deliver, Return, GiveUp, NodeRestart, ProxyRestart}
 use Rattle.mr_world.specs.Steps.{WorldRun}

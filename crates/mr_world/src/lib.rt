@@ -1,7 +1,6 @@
 //! A fleet of proxies with its nodes and its network, played event by event.
 #![tactic(auto)]
 
-mod error;
 mod event;
 pub mod headline;
 pub mod laws;
@@ -16,9 +15,9 @@ mod setup;
 mod terms;
 mod world;
 
-pub use error::WorldError;
 pub use event::Event;
 pub use message::{Delivery, Message};
+pub use mr_proxy::WorldError;
 pub use note::Note;
 pub use premises::Premises;
 pub use setup::{HeldItem, ProxySetup, Setup};

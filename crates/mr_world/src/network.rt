@@ -7,7 +7,6 @@ mod making;
 mod restarting;
 mod returning;
 
-use crate::error::WorldError;
 use crate::event::Event;
 use crate::message::{Delivery, Message};
 use crate::nodes::Nodes;
@@ -17,7 +16,7 @@ use crate::premises::Premises;
 use crate::terms::Terms;
 use mr_clock::Readings;
 use mr_history::{Entry, History};
-use mr_proxy::ProxyCore;
+use mr_proxy::{ProxyCore, WorldError};
 use std::marker::Model;
 
 /// The proxies and nodes of a fleet, and what was ever sent between them.

@@ -1,7 +1,6 @@
 //! A fleet that is played event by event.
 ghost use Rattle.std.specs.Prelude.{◌≡◌, ◌⊎◌, ◌^◌, ◌<◌, [], ◌∷◌, length, take, None, IfOk, IfErr, OnErr};
 
-use crate::error::WorldError;
 use crate::event::Event;
 use crate::laws::{
     runs_keep_secured, runs_show_facts, runs_tell_premises, secured_fleets_show_ground,
@@ -14,6 +13,7 @@ use crate::note::Note;
 use crate::premises::Premises;
 use crate::setup::Setup;
 use mr_history::History;
+use mr_proxy::WorldError;
 use std::alloc::Global;
 use std::marker::Model;
 

@@ -139,22 +139,31 @@ def far_services_are_asked_where_they_are():
 @case(waits=True)
 @far_away
 def a_service_listens_at_its_far_address_alone():
-    """A node and a proxy, and where they tell their metrics: nobody is there at the same ports of other addresses."""
+    """Nodes and proxies on loops and by threads, and where they tell their metrics: nobody is there at the same ports of other
+    addresses."""
     with Fleet() as fleet:
         place, telling = HOSTS[0], HOSTS[1]
         told = fleet.node("--metrics", far_place(fleet, telling), hosts=(place,))
-        proxy = fleet.proxy(fleet.config([told]), "--metrics", far_place(fleet, telling), hosts=(place,))
-        for service in (told, proxy):
+        config = fleet.config([told])
+        proxy = fleet.proxy(config, "--metrics", far_place(fleet, telling), hosts=(place,))
+        by_threads = (fleet.node_by_threads(hosts=(place,)), fleet.proxy_by_threads(config, hosts=(place,)))
+        for service in (told, proxy, *by_threads):
             service.ask(get_of("k") + delete_of("k"), MISS + NOT_FOUND)
+            expect_nobody_else_at(service, service.address)
+        for service in (told, proxy):
             check_true("it tells of itself", scraped(service.metrics)[("migctl_connections_total",)] >= 1)
-            for address in (service.address, service.metrics):
-                port = address.rsplit(":", 1)[1]
-                for host in ("127.0.0.1", HOSTS[5]):
-                    try:
-                        service.ask(get_of("k"), MISS, f"{host}:{port}")
-                    except ConnectionRefusedError:
-                        continue
-                    check(f"who listens at {host}:{port}", "nobody", "somebody")
+            expect_nobody_else_at(service, service.metrics)
+
+
+def expect_nobody_else_at(service, address):
+    """Who asks at the port of an address of a service, but at another host, finds nobody."""
+    port = address.rsplit(":", 1)[1]
+    for host in ("127.0.0.1", HOSTS[5]):
+        try:
+            service.ask(get_of("k"), MISS, f"{host}:{port}")
+        except ConnectionRefusedError:
+            continue
+        check(f"who listens at {host}:{port}", "nobody", "somebody")
 
 
 def far_place(fleet, host):

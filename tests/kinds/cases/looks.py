@@ -98,9 +98,10 @@ def the_true_distance_of_two_clocks_lies_between_least_and_most():
 
 @case(waits=True)
 def a_clock_that_is_off_by_seconds_is_shown_so():
-    """As text: of three services that are asked one behind another and take 0.7 seconds each."""
+    """As text: of eight services that are asked one behind another and take 0.7 seconds each, so that the watcher's clock goes on by
+    more than a rounding meanwhile."""
     with Fleet() as fleet:
-        offs = (0, 7, -7, 0)
+        offs = (0, 7, -7, 0, 70, -70, 7, 0)
         services = [fleet.keep(Reader(BEGIN, 500, off)) for off in offs]
         lines = looked(fleet, *(it.address for it in services), words=("--once",)).decode().splitlines()
         if any("unreached" in line for line in lines):

@@ -20,8 +20,9 @@ from wanted import Wrong, check, check_true
 
 IDLE = 2  # seconds that a client may be silent
 LONGER = 4  # the same where it moves each half of them
-SWEEP = 1  # seconds from one look at silent clients to the next
 BLOCK = bytes(range(97, 123)) * 400
+PARTS = 3  # of a bound, after which who takes nothing is ended: the last few writes may find a little room each
+FILLING = 2  # seconds until as many answers are sent to who reads nothing as there is room for
 PORTION = 600_000  # bytes that who reads slowly reads at a time: so many that the system has room for more
 SCRAPE = 5  # seconds that a scraper has for all
 ASKING = 1  # seconds that a watch has for each service
@@ -48,10 +49,15 @@ def is_open(client):
         return False
 
 
+def part(bound):
+    """After how many seconds of a bound it is looked at the latest whether a client moved something."""
+    return min(bound / 8, 1)
+
+
 def wait_for_end(client, begun, bound, what):
     """The other side ends the connection once a bound is over, as it is looked for."""
     wait_until(f"the end of {what}", lambda: not is_open(client), bound + 15)
-    check_took(f"the end of {what}", begun, bound, bound + SWEEP)
+    check_took(f"the end of {what}", begun, bound, bound + part(bound))
 
 
 def look_at_silence(service, bound):
@@ -115,9 +121,8 @@ def read_on(service):
             got, want = got + len(came), want - len(came)
     read = time.monotonic()
     wait_until(f"the end of who reads nothing at {service.name()}", lambda: service.open_files() < before, LONGER + 15)
-    # by threads each of the last few writes has the bound that finds a little room
-    most = LONGER + SWEEP if service.loops else 4 * LONGER
-    check_took(f"the end of who reads nothing at {service.name()}", begun, LONGER, read - begun + most)
+    # the system tells a service of room once there is much: what it saw last of its client may be the portion before
+    check_took(f"the end of who reads nothing at {service.name()}", begun, LONGER / 2, read - begun + LONGER + PARTS * part(LONGER))
 
 
 @case(waits=True)
@@ -129,6 +134,29 @@ def traffic_in_one_direction_alone_is_no_silence():
             *(lambda it=it: send_on(it) for it in in_each_form(fleet, *words)),
             *(lambda it=it: read_on(it) for it in in_each_form(fleet, *words)),
         )
+
+
+def read_nothing(service, bound):
+    """A client asks for much and reads nothing: it is ended after the bound."""
+    client = service.client(little_room=True)
+    client.ask(set_of("k", BLOCK), STORED)
+    before = service.open_files()
+    begun = time.monotonic()
+    client.send(get_of("k") * (5 * MIB // len(BLOCK)))
+    what = f"the end of who reads nothing at {service.name()}"
+    wait_until(what, lambda: service.open_files() < before, 4 * bound + 15)
+    check_took(what, begun, bound, bound + FILLING + PARTS * part(bound))
+
+
+@case(waits=True)
+def who_reads_nothing_is_ended_after_its_time_and_not_before():
+    """Of two seconds and of eight, of services on loops and by threads."""
+    with Fleet() as fleet:
+        in_threads(*(
+            lambda it=it, bound=bound: read_nothing(it, bound)
+            for bound in (IDLE, 8)
+            for it in in_each_form(fleet, "--idle-timeout", str(bound))
+        ))
 
 
 @case(waits=True)

@@ -229,20 +229,13 @@ class Chain:
         wait_for(self.proxy.metrics, ("migctl_proxy_clients_wait",), 0)
 
     def play_clock_fault(self):
-        """A clock that gives no reading: a client who asks is told so, which counts, or is ended. The clock isn't told then."""
+        """A clock that gives no reading: a client who asks is told so, unless it wants no answer, and goes on; all of them count. The
+        clock isn't told then."""
+        key = self.key("absent")
         self.clock.fail()
-        for request in (get_of(self.key("absent")), set_of(self.key("absent"), "v"), delete_of(self.key("absent"))):
-            client = self.proxy.client()
-            self.came += 1
-            client.send(request)
-            came, _ = client.piece(len(NO_CLOCK), 10)
-            if came:
-                check("the answer without a clock", NO_CLOCK, came)
-                self.answers["clock fault"] += 1
-                client.quit()
-        self.clock.move(self.ahead)
-        wait_for(self.proxy.metrics, ("migctl_open_connections",), 2)
-        self.clock.fail()
+        for request in (get_of(key), set_of(key, "v"), delete_of(key), set_of(key, "v", noreply=True) + get_of(key, key)):
+            self.client().ask(request, NO_CLOCK)
+        self.answers["clock fault"] += 5
         self.compare({("migctl_clock_seconds",): None})
         self.clock.move(self.ahead)
 

@@ -89,6 +89,34 @@ def eleven_hundred_connections_are_served_one_after_another():
                     client.quit()
 
 
+NO_CLOCK = b"SERVER_ERROR clock fault\r\n"
+
+
+@case
+def who_asks_while_the_clock_gives_no_reading_is_told_so():
+    """Each request is, unless it wants no answer, and nothing is done for it; the connection goes on, and so does the service. What
+    isn't whole by then is asked once the clock reads again."""
+    with Fleet() as fleet:
+        clock = fleet.clock()
+        for service in both(fleet, clock=clock):
+            clock.move(0)
+            client, half, last = service.clients(3)
+            client.ask(set_of("k", "v"), STORED)
+            half.send(set_of("half", "0123456789")[:20])
+            wait_until_read(half.socket)
+            clock.fail()
+            refused = get_of("k", "l") + set_of("k", "w") + delete_of("k") + get_of("k")
+            silent = set_of("k", "x", noreply=True) + delete_of("k", noreply=True)
+            client.ask(silent + refused + b"hello\r\n" + silent + delete_of("k"), NO_CLOCK * 4 + ERROR + NO_CLOCK)
+            last.send(get_of("k"))
+            last.stop_sending()
+            last.expect(NO_CLOCK)
+            last.expect_end()
+            clock.move(0)
+            half.ask(set_of("half", "0123456789")[20:] + get_of("half"), STORED + hits(("half", "0123456789")))
+            client.ask(get_of("k"), hits(("k", "v")))
+
+
 @case
 def clients_do_not_wait_for_one_another():
     """Clients that are connected at once are all served at once, in any order."""

@@ -199,9 +199,9 @@ def each_look_is_an_object():
         nodes = [(it["pool"], it["name"], it["items"]) for it in looks[-1]["nodes"]]
         check("the nodes", [(0, watched.old.service.address, 1), (1, watched.new.service.address, 0)], nodes)
         check("hits of nodes", [3, 0], [it["hits"] for it in looks[-1]["nodes"]])
-        # Both are the machine's. They say whole seconds, at moments that are two seconds apart at most, and mostly much less.
+        # Both are the machine's. They say whole seconds, so that what is known of them is two seconds wide, and what asking takes.
         most = [it["spread"]["at_most"] for it in looks]
-        check_true(f"that {most} are near", max(most) < 4000 and min(most[1:]) < 1900)
+        check_true(f"that {most} are near", 0 < min(most) and max(most) < 4000)
         check("how far clocks are apart at least", [0] * len(looks), [it["spread"]["at_least"] for it in looks])
         rates = [it["proxies"][0]["requests_per_second"] for it in looks]
         check("requests a second before there are two looks", None, rates[0])

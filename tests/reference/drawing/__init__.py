@@ -23,12 +23,17 @@ class Drawn(NamedTuple):
 
 
 def draw(seed, index):
-    return of_some_kind(Source(f"{seed} {index}"), "drawn")
+    return pictured(of_some_kind(Source(f"{seed} {index}"), "drawn"))
 
 
 def draw_chain(seed, index):
     """A case of which the configurations have several hops."""
-    return of_some_kind(ChainSource(f"{seed} chain {index}"), "chain")
+    return pictured(of_some_kind(ChainSource(f"{seed} chain {index}"), "chain"))
+
+
+def pictured(drawn):
+    """A case of which the transcript, if it is a run, is made a picture."""
+    return drawn._replace(then=("draw",)) if drawn.words[0] == "run" else drawn
 
 
 def draw_second(seed, index):
@@ -57,10 +62,10 @@ def next_of(drawn, written):
 
 
 def altered_transcript(seed, index):
-    """A check of a transcript that is changed in one place."""
+    """A check or a picture of a transcript that is changed in one place."""
     source = Source(f"{seed} altered transcript {index}")
     name, data, _ = changed_texts.altered(source, changed_texts.transcripts(seed), index)
-    return Drawn(name, *given(source, "check", data))
+    return Drawn(name, *given(source, source.choice(("check", "check", "draw")), data))
 
 
 def altered_config(seed, index):

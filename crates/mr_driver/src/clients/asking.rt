@@ -55,8 +55,7 @@ impl Clients {
         self.make_told(place);
     }
 
-    /// Bytes of a client, or none where it goes on with what it sent before. One for whom there is no reading of the clock or no
-    /// memory is there no more.
+    /// Bytes of a client, or none where it goes on with what it sent before. One for whom there is no memory is there no more.
     pub(super) fn ask<R: Net + Clock, E: Hears, M: Machine>(
         &mut self,
         engine: &mut Engine<'_, R, E, M>,
@@ -65,20 +64,18 @@ impl Clients {
     ) {
         let held_before = engine.machine.held_back();
         let reading = engine.reading();
-        match reading {
-            Some(reading) if place < engine.machine.places() => {
-                let asked = engine
-                    .machine
-                    .on_client_bytes(place, reading, engine.now, bytes);
-                match asked {
-                    Ok(pause) => self.stand(engine, place, pause, held_before),
-                    Err(_) => {
-                        engine.hear(LoopEvent::NoMemory);
-                        self.drop_client(&mut engine.machine, place);
-                    }
-                }
+        if place >= engine.machine.places() {
+            return self.drop_client(&mut engine.machine, place);
+        }
+        let asked = engine
+            .machine
+            .on_client_bytes(place, reading, engine.now, bytes);
+        match asked {
+            Ok(pause) => self.stand(engine, place, pause, held_before),
+            Err(_) => {
+                engine.hear(LoopEvent::NoMemory);
+                self.drop_client(&mut engine.machine, place);
             }
-            _ => self.drop_client(&mut engine.machine, place),
         }
     }
 
@@ -90,13 +87,11 @@ impl Clients {
     ) {
         let held_before = engine.machine.held_back();
         let reading = engine.reading();
-        match reading {
-            Some(reading) if place < engine.machine.places() => {
-                let pause = engine.machine.on_client_ended(place, reading, engine.now);
-                self.stand(engine, place, pause, held_before);
-            }
-            _ => self.drop_client(&mut engine.machine, place),
+        if place >= engine.machine.places() {
+            return self.drop_client(&mut engine.machine, place);
         }
+        let pause = engine.machine.on_client_ended(place, reading, engine.now);
+        self.stand(engine, place, pause, held_before);
     }
 
     /// Reads a share of what a client sent.

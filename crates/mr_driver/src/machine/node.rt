@@ -58,7 +58,7 @@ impl<C: Cache + Drop + Send> Machine for NodeLoop<C> {
     fn on_client_bytes(
         &mut self,
         place: usize,
-        reading: u64,
+        reading: Option<u64>,
         _now: u64,
         bytes: &[u8],
     ) -> Result<Pause, AllocError>
@@ -66,17 +66,24 @@ impl<C: Cache + Drop + Send> Machine for NodeLoop<C> {
         ensures served { IfOk result (λ pause. BytesServed C.does place reading bytes.now self.old pause self.new) }
         ensures unchanged { OnErr result (self.new ≡ self.old) }
     {
-        match NodeLoop::on_client_bytes(self, place, reading, bytes) {
+        let served = match reading {
+            Some(reading) => NodeLoop::on_client_bytes(self, place, reading, bytes),
+            None => self.deny_client_bytes(place, bytes),
+        };
+        match served {
             Ok(pause) => Ok(pause_of(pause)),
             Err(error) => Err(error),
         }
     }
 
-    fn on_client_ended(&mut self, place: usize, reading: u64, _now: u64) -> Pause
+    fn on_client_ended(&mut self, place: usize, reading: Option<u64>, _now: u64) -> Pause
         requires { place < length self.old.clients }
         ensures { EndServed C.does place reading self.old result self.new }
     {
-        pause_of(NodeLoop::on_client_ended(self, place, reading))
+        pause_of(match reading {
+            Some(reading) => NodeLoop::on_client_ended(self, place, reading),
+            None => self.deny_client_ended(place),
+        })
     }
 
     /// Its answers are put there as they come: nothing is left but what there was no memory for, which is tried again with the next

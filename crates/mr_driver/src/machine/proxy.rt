@@ -1,7 +1,7 @@
 //! A proxy's loop as a machine that is driven.
 ghost use Rattle.std.specs.Prelude.{◌≡◌, ◌<◌, ◌≤◌, ◌&&◌, length, slice_get, IfOk, OnOk, OnErr};
-ghost use Rattle.mr_loop.specs.LoopView.{ClientBytes, ClientEnds, ClientRead, IsAsked, after_coming, after_leaving, asker_of, client_flushed, is_done_in, is_idle_in, is_waiting_in, output_in, with_place};
-ghost use Rattle.mr_driver.specs.Machines.{has_room_in};
+ghost use Rattle.mr_loop.specs.LoopView.{ClientRead, IsAsked, after_coming, after_leaving, client_flushed, is_done_in, is_idle_in, is_waiting_in, output_in, with_place};
+ghost use Rattle.mr_driver.specs.Machines.{BytesAsked, EndAsked, has_room_in};
 ghost use Rattle.mr_driver.specs.Reports.{TellsOf};
 
 use crate::links::Links;
@@ -48,23 +48,28 @@ impl Machine for ProxyLoop {
     fn on_client_bytes(
         &mut self,
         place: usize,
-        reading: u64,
+        reading: Option<u64>,
         now: u64,
         bytes: &[u8],
     ) -> Result<Pause, AllocError>
         requires { place < length self.old.front.clients }
-        ensures asked { IfOk result
-            (λ pause. ClientBytes (asker_of self.old place reading now) bytes.now self.old pause self.new) }
+        ensures asked { IfOk result (λ pause. BytesAsked place reading now bytes.now self.old pause self.new) }
         ensures unchanged { OnErr result (self.new ≡ self.old) }
     {
-        ProxyLoop::on_client_bytes(self, place, reading, now, bytes)
+        match reading {
+            Some(reading) => ProxyLoop::on_client_bytes(self, place, reading, now, bytes),
+            None => self.deny_client_bytes(place, bytes),
+        }
     }
 
-    fn on_client_ended(&mut self, place: usize, reading: u64, now: u64) -> Pause
+    fn on_client_ended(&mut self, place: usize, reading: Option<u64>, now: u64) -> Pause
         requires { place < length self.old.front.clients }
-        ensures { ClientEnds (asker_of self.old place reading now) self.old result self.new }
+        ensures { EndAsked place reading now self.old result self.new }
     {
-        ProxyLoop::on_client_ended(self, place, reading, now)
+        match reading {
+            Some(reading) => ProxyLoop::on_client_ended(self, place, reading, now),
+            None => self.deny_client_ended(place),
+        }
     }
 
     fn flush(&mut self, place: usize) -> Result<(), AllocError>

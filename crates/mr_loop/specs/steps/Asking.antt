@@ -16,7 +16,7 @@ use Rattle.mr_proxy.specs.declared.step.Step.TheVariants.{Issue, GiveUp}
 use Rattle.mr_loop.specs.declared.asker.Asker.{Asker}
 use Rattle.mr_loop.specs.declared.asking.Pause.{Pause}
 use Rattle.mr_loop.specs.declared.asking.Pause.TheVariants.{NeedsRoom, NeedsQueue, NeedsMemory}
-use Rattle.mr_loop.specs.declared.counts.ClientCounts.{ClientCounts}
+use Rattle.mr_counting.specs.declared.client_counts.ClientCounts.{ClientCounts}
 use Rattle.mr_loop.specs.declared.front.Begun.{Begun}
 use Rattle.mr_loop.specs.declared.front.Begun.TheVariants.{Issued, Told, Later}
 use Rattle.mr_loop.specs.declared.inbox.Inbox.{Inbox}

@@ -1,7 +1,7 @@
 //! What a node's loop counts, each count since the loop began and as far as 64 bits go.
 ghost use Rattle.std.specs.Prelude.{◌≡◌};
 ghost use Rattle.mr_counting.specs.Counting.{one_more};
-ghost use Rattle.mr_loop.specs.node.Counts.{nothing_served, keys_asked, reply_counted};
+ghost use Rattle.mr_loop.specs.node.Counts.{keys_asked, reply_counted};
 
 use mr_counting::{one_more, sum_of};
 use mr_text::{Reply, Request};
@@ -29,20 +29,16 @@ pub struct ServedCounts {
 
 impl ServedCounts {
     /// Nothing yet.
-    pub(crate) fn new() -> ServedCounts
-        ensures { result ≡ nothing_served }
-    {
-        ServedCounts {
-            came: 0,
-            left: 0,
-            hits: 0,
-            misses: 0,
-            stored: 0,
-            deleted: 0,
-            not_found: 0,
-            failed: 0,
-        }
-    }
+    pub const NONE: ServedCounts = ServedCounts {
+        came: 0,
+        left: 0,
+        hits: 0,
+        misses: 0,
+        stored: 0,
+        deleted: 0,
+        not_found: 0,
+        failed: 0,
+    };
 
     /// A client came.
     pub(crate) fn add_coming(&mut self)

@@ -1,11 +1,12 @@
 //! The loop of a node: what each thing that happens does to the cache and to the clients.
 ghost use Rattle.std.specs.Prelude.{◌≡◌, ◌<◌, ◌≤◌, length, slice_get, IfOk, OnOk, OnErr, MatchResult};
-ghost use Rattle.mr_loop.specs.node.Cache.{Does};
+ghost use Rattle.mr_loop.specs.node.Cache.{Does, clock_fails};
 ghost use Rattle.mr_loop.specs.node.NodeView.{NodeBytes, NodeEnds, NodeWrote, fresh_node, with_node_place, after_node_coming, after_node_leaving, out_in, is_finished_in, is_waiting_in};
 
 use crate::node::cache::Cache;
 use crate::node::client::NodeClient;
 use crate::node::counts::ServedCounts;
+use crate::node::no_reading::NoReading;
 use crate::node::serving::{NodePause, serve_on};
 use mr_text::FixedBuffer;
 use std::alloc::{AllocError, Global};
@@ -46,7 +47,7 @@ impl<C: Cache> NodeLoop<C> {
                 cache,
                 clients: Vec::new(alloc),
                 most_unread,
-                counts: ServedCounts::new(),
+                counts: ServedCounts::NONE,
                 buffer,
             }),
             Err(_) => Err(cache),
@@ -144,6 +145,52 @@ impl<C: Cache> NodeLoop<C> {
             &mut self.buffer,
             self.most_unread,
             reading,
+        )
+    }
+
+    /// Bytes of a client came while the clock gives no reading. The cache is asked nothing: each request that is whole comes to a
+    /// fault of the clock, as far as its client may be told; the rest is kept, and the answer says what it needs, as that of
+    /// `on_client_bytes` does. For want of memory for the bytes nothing changes.
+    pub fn deny_client_bytes(
+        &mut self,
+        client: usize,
+        piece: &[u8],
+    ) -> Result<NodePause, AllocError>
+        requires { client < length self.old.clients }
+        ensures denied { IfOk result (λ pause. NodeBytes clock_fails client 0 piece.now self.old pause self.new) }
+        ensures unchanged { OnErr result (self.new ≡ self.old) }
+    {
+        let asking = &mut self.clients[client];
+        match asking.inbox.feed(piece) {
+            Ok(()) => Ok(serve_on(
+                self.alloc,
+                &mut NoReading,
+                asking,
+                &mut self.counts,
+                &mut self.buffer,
+                self.most_unread,
+                0,
+            )),
+            Err(error) => Err(error),
+        }
+    }
+
+    /// A client sends no more, while the clock gives no reading. What is whole of what it sent comes to that, as by
+    /// `deny_client_bytes`.
+    pub fn deny_client_ended(&mut self, client: usize) -> NodePause
+        requires { client < length self.old.clients }
+        ensures { NodeEnds clock_fails client 0 self.old result self.new }
+    {
+        let asking = &mut self.clients[client];
+        asking.inbox.end();
+        serve_on(
+            self.alloc,
+            &mut NoReading,
+            asking,
+            &mut self.counts,
+            &mut self.buffer,
+            self.most_unread,
+            0,
         )
     }
 

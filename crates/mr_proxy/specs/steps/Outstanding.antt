@@ -1,13 +1,11 @@
 -- The requests under way, and how a map by name beside their numbers in order of issue stands for the list of them.
-use Rattle.std.specs.Prelude.{◌≡◌, ℕ, ◌<◌, ◌==◌, ◌&&◌, Bool, true, List, [], ◌∷◌, ◌++◌, Option, Some, None, IsSome, option_to_list, slice_set, remove, if◌then◌else◌}
+use Rattle.std.specs.Prelude.{◌≡◌, ℕ, ◌<◌, ◌==◌, ◌&&◌, Bool, true, List, [], ◌∷◌, ◌++◌, Option, Some, None, IsSome, Result, Ok, Err, option_to_list, slice_set, remove, if◌then◌else◌}
 use Rattle.std.specs.Option.{option_and_then}
 use Rattle.std.specs.List.{AllByRecursion, list_any}
 use Rattle.mr_history.specs.OpIds.{is_same_op}
 use Rattle.mr_history.specs.declared.op_id.OpId.{OpId}
 use Rattle.mr_join.specs.declared.leg_reply.LegReply.{LegReply}
 use Rattle.mr_proxy.specs.declared.sheet.LegId.{LegId}
-use Rattle.mr_proxy.specs.declared.outstanding.Settled.{Settled}
-use Rattle.mr_proxy.specs.declared.outstanding.Settled.TheVariants.{Stranger, Waiting, Last}
 use Rattle.mr_proxy.specs.Pending.{PendingView, is_complete, with_reply}
 use Rattle.mr_proxy.specs.Transitions.{place_of_op, pending_with}
 
@@ -72,7 +70,7 @@ settled_at list place (Some pending) = if is_complete pending then remove list p
 abbrev pub list_settled : List PendingView → LegId → LegReply → List PendingView
 list_settled list id reply = settled_at list (place_of_op list id.op) (noted_in list id reply)
 
--- by the request with the reply noted, none where no leg awaits it
-abbrev pub settled_as : LegReply → Option PendingView → Settled
-settled_as reply None = Stranger reply
-settled_as reply (Some pending) = if is_complete pending then Last pending else Waiting
+-- the request with the reply noted, once it is complete; the reply comes back where no leg awaits it
+abbrev pub settled_as : LegReply → Option PendingView → Result (Option PendingView) LegReply
+settled_as reply None = Err reply
+settled_as reply (Some pending) = if is_complete pending then Ok (Some pending) else Ok None

@@ -1,22 +1,15 @@
 -- Where the legs of a request go, by which its own answer is known.
 use Rattle.std.specs.Prelude.{◌≡◌, ℕ, ◌≤◌, List, length, map, Some, slice_get}
 use Rattle.mr_text.specs.declared.request.Request.{Request}
-use Rattle.mr_text.specs.declared.request.Request.TheVariants as request
 use Rattle.mr_history.specs.declared.op_id.OpId.{OpId}
 use Rattle.mr_proxy.specs.Answer.{AnswerView}
+use Rattle.mr_proxy.specs.Sheets.{legs_of}
 use Rattle.mr_proxy.specs.Sound.{sheet_of}
 use Rattle.mr_proxy.specs.Whole.{IsCommandAt}
 use Rattle.mr_proxy.specs.declared.sheet.LegSheet.{LegSheet}
 use Rattle.mr_proxy.specs.declared.slot.Slot.{Slot}
 use Rattle.mr_sessions.specs.declared.destinations.Destination.{Destination}
 use Rattle.mr_sessions.specs.Own.{IssuedView}
-
--- the most legs that a request may have: a get has one for each key, a set has one, and a delete one for each side
-abbrev pub most_legs : Request → ℕ
-most_legs (request.Get keys) = length keys
-most_legs (request.Set key flags exptime block noreply) = 1
-most_legs (request.Delete key noreply) = 2
-most_legs request.Quit = 0
 
 -- the node that a leg goes to
 abbrev pub destination_of : LegSheet → Destination
@@ -36,8 +29,8 @@ pub record IsLegOf (issued : IssuedView) (place : ℕ) (sheet : LegSheet) : Type
   pub named : sheet.id ≡ record { op = issued.op; place = place }
   pub told : IsCommandAt issued.request place sheet.command
 
--- it has a leg, no more than it may have, and each is that of its place
+-- it has a leg, no more than it may have, a delete going to two sides at most, and each is that of its place
 pub record HasItsLegs (issued : IssuedView) : Type 0 where
   pub some : 1 ≤ length issued.legs
-  pub few : length issued.legs ≤ most_legs issued.request
+  pub few : length issued.legs ≤ legs_of issued.request 2
   pub each : (place : ℕ) (sheet : LegSheet) → slice_get issued.legs place ≡ Some sheet → IsLegOf issued place sheet

@@ -1,6 +1,7 @@
 //! Fleets of two proxies over five caches. The new pool is 7101, 7102 and 7103. So `k` is kept by 7002 and 7103, `a` by 7002
 //! and 7102, and `b` by 7001 and 7103.
 mod at_once;
+mod clocks;
 mod many;
 mod memory;
 mod phases;

@@ -177,7 +177,7 @@ static OF_A_NODE: Row = Row {
     happening: Happening::Listens { loops: 2 },
     more: 0,
     at: None,
-    text: "- listens at 127.0.0.1:11211, loops 2, version 0.12.0",
+    text: "- listens at 127.0.0.1:11211, loops 2, version 0.13.0",
 };
 
 /// The pools of 7001 and 7002, and of 7101 to 7103.
@@ -208,7 +208,7 @@ fn service(pools: &[Pool]) -> Service<'_> {
 #[test]
 fn a_node_has_no_configuration(rt: HostRuntime) {
     let node = Service {
-        version: "0.12.0",
+        version: "0.13.0",
         address: "127.0.0.1:11211",
         config: None,
         pools: &[],

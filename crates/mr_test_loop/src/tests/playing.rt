@@ -19,6 +19,10 @@ pub(super) enum Step {
     Sends(usize, &'static [u8], Pause),
     /// A client sends no more; why no more of what it sent is begun.
     Ends(usize, Pause),
+    /// A client sends this while the clock gives no reading; why it isn't told of more of it.
+    SendsUnread(usize, &'static [u8], Pause),
+    /// A client sends no more while the clock gives no reading; why it isn't told of more of what it sent.
+    EndsUnread(usize, Pause),
     /// What is there for a client's first requests stands to be told it.
     Flushes(usize),
     /// A client is told this, and reads it.
@@ -66,6 +70,20 @@ fn ends(rt: &impl Abort, run: &mut Run, client: usize) -> Pause {
         rt.panic("no such place");
     }
     run.proxy.on_client_ended(client, run.reading, run.now)
+}
+
+fn sends_unread(rt: &impl Abort, proxy: &mut ProxyLoop, client: usize, piece: &[u8]) -> Pause {
+    if client >= proxy.places() {
+        rt.panic("no such place");
+    }
+    must(rt, proxy.deny_client_bytes(client, piece))
+}
+
+fn ends_unread(rt: &impl Abort, proxy: &mut ProxyLoop, client: usize) -> Pause {
+    if client >= proxy.places() {
+        rt.panic("no such place");
+    }
+    proxy.deny_client_ended(client)
 }
 
 fn comes(rt: &impl Abort, proxy: &mut ProxyLoop, client: usize) {
@@ -183,6 +201,24 @@ fn take_of_link(rt: &impl Abort, row: usize, run: &mut Run, step: Step) {
         Step::Ticks => run.proxy.on_tick(run.now),
         Step::Touched(client) => is(rt, row, run.proxy.next_touched(), client),
         Step::HeldBack(count) => number_is(rt, row, run.proxy.client_counts().held_back, count),
+        step => take_unread(rt, row, run, step),
+    }
+}
+
+/// The same of what a client sends while the clock gives no reading.
+fn take_unread(rt: &impl Abort, row: usize, run: &mut Run, step: Step) {
+    match step {
+        Step::SendsUnread(client, piece, pause) => {
+            is(
+                rt,
+                row,
+                sends_unread(rt, &mut run.proxy, client, piece),
+                pause,
+            )
+        }
+        Step::EndsUnread(client, pause) => {
+            is(rt, row, ends_unread(rt, &mut run.proxy, client), pause)
+        }
         _ => {}
     }
 }

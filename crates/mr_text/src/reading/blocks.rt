@@ -6,6 +6,7 @@ use crate::error::TextError;
 use mr_lines::{BlockEnd, block_end};
 
 /// Whether a block of this length and the line end behind it are there.
+#[inline(always)]
 #[tactic(auto, unfolding(crate::specs::steps::Reading::block_reading))]
 pub(crate) fn has_block(block_length: usize, bytes: &[u8]) -> Result<bool, TextError>
     requires { block_length + 2 < 2 ^ 64 }

@@ -38,6 +38,7 @@ pub(crate) enum Command<'a> {
 }
 
 /// What the line of a request says, no longer than a line may be.
+#[inline(always)]
 pub(crate) fn command_of(line: &[u8]) -> Result<Command<'_>, TextError>
     requires { length line.now ≤ MAX_LINE }
     ensures command { IsCommand (command_line (words_of line.now)) result }
@@ -46,6 +47,7 @@ pub(crate) fn command_of(line: &[u8]) -> Result<Command<'_>, TextError>
     read_command(line)
 }
 
+#[inline(always)]
 #[tactic(auto, unfolding(crate::specs::steps::Reading::shape_of))]
 fn read_command(line: &[u8]) -> Result<Command<'_>, TextError>
     ensures { IsCommand (command_line (words_of line.now)) result }
@@ -57,6 +59,7 @@ fn read_command(line: &[u8]) -> Result<Command<'_>, TextError>
 }
 
 /// What a line says that begins with this word.
+#[inline(always)]
 #[tactic(auto, unfolding(crate::specs::steps::Reading::shape_of))]
 fn command_behind<'a>(word: &[u8], arguments: &'a [u8]) -> Result<Command<'a>, TextError>
     ensures { IsCommand (command_line (word.now ∷ words_of arguments.entry.now)) result }
@@ -89,6 +92,7 @@ fn is_followed_by_block(word: &[u8]) -> bool
         || is_text(word, b"cas")
 }
 
+#[inline(always)]
 fn get(arguments: &[u8]) -> Result<Command<'_>, TextError>
     ensures { IsCommand (line_of_shape (get_shape (words_of arguments.now))) result }
 {
@@ -110,6 +114,7 @@ fn get(arguments: &[u8]) -> Result<Command<'_>, TextError>
     })
 }
 
+#[inline(always)]
 fn set(arguments: &[u8]) -> Result<Command<'_>, TextError>
     ensures { IsCommand (line_of_shape (set_shape (words_of arguments.now))) result }
 {
@@ -132,6 +137,7 @@ fn set(arguments: &[u8]) -> Result<Command<'_>, TextError>
 }
 
 /// The set of these words.
+#[inline(always)]
 fn set_of<'a>(
     key: &'a [u8],
     flags: &[u8],
@@ -190,6 +196,7 @@ fn quit(arguments: &[u8]) -> Result<Command<'_>, TextError>
 }
 
 /// Whether the words behind all others ask for no answer; None where they say anything else.
+#[inline(always)]
 fn noreply(options: &[u8]) -> Option<bool>
     ensures { result ≡ noreply_of (words_of options.now) }
 {

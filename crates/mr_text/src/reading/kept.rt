@@ -50,6 +50,7 @@ impl KeptBytes {
     }
 
     /// The bytes that weren't read yet.
+    #[inline(always)]
     pub(crate) fn as_slice(&self) -> &[u8]
         ensures { result.now ≡ self.now }
     {
@@ -57,6 +58,7 @@ impl KeptBytes {
     }
 
     /// How many bytes weren't read yet.
+    #[inline(always)]
     pub(crate) fn len(&self) -> usize
         ensures { result ≡ length self.now }
     {
@@ -64,6 +66,7 @@ impl KeptBytes {
     }
 
     /// Whether all were read.
+    #[inline(always)]
     pub(crate) fn is_empty(&self) -> bool
         ensures { MatchBool result (self.now ≡ []) (self.now ≢ []) }
     {
@@ -71,11 +74,13 @@ impl KeptBytes {
     }
 
     /// The allocator of the bytes.
+    #[inline(always)]
     pub(crate) fn allocator(&self) -> Global {
         *self.room.allocator()
     }
 
     /// Marks bytes at the front as read.
+    #[inline(always)]
     pub(crate) fn skip(&mut self, count: usize)
         requires { count ≤ length self.old }
         ensures { self.new ≡ drop count self.old }
@@ -148,6 +153,7 @@ impl KeptBytes {
     }
 
     /// A block of so many bytes is to come next, with a line end behind it.
+    #[inline(always)]
     pub(crate) fn await_block(&mut self, count: usize)
         requires { count ≤ MAX_BLOCK }
         ensures { self.new ≡ self.old }
@@ -157,6 +163,7 @@ impl KeptBytes {
 
     /// Makes room for a piece of a large block: twice the room that there was, but no more than the block and its end take, or
     /// than the piece needs.
+    #[inline(always)]
     fn make_room(&mut self, count: usize) -> Result<(), AllocError>
         ensures { self.new ≡ self.old }
     {
@@ -175,6 +182,7 @@ impl KeptBytes {
     }
 
     /// Adds bytes at the end, in place of those that were read.
+    #[inline(always)]
     pub(crate) fn push(&mut self, piece: &[u8]) -> Result<(), AllocError>
         ensures ok { OnOk result (self.new ≡ self.old ++ piece.now) }
         ensures err { OnErr result (self.new ≡ self.old) }
@@ -194,6 +202,7 @@ impl KeptBytes {
     }
 
     /// Gives back the room that is above the most that is kept, unless the bytes of a large block need it.
+    #[inline(always)]
     pub(crate) fn give_room_back(&mut self)
         ensures { self.new ≡ self.old }
     {
@@ -205,6 +214,7 @@ impl KeptBytes {
     }
 
     /// Gives the room of the bytes that were read to those to come.
+    #[inline(always)]
     fn move_to_front(&mut self)
         ensures { self.new ≡ self.old }
     {

@@ -7,20 +7,11 @@ ghost use Rattle.mr_text.specs.Line.{HasLineFeed};
 
 use crate::error::TextError;
 use crate::limits::MAX_LINE;
-use mr_lines::{place_of_byte, without_carriage_return};
+use mr_lines::without_carriage_return;
 
-/// The first line and the length of its bytes, its end included; None where its end isn't there yet.
-pub(crate) fn line_at(bytes: &[u8]) -> Result<Option<(&[u8], usize)>, TextError>
-    ensures reading { MatchResult result
-        (λ found. MatchOption found (line_reading bytes.now ≡ Waits) (λ l. line_reading bytes.now ≡ Gives l.0.now l.1))
-        (λ refusal. line_reading bytes.now ≡ Refused refusal 0) }
-    ensures within { IfOk result (λ found. IfSome found (λ l. (l.1 ≤ length bytes.now) × (length l.0.now ≤ MAX_LINE))) }
-    ensures one_line { IfOk result (λ found. IfSome found (λ l. ¬ HasLineFeed l.0.now)) }
-{
-    line_to(bytes, place_of_byte(b'\n', bytes))
-}
-
-/// The same where it was looked for already, and the first line ends here or nowhere.
+/// The first line and the length of its bytes, its end included; None where its end isn't there yet. The place of the end, if there is
+/// one, was looked for already.
+#[inline(always)]
 #[tactic(auto, unfolding(crate::specs::steps::Reading::line_reading))]
 pub(crate) fn line_to(bytes: &[u8], end: Option<usize>) -> Result<Option<(&[u8], usize)>, TextError>
     requires end { end ≡ byte_place 10 bytes.now }

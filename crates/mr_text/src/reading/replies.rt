@@ -54,6 +54,7 @@ pub(crate) enum StepAhead {
 
 /// What the first line of a reply says, which ends at this place, and how many bytes it has; None where its end isn't
 /// there.
+#[inline(always)]
 #[tactic(auto, unfolding(crate::specs::steps::ReplyReading::reply_reading))]
 pub(crate) fn first_said(
     bytes: &[u8],
@@ -71,6 +72,7 @@ pub(crate) fn first_said(
 }
 
 /// The line behind items that ends at this place, with room for so many more.
+#[inline(always)]
 #[tactic(auto, unfolding(crate::specs::steps::ReplyReading::step_reading))]
 pub(crate) fn next_line(
     room: usize,
@@ -210,6 +212,7 @@ fn items_from(room: usize, bytes: &[u8], read: usize) -> Result<bool, TextError>
 
 /// The item that is a reply by itself and whose line of so many bytes comes first, and how many bytes spell the reply. None
 /// where that isn't whole or has another item, where its block is a large one, and for want of memory.
+#[inline(always)]
 pub(crate) fn only_item(
     alloc: Global,
     bytes: &[u8],
@@ -246,6 +249,7 @@ pub(crate) fn only_item(
 }
 
 /// The reply that a line says by itself.
+#[inline(always)]
 pub(crate) fn lone_reply(alloc: Global, line: SaidLine<'_>) -> Result<Reply, AllocError>
     requires text { HasOneLine line }
     requires lone { (reply : Reply) × (lone_reply line ≡ Some reply) }

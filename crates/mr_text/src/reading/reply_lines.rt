@@ -34,6 +34,7 @@ pub(crate) enum SaidLine<'a> {
 }
 
 /// What the first line of a reply says.
+#[inline(always)]
 #[tactic(auto, unfolding(crate::specs::steps::ReplyReading::first_line))]
 pub(crate) fn first_line_of(line: &[u8]) -> Result<SaidLine<'_>, TextError>
     requires one_line { ¬ HasLineFeed line.now }
@@ -60,6 +61,7 @@ pub(crate) fn first_line_of(line: &[u8]) -> Result<SaidLine<'_>, TextError>
 }
 
 /// What a word says that stands alone in its line; None for any other word.
+#[inline(always)]
 #[tactic(auto, unfolding(crate::specs::steps::ReplyReading::first_line))]
 fn lone_word<'a>(word: &[u8]) -> Option<SaidLine<'a>>
     ensures line { MatchOption result (list_any (bytes_eq word.now) lone_words ≡ false)
@@ -85,6 +87,7 @@ fn lone_word<'a>(word: &[u8]) -> Option<SaidLine<'a>>
 }
 
 /// What a line behind an item says, with room for so many more items.
+#[inline(always)]
 pub(crate) fn next_line_of(room: usize, line: &[u8]) -> Result<SaidLine<'_>, TextError>
     ensures line { IsReplyLine (next_line room (words_of line.now)) result }
     ensures good { IfOk result (IsGoodItem room) }
@@ -92,6 +95,7 @@ pub(crate) fn next_line_of(room: usize, line: &[u8]) -> Result<SaidLine<'_>, Tex
     next_said(room, line)
 }
 
+#[inline(always)]
 #[tactic(auto, unfolding(crate::specs::steps::ReplyReading::next_line))]
 fn next_said(room: usize, line: &[u8]) -> Result<SaidLine<'_>, TextError>
     ensures { IsReplyLine (next_line room (words_of line.now)) result }
@@ -124,6 +128,7 @@ fn error_text<'a>(line: &[u8], word_length: usize, rest: &'a [u8]) -> &'a [u8]
 }
 
 /// A line whose word stands alone.
+#[inline(always)]
 fn alone<'a>(line: SaidLine<'a>, rest: &[u8]) -> Result<SaidLine<'a>, TextError>
     ensures line { IsReplyLine (lone_line (reply_line_of line.entry) (words_of rest.now)) result }
     ensures same { IfOk result (λ said. said ≡ line.entry) }
@@ -134,6 +139,7 @@ fn alone<'a>(line: SaidLine<'a>, rest: &[u8]) -> Result<SaidLine<'a>, TextError>
     Ok(line)
 }
 
+#[inline(always)]
 fn item_within(room: usize, words: &[u8]) -> Result<SaidLine<'_>, TextError>
     ensures { IsReplyLine (item_line_within room (words_of words.now)) result }
 {
@@ -144,6 +150,7 @@ fn item_within(room: usize, words: &[u8]) -> Result<SaidLine<'_>, TextError>
 }
 
 /// The words behind VALUE.
+#[inline(always)]
 fn item(words: &[u8]) -> Result<SaidLine<'_>, TextError>
     ensures line { IsReplyLine (item_line (words_of words.now)) result }
     ensures text { IfOk result HasOneLine }
@@ -164,6 +171,7 @@ fn item(words: &[u8]) -> Result<SaidLine<'_>, TextError>
 }
 
 /// The item of these words.
+#[inline(always)]
 fn item_of<'a>(key: &'a [u8], flags: &[u8], bytes: &[u8]) -> Result<SaidLine<'a>, TextError>
     ensures line { IsReplyLine (item_line (key.entry.now ∷ flags.now ∷ bytes.now ∷ [])) result }
     ensures text { IfOk result HasOneLine }

@@ -46,6 +46,7 @@ impl ReplyReader {
 
     /// Takes the next piece of the stream. A reader that is closed, or whose input ended, answers Closed. An error
     /// takes nothing of the piece.
+    #[inline(always)]
     pub fn feed(&mut self, piece: &[u8]) -> Result<(), TextError>
         ensures piece { (rest : List ℕ) → StandsFor self.old rest → FeedIs self.old self.new rest piece.now result }
         ensures begun { self.new.begun ≡ self.old.begun }
@@ -80,6 +81,7 @@ impl ReplyReader {
         self.next_reply()
     }
 
+    #[inline(always)]
     fn next_reply(&mut self) -> Result<Option<Reply>, TextError>
         ensures { IsNextReply self.old self.new result }
     {

@@ -89,6 +89,7 @@ impl RequestReader {
         self.next_request()
     }
 
+    #[inline(always)]
     fn next_request(&mut self) -> Result<Option<Request>, TextError>
         ensures { IsNextRequest self.old self.new result }
     {
@@ -135,6 +136,7 @@ impl RequestReader {
     }
 
     /// The request that begins with the next line.
+    #[inline(always)]
     fn next_line(&mut self) -> Result<Option<Request>, TextError>
         requires going_on { self.old.closed ≡ false }
         requires nothing { self.old.begun ≡ 0 }
@@ -181,6 +183,7 @@ impl RequestReader {
     }
 
     /// Gives a request away, and goes on behind so many bytes of those that weren't read.
+    #[inline(always)]
     fn give(&mut self, request: Request, size: usize) -> Request
         requires within { self.old.begun + size ≤ length self.old.kept }
         requires going_on { self.old.closed ≡ false }
@@ -201,6 +204,7 @@ impl RequestReader {
     }
 
     /// Waits for more, or refuses what the input ended in.
+    #[inline(always)]
     fn wait(&mut self) -> Result<Option<Request>, TextError>
         ensures { WaitIs self.old self.new result }
     {

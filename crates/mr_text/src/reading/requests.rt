@@ -54,6 +54,7 @@ pub(crate) struct RefusedText {
 }
 
 /// What is at the front of the bytes, whose first line ends here or nowhere.
+#[inline(always)]
 #[tactic(auto, unfolding(crate::specs::steps::Reading::request_reading))]
 pub(crate) fn request_at(bytes: &[u8], line_end: Option<usize>) -> Result<Found<'_>, RefusedText>
     requires end { line_end ≡ byte_place 10 bytes.now }
@@ -68,6 +69,7 @@ pub(crate) fn request_at(bytes: &[u8], line_end: Option<usize>) -> Result<Found<
 }
 
 /// The same where this line, the first of the bytes, was read.
+#[inline(always)]
 #[tactic(auto, unfolding(crate::specs::steps::Reading::request_reading))]
 fn request_of_line<'a>(
     bytes: &'a [u8],
@@ -122,6 +124,7 @@ fn request_of_line<'a>(
 }
 
 /// The request that was found, with bytes of its own.
+#[inline(always)]
 pub(crate) fn request_of(alloc: Global, found: &FoundRequest<'_>) -> Result<Request, AllocError>
     requires { IsWholeRequest found.now }
     ensures { IfOk result (λ request. request ≡ said_request found.now) }
@@ -152,6 +155,7 @@ pub(crate) fn request_of(alloc: Global, found: &FoundRequest<'_>) -> Result<Requ
 }
 
 /// The words as keys.
+#[inline(always)]
 fn keys_of(alloc: Global, words: &[u8], count: usize) -> Result<KeyList, AllocError>
     requires { AreKeys (words_of words.now) count }
     ensures { IfOk result (λ keys. keys ≡ words_of words.now) }

@@ -51,6 +51,7 @@ impl Stream {
 
     /// Takes the next piece. Where reading is over, or the input ended, it answers Closed. An error takes nothing of
     /// the piece.
+    #[inline(always)]
     pub(crate) fn feed(&mut self, piece: &[u8]) -> Result<(), TextError>
         ensures { TakesPiece self.old self.new piece.now result }
     {
@@ -69,6 +70,7 @@ impl Stream {
     }
 
     /// Whether reading is over.
+    #[inline(always)]
     pub(crate) fn is_closed(&self) -> bool
         ensures { result ≡ self.now.closed }
     {
@@ -76,6 +78,7 @@ impl Stream {
     }
 
     /// Whether the input ended.
+    #[inline(always)]
     pub(crate) fn is_ended(&self) -> bool
         ensures { result ≡ self.now.ended }
     {
@@ -83,6 +86,7 @@ impl Stream {
     }
 
     /// Reading is over.
+    #[inline(always)]
     pub(crate) fn close(&mut self)
         ensures { self.new ≡ record self.old { closed = true } }
     {
@@ -90,6 +94,7 @@ impl Stream {
     }
 
     /// How many bytes weren't read yet.
+    #[inline(always)]
     pub(crate) fn held(&self) -> usize
         ensures { result ≡ length self.now.unread }
     {
@@ -97,6 +102,7 @@ impl Stream {
     }
 
     /// The bytes that weren't read yet.
+    #[inline(always)]
     pub(crate) fn as_slice(&self) -> &[u8]
         ensures { result.now ≡ self.now.unread }
     {
@@ -104,12 +110,14 @@ impl Stream {
     }
 
     /// The allocator of the bytes.
+    #[inline(always)]
     pub(crate) fn allocator(&self) -> Global {
         self.unread.allocator()
     }
 
     /// Where the first line ends among the bytes that weren't read. Each byte is looked at once, however often this is
     /// called.
+    #[inline(always)]
     pub(crate) fn line_end(&mut self) -> Option<usize>
         ensures place { result ≡ byte_place 10 self.old.unread }
         ensures within { IfSome result (λ place. place < length self.old.unread) }
@@ -121,6 +129,7 @@ impl Stream {
     }
 
     /// So many bytes more of an unfinished text were read: a line, or a block.
+    #[inline(always)]
     pub(crate) fn read(&mut self, count: usize)
         requires { count ≤ length self.old.unread }
         ensures { self.new ≡ with_read count self.old }
@@ -153,6 +162,7 @@ impl Stream {
     }
 
     /// A text was given that ends behind so many bytes.
+    #[inline(always)]
     pub(crate) fn give(&mut self, count: usize)
         requires { count ≤ length self.old.unread }
         ensures { self.new ≡ with_given count self.old }
@@ -162,6 +172,7 @@ impl Stream {
     }
 
     /// Goes on behind so many bytes, of which what follows wasn't looked over.
+    #[inline(always)]
     fn skip(&mut self, count: usize)
         requires { count ≤ length self.old.unread }
         ensures { self.new ≡ record self.old { unread = drop count self.old.unread } }
@@ -172,6 +183,7 @@ impl Stream {
 
     /// Nothing is whole: what is left waits for more. Where the input ended inside a text, of which something was read
     /// already (`begun`) or not, that is Truncated, and reading is over.
+    #[inline(always)]
     pub(crate) fn wait<Item>(&mut self, begun: bool) -> Result<Option<Item>, TextError>
         requires { MatchBool begun (self.old.front ≢ []) (self.old.front ≡ []) }
         ensures { StreamWaits self.old self.new result }
@@ -185,6 +197,7 @@ impl Stream {
     }
 
     /// Whether something of a text came.
+    #[inline(always)]
     fn is_inside_text(&self, begun: bool) -> bool
         requires { MatchBool begun (self.now.front ≢ []) (self.now.front ≡ []) }
         ensures { MatchBool result (self.now.front ++ self.now.unread ≢ []) (self.now.front ++ self.now.unread ≡ []) }
@@ -194,6 +207,7 @@ impl Stream {
 }
 
 /// Where the first line ends, where none ends before this place.
+#[inline(always)]
 fn line_end_from(bytes: &[u8], from: usize) -> Option<usize>
     requires within { from ≤ length bytes.now }
     requires none { byte_place 10 (take from bytes.now) ≡ None }

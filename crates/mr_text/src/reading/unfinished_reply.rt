@@ -70,6 +70,7 @@ impl UnfinishedReply {
     }
 
     /// Whether a part of a reply was read.
+    #[inline(always)]
     fn has_begun(&self) -> bool
         ensures { result ≡ has_begun self.now }
     {
@@ -77,6 +78,7 @@ impl UnfinishedReply {
     }
 
     /// The next reply. What is there is looked over first, since that takes no memory; then it is copied.
+    #[inline(always)]
     pub(crate) fn next(&mut self) -> Result<Option<Reply>, TextError>
         requires progress { IsProgress self.old }
         requires going_on { self.old.stream.closed ≡ false }
@@ -95,6 +97,7 @@ impl UnfinishedReply {
     }
 
     /// Reads the first line of a reply, where it is whole.
+    #[inline(always)]
     fn read_first_line(&mut self) -> Result<FirstLine, TextError>
         requires progress { IsProgress self.old }
         requires going_on { self.old.stream.closed ≡ false }

@@ -44,6 +44,7 @@ impl FixedBuffer {
     }
 
     /// The bytes that it holds.
+    #[inline(always)]
     pub fn as_slice(&self) -> &[u8]
         ensures { result.now ≡ self.now }
     {
@@ -51,6 +52,7 @@ impl FixedBuffer {
     }
 
     /// Forgets the bytes that it holds. They aren't cleared.
+    #[inline(always)]
     pub fn clear(&mut self)
         ensures { self.new ≡ [] }
     {
@@ -68,6 +70,7 @@ impl FixedBuffer {
     }
 
     /// Puts bytes behind those that it holds, if they fit. Whether they did.
+    #[inline(always)]
     fn append(&mut self, bytes: &[u8]) -> bool
         ensures fits { IsTrue result ↔ (length self.old + length bytes.now ≤ FIXED_BUFFER) }
         ensures held { self.new ≡ (if result then self.old ++ bytes.now else self.old) }
@@ -82,6 +85,7 @@ impl FixedBuffer {
     }
 
     /// Sends what is gathered, in one call, and makes no call where nothing is. It stays where the writer failed.
+    #[inline(always)]
     pub fn send<W: Sink>(&mut self, writer: &mut W) -> Result<(), WriteFault>
         ensures text { Writes self.old (W.told writer.old) result (W.told writer.new) }
         ensures empty { OnOk result (self.new ≡ []) }
@@ -99,6 +103,7 @@ impl FixedBuffer {
 
     /// Puts bytes behind what is gathered. Where they don't fit, that goes out first; and what is longer than the whole
     /// buffer goes out then by itself.
+    #[inline(always)]
     pub(crate) fn put<W: Sink>(&mut self, bytes: &[u8], writer: &mut W) -> Result<(), WriteFault>
         ensures text { Gathers bytes.now self.old (W.told writer.old) result self.new (W.told writer.new) }
         ensures long { FIXED_BUFFER < length bytes.now → ((W.told writer.new).calls ≤
@@ -107,6 +112,17 @@ impl FixedBuffer {
         if self.append(bytes) {
             return Ok(());
         }
+        self.make_way(bytes, writer)
+    }
+
+    /// Puts bytes behind what is gathered, behind which they don't fit.
+    #[inline(never)]
+    fn make_way<W: Sink>(&mut self, bytes: &[u8], writer: &mut W) -> Result<(), WriteFault>
+        requires { FIXED_BUFFER < length self.old + length bytes.now }
+        ensures text { Gathers bytes.now self.old (W.told writer.old) result self.new (W.told writer.new) }
+        ensures long { FIXED_BUFFER < length bytes.now → ((W.told writer.new).calls ≤
+            (W.told writer.old).calls + 2) × OnOk result (self.new ≡ []) }
+    {
         self.send(writer)?;
         if self.append(bytes) {
             return Ok(());
@@ -115,6 +131,7 @@ impl FixedBuffer {
     }
 
     /// Puts pieces, one behind the other.
+    #[inline(always)]
     fn put_all<W: Sink>(&mut self, pieces: &[&[u8]], writer: &mut W) -> Result<(), WriteFault>
         ensures { Gathers (flat_map (λ piece. piece.now) pieces.now)
             self.old (W.told writer.old) result self.new (W.told writer.new) }
@@ -126,6 +143,7 @@ impl FixedBuffer {
     }
 
     /// Puts the pieces of a line, one behind the other.
+    #[inline(always)]
     #[tactic(auto, using(crate::proofs::Gathered::line_costs))]
     pub(crate) fn put_line<W: Sink>(
         &mut self,
@@ -141,6 +159,7 @@ impl FixedBuffer {
     }
 
     /// Puts bytes that may be long, and a line end behind them.
+    #[inline(always)]
     pub(crate) fn put_block<W: Sink>(
         &mut self,
         block: &[u8],

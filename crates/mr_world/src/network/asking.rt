@@ -2,18 +2,17 @@
 ghost use Rattle.std.specs.Prelude.{◌≡◌, ◌≢◌, ◌+◌, ◌≤◌, ◌++◌, length, map, slice_get, Some, None, All, IfOk, IfErr, OnOk, MatchOption, vec_len, vec_capacity};
 ghost use Rattle.mr_text.specs.declared.request.Request.{Request};
 ghost use Rattle.mr_proxy.specs.Issue.{sheets_of, refusal_of};
-ghost use Rattle.mr_world.specs.declared.error.WorldError.TheVariants.{IssueRefused, OutOfMemory};
+ghost use Rattle.mr_proxy.specs.declared.world_error.WorldError.TheVariants.{IssueRefused, OutOfMemory};
 ghost use Rattle.mr_world.specs.declared.event.Event.TheVariants.{Client};
 ghost use Rattle.mr_world.specs.Network.{IsReady, DoesEvent, HasNumber, message_by};
 
-use crate::error::WorldError;
 use crate::message::Message;
 use crate::network::Network;
 use crate::note::Note;
 use crate::numbers::NodeNumbers;
 use mr_history::{Entry, History};
 use mr_proxy::laws::next_op_is_new;
-use mr_proxy::{Issued, Leg, ProxyCore, issue_copy};
+use mr_proxy::{Issued, Leg, ProxyCore, WorldError, issue_copy};
 use mr_text::Request;
 use mr_text::laws::request_is_valid;
 

@@ -6,7 +6,6 @@ ghost use Rattle.mr_world.specs.Network.{IsReady, DoesEvent};
 ghost use Rattle.mr_world.specs.Nodes.{PerformsAt};
 ghost use Rattle.mr_world.specs.Steps.{performed};
 
-use crate::error::WorldError;
 use crate::message::Delivery;
 use crate::network::Network;
 use crate::nodes::Nodes;
@@ -14,7 +13,7 @@ use crate::note::Note;
 use mr_history::{Author, Entry, History};
 use mr_join::LegReply;
 use mr_node::NodeCommand;
-use mr_proxy::LegSheet;
+use mr_proxy::{LegSheet, WorldError};
 use std::alloc::AllocError;
 
 /// What the history gains when a node performs the leg.

@@ -4,14 +4,13 @@ ghost use Rattle.mr_node.specs.declared.command.NodeCommand.TheVariants.{Set};
 ghost use Rattle.mr_proxy.specs.ProxyView.{fresh_proxy};
 ghost use Rattle.mr_proxy.specs.Sheets.{HaveAsManyHops};
 ghost use Rattle.mr_proxy.specs.Sound.{IsSound};
-ghost use Rattle.mr_world.specs.declared.error.WorldError.TheVariants.{NoSuchNode, OutOfMemory};
+ghost use Rattle.mr_proxy.specs.declared.world_error.WorldError.TheVariants.{NoSuchNode, OutOfMemory};
 ghost use Rattle.mr_world.specs.Headline.{IsPlan};
 ghost use Rattle.mr_world.specs.Setup.{ChainsMatch, HasHomes, CanBeMade, RefusesSetup, Begins, HasNamedNode, NamesNode, IsNamed, with_pool, with_routing, nodes_of, hold, held_entry, proxies_from};
 ghost use Rattle.mr_world.specs.Positions.{node_number};
 ghost use Rattle.mr_clock.specs.Readings.{readings_at_first};
 ghost use Rattle.mr_world.specs.Tracked.{numbers_of};
 
-use crate::error::WorldError;
 use crate::network::Network;
 use crate::nodes::Nodes;
 use crate::numbers::{NodeNumbers, PoolNumbers};
@@ -21,7 +20,7 @@ use mr_clock::Readings;
 use mr_history::{Author, Entry, History};
 use mr_node::NodeCommand;
 use mr_pools::{NodeName, Pool, Routing};
-use mr_proxy::ProxyCore;
+use mr_proxy::{ProxyCore, WorldError};
 use std::alloc::{AllocError, Global};
 
 /// Whether the pool of that number has a node of this name.

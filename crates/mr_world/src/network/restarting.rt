@@ -2,10 +2,10 @@
 ghost use Rattle.mr_world.specs.declared.event.Event.TheVariants.{Clock, NodeRestart, ProxyRestart};
 ghost use Rattle.mr_world.specs.Network.{IsReady, DoesEvent};
 
-use crate::error::WorldError;
 use crate::network::Network;
 use crate::note::Note;
 use mr_pools::NodeName;
+use mr_proxy::WorldError;
 
 impl Network {
     /// Sets the reading of a proxy's clock.

@@ -7,12 +7,11 @@ ghost use Rattle.mr_world.specs.Network.{IsReady, DoesEvent};
 ghost use Rattle.mr_world.specs.Steps.{answered, answered_by, note_of};
 ghost use Rattle.mr_world.specs.Tracked.{IsUnanswered};
 
-use crate::error::WorldError;
 use crate::network::Network;
 use crate::note::Note;
 use mr_history::{Entry, History, OpId};
 use mr_node::session::is_silent;
-use mr_proxy::{Answer, Taken};
+use mr_proxy::{Answer, Taken, WorldError};
 
 /// Appends an answer, unless the client wants none.
 fn tell(history: &mut History, answer: Answer)

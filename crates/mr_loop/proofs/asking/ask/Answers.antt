@@ -7,5 +7,6 @@ returns-in-Told c = told_done c.args.asker c.args.request c.args.front.now c.iss
 pub returns-in-Issued : goal.returns-in-Issued
 returns-in-Issued c =
     let e = c.in-Issued.ensures in
-    begun_so c.args.asker c.args.request c.args.front.now c.args.links.now c.issue.new.self c.in-Issued.issued.op c.in-Issued.issued.legs.items c.denial-refused.result
-    c.send_off.new.front c.send_off.new.links e.0 e.1 e.2 e.3 e.4 c.denial-refused.ensures c.send_off.ensures
+    rw (c.give_legs_back.ensures)
+    (begun_so c.args.asker c.args.request c.args.front.now c.args.links.now c.issue.new.self c.in-Issued.issued.op c.in-Issued.issued.legs.items c.denial-refused.result
+    c.send_off.new.front c.send_off.new.links e.0 e.1 e.2 e.3 e.4 c.denial-refused.ensures c.send_off.ensures)

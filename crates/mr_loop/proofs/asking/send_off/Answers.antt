@@ -5,13 +5,13 @@ use Rattle.mr_loop.proofs.asking.send_off.Goals as goal
 
 pub returns-in-Ok-true : goal.returns-in-Ok-true
 returns-in-Ok-true c =
-    off_all c.args.asker c.args.front.now.core.routing c.routing.result.now c.args.issued.op c.args.issued.legs.items c.args.denial c.args.front.now c.args.front.now
+    off_all c.args.asker c.args.front.now.core.routing c.routing.result.now c.args.op c.args.legs.now.items c.args.denial c.args.front.now c.args.front.now
     c.args.links.now c.send_all.new.links true (c.routing.ensures ∙ ap (λ (p : ProxyView). p.routing) c.core.ensures)
     (sym c.in-Ok-true.field-0-test ∙ c.in-Ok-true.ensures.up) c.in-Ok-true.ensures.sent refl
 
 pub returns-in-Ok-false : goal.returns-in-Ok-false
 returns-in-Ok-false c =
-    off_all c.args.asker c.args.front.now.core.routing c.routing.result.now c.args.issued.op c.args.issued.legs.items c.args.denial c.args.front.now c.give_up.new.self
+    off_all c.args.asker c.args.front.now.core.routing c.routing.result.now c.args.op c.args.legs.now.items c.args.denial c.args.front.now c.give_up.new.self
     c.args.links.now c.send_all.new.links false (c.routing.ensures ∙ ap (λ (p : ProxyView). p.routing) c.core.ensures)
     (sym c.in-Ok-false.field-0-test ∙ c.in-Ok-false.ensures.up) c.in-Ok-false.ensures.sent c.give_up.ensures
 

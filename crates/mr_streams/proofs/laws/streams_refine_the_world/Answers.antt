@@ -2,7 +2,7 @@ use Rattle.mr_streams.proofs.Refining.{refined}
 use Rattle.mr_streams.proofs.laws.streams_refine_the_world.Goals as goal
 
 pub returns : goal.returns
-returns c = λ setup first last start events plans texts starts begins run.
+returns c = λ setup first last start ticks plans texts starts begins run.
     refined (record {
       replies = record { free = c.replies_are_prefix_free.ensures; reads = c.canonical_reply_is_read.ensures };
       requests = record {
@@ -13,4 +13,4 @@ returns c = λ setup first last start events plans texts starts begins run.
         unfinished = c.nothing_is_unfinished.ensures;
       };
       sheets = record { say = c.sheets_say.ensures; within = c.hop_within.ensures };
-    }) setup first last start events plans texts starts begins run
+    }) setup first last start ticks plans texts starts begins run

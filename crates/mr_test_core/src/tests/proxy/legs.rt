@@ -3,7 +3,7 @@ use super::{Asked, core_of, count_is, is, issue, number_is, request_of, says};
 use crate::tests::must;
 use mr_join::LegReply;
 use mr_phases::Side;
-use mr_proxy::{Leg, LegBack, ProxyCore, Taken};
+use mr_proxy::{Leg, LegBack, ProxyCore, Taken, legs_of};
 use std::alloc::Global;
 use std::process::Abort;
 
@@ -57,6 +57,22 @@ fn legs_go_where_the_reading_says(rt: HostRuntime) {
     }
 }
 
+/// A request, the sides that a delete goes to, and how many legs it has.
+static COUNTS: [(Asked, usize, usize); 4] = [
+    (Asked::Get(b"kkb"), 2, 3),
+    (Asked::Set(b'a'), 2, 1),
+    (Asked::Delete(b'k'), 1, 1),
+    (Asked::SilentDelete(b'k'), 2, 2),
+];
+
+#[test]
+fn a_delete_has_a_leg_for_each_side(rt: HostRuntime) {
+    for (row, it) in COUNTS.iter().enumerate() {
+        let request = request_of(&rt, rt.alloc(), it.0);
+        count_is(&rt, row, legs_of(&request, it.1), it.2);
+    }
+}
+
 /// What becomes of what comes back of a leg.
 fn become_of(core: &mut ProxyCore, back: LegBack) -> &'static str {
     let LegBack { sheet, reply } = back;
@@ -78,4 +94,22 @@ fn come_back(rt: &impl Abort, alloc: Global, core: &mut ProxyCore) {
 #[test]
 fn a_leg_comes_back_with_its_sheet(rt: HostRuntime) {
     come_back(&rt, rt.alloc(), &mut core_of(&rt, rt.alloc(), 0, 4));
+}
+
+/// Asserts that what a get has left changes nothing of the requests behind it, which have other legs.
+fn serve_anew(rt: &impl Abort, alloc: Global, core: &mut ProxyCore) {
+    for (row, it) in ROWS.iter().enumerate() {
+        let issued = issue(rt, alloc, core, it.0, it.1);
+        are_sent_to(rt, row, issued.legs.as_slice(), it.2);
+        core.give_legs_back(issued.legs);
+        let answer = must(rt, core.give_up(issued.op));
+        count_is(rt, row, answer.slots().len(), it.2.len());
+        core.give_answer_back(answer);
+    }
+    count_is(rt, 6, core.outstanding(), 0);
+}
+
+#[test]
+fn lists_that_came_back_are_used_again(rt: HostRuntime) {
+    serve_anew(&rt, rt.alloc(), &mut core_of(&rt, rt.alloc(), 0, 1));
 }

@@ -19,6 +19,10 @@ pub(super) enum Step {
     Sends(usize, &'static [u8], NodePause),
     /// A client sends no more; why no more of what it sent is served.
     Ends(usize, NodePause),
+    /// A client sends this while the clock gives no reading; why it isn't told of more of it.
+    SendsUnread(usize, &'static [u8], NodePause),
+    /// A client sends no more while the clock gives no reading; why it isn't told of more of what it sent.
+    EndsUnread(usize, NodePause),
     /// A client is told this, and reads it.
     Told(usize, &'static [u8]),
     /// Whether a client may be closed.
@@ -88,6 +92,25 @@ fn ends<C: Cache>(
     node.on_client_ended(client, reading)
 }
 
+fn sends_unread<C: Cache>(
+    rt: &impl Abort,
+    node: &mut NodeLoop<C>,
+    client: usize,
+    piece: &[u8],
+) -> NodePause {
+    if client >= node.places() {
+        rt.panic("no such place");
+    }
+    must(rt, node.deny_client_bytes(client, piece))
+}
+
+fn ends_unread<C: Cache>(rt: &impl Abort, node: &mut NodeLoop<C>, client: usize) -> NodePause {
+    if client >= node.places() {
+        rt.panic("no such place");
+    }
+    node.deny_client_ended(client)
+}
+
 fn comes<C: Cache>(rt: &impl Abort, node: &mut NodeLoop<C>, client: usize) {
     if client >= node.places() {
         rt.panic("no such place");
@@ -149,6 +172,10 @@ fn take<C: Cache>(
             is(rt, row, sends(rt, node, client, reading, piece), pause)
         }
         Step::Ends(client, pause) => is(rt, row, ends(rt, node, client, reading), pause),
+        Step::SendsUnread(client, piece, pause) => {
+            is(rt, row, sends_unread(rt, node, client, piece), pause)
+        }
+        Step::EndsUnread(client, pause) => is(rt, row, ends_unread(rt, node, client), pause),
         Step::Told(client, text) => is_told(rt, row, node, client, text),
         Step::IsFinished(client, is_so) => holds(rt, row, is_finished(rt, node, client), is_so),
         Step::IsWaiting(client, is_so) => holds(rt, row, is_waiting(rt, node, client), is_so),

@@ -97,12 +97,12 @@ static ROWS: [Row; 16] = [
         Handed::Half(b"migctl: words --readings\n"),
     ),
     (
-        &["draw"],
+        &["move"],
         b"",
         2,
         Handed::Nothing,
         Handed::Half(
-            b"error: unrecognized subcommand 'draw'\n\nUsage: migctl <COMMAND>\n\nFor more information, try '--help'.\n",
+            b"error: unrecognized subcommand 'move'\n\nUsage: migctl <COMMAND>\n\nFor more information, try '--help'.\n",
         ),
     ),
 ];

@@ -180,12 +180,12 @@ static ROWS: [Row; 22] = [
         Left::Told(2, b"migctl: words --readings\n"),
     ),
     (
-        &["draw"],
+        &["move"],
         b"get k\r\n",
         0,
         Left::Told(
             2,
-            b"error: unrecognized subcommand 'draw'\n\nUsage: migctl <COMMAND>\n\nFor more information, try '--help'.\n",
+            b"error: unrecognized subcommand 'move'\n\nUsage: migctl <COMMAND>\n\nFor more information, try '--help'.\n",
         ),
     ),
 ];

@@ -13,6 +13,9 @@ returns-in-Run g c = rw c.in-Run.is (λ faults. (c.run_script.ensures faults, re
 pub returns-in-Check : goal.returns-in-Check
 returns-in-Check g c = rw c.in-Check.is (λ faults. (c.run_check.ensures faults, refl))
 
+pub returns-in-Draw : goal.returns-in-Draw
+returns-in-Draw g c = rw c.in-Draw.is (λ faults. (c.run_draw.ensures faults, refl))
+
 pub returns-in-Upgrade : goal.returns-in-Upgrade
 returns-in-Upgrade g c = rw c.in-Upgrade.is (λ faults. (c.run_upgrade.ensures faults, refl))
 

@@ -34,30 +34,38 @@ returns-in-Some-subcommand_matches-4 c =
       sym (c.get_str-in-Some-subcommand_matches-4.ensures ∙ first_value-rows (found_of c.in-Some-subcommand_matches-4.found.now) (codes "file")),
     )
 
+pub returns-in-Some-subcommand_matches-5 : goal.returns-in-Some-subcommand_matches-5
+returns-in-Some-subcommand_matches-5 c =
+    let found = c.in-Some-subcommand_matches-5.ensures in (
+      _,
+      sub_row c.args.matches.now _ _ (found.found.0 refl) found.rows,
+      sym (c.get_str-in-Some-subcommand_matches-5.ensures ∙ first_value-rows (found_of c.in-Some-subcommand_matches-5.found.now) (codes "file")),
+    )
+
 pub returns-in-None-node_values : goal.returns-in-None-node_values
 returns-in-None-node_values c =
     let found =
-    sub_row c.args.matches.now _ _ (c.in-Some-subcommand_matches-5.ensures.found.0 refl) c.in-Some-subcommand_matches-5.ensures.rows in
+    sub_row c.args.matches.now _ _ (c.in-Some-subcommand_matches-6.ensures.found.0 refl) c.in-Some-subcommand_matches-6.ensures.rows in
     let nothing = node_not_found c.args.matches.now _ found c.in-None-node_values.ensures.missing in
     (nothing.no_command, nothing.no_readings)
 
 pub returns-in-None-proxy_values : goal.returns-in-None-proxy_values
 returns-in-None-proxy_values c =
     let found =
-    sub_row c.args.matches.now _ _ (c.in-Some-subcommand_matches-6.ensures.found.0 refl) c.in-Some-subcommand_matches-6.ensures.rows in
+    sub_row c.args.matches.now _ _ (c.in-Some-subcommand_matches-7.ensures.found.0 refl) c.in-Some-subcommand_matches-7.ensures.rows in
     let nothing = proxy_not_found c.args.matches.now _ found c.in-None-proxy_values.ensures.missing in
     (nothing.no_command, nothing.no_readings)
 
 pub returns-in-None-3 : goal.returns-in-None-3
 returns-in-None-3 c =
     let found =
-    sub_row c.args.matches.now _ _ (c.in-Some-subcommand_matches-7.ensures.found.0 refl) c.in-Some-subcommand_matches-7.ensures.rows in
+    sub_row c.args.matches.now _ _ (c.in-Some-subcommand_matches-8.ensures.found.0 refl) c.in-Some-subcommand_matches-8.ensures.rows in
     let nothing = watch_not_found c.args.matches.now _ found (rw c.in-None-3.is at c.in_ok-values-2.ensures) in
     (nothing.no_command, nothing.no_readings)
 
 pub returns-in-None-explanation_in : goal.returns-in-None-explanation_in
 returns-in-None-explanation_in c =
     let found =
-    sub_row c.args.matches.now _ _ (c.in-Some-subcommand_matches-8.ensures.found.0 refl) c.in-Some-subcommand_matches-8.ensures.rows in
+    sub_row c.args.matches.now _ _ (c.in-Some-subcommand_matches-9.ensures.found.0 refl) c.in-Some-subcommand_matches-9.ensures.rows in
     let nothing = explanation_not_found c.args.matches.now _ found c.in-None-explanation_in.ensures.missing in
     (nothing.no_command, nothing.no_readings)

@@ -1,4 +1,4 @@
-use Rattle.std.proofs.Common.{◌≡◌, ◌+◌, ◌≤◌, ℕ, List, Some, get_or, length, slice_set, vec_capacity, ap, ◌∙◌, arith}
+use Rattle.std.proofs.Common.{◌≡◌, ◌+◌, ◌≤◌, ℕ, List, Some, get_or, length, slice_set, ap, ◌∙◌, arith}
 use Rattle.std.specs.Prelude.{slice_get}
 use Rattle.std.proofs.lemmas.List.{get_or-set_same}
 use Rattle.std.proofs.lemmas.Option.{slice_get-get_or}
@@ -18,6 +18,14 @@ use Rattle.mr_loop.proofs.DenyLemmas.{denied_front}
 use Rattle.mr_loop.proofs.FlushLemmas.{front_of}
 use Rattle.mr_loop.proofs.PlaceLemmas.{changes}
 use Rattle.mr_loop.proofs.front.Front.withdraw.Goals as goal
+
+-- as many requests are under way as before, or one less
+still_fits : (touched capacity : ℕ) (core new : ProxyView) (op : OpId) → touched + length core.outstanding ≤ capacity → new ≡ after_give_up core op
+    → touched + length new.outstanding ≤ capacity
+still_fits touched capacity core new op before is =
+    let kept = kept_given_up core op in
+    let now = ap (λ (p : ProxyView). length p.outstanding) is in
+    omega (arith, before, kept, now)
 
 pub returns-then-client-len : goal.returns-then-client-len
 returns-then-client-len c = λ reading request before within op e.
@@ -42,65 +50,25 @@ returns-then-client-len c = λ reading request before within op e.
     (ap (λ (f : FrontView). f.touched) whole) counted
 
 pub invariant_of-self : goal.invariant_of-self
-invariant_of-self c =
-    let before : length c.self.inside.touched.items + length c.self.inside.core.outstanding ≤ vec_capacity c.self.inside.touched = c.self.invariant in
-    let kept = kept_given_up c.self.inside.core c.args.op in
-    let now = ap (λ (p : ProxyView). length p.outstanding) c.give_up.ensures.state in
-    let is : length c.self.inside.touched.items + length c.give_up.new.self.outstanding ≤ vec_capacity c.self.inside.touched = omega (arith, before, kept, now) in
-    is
+invariant_of-self c = still_fits _ _ c.self.inside.core _ c.args.op c.self.invariant c.give_up.ensures.state
 
 pub invariant_of-self-else-client-len : goal.invariant_of-self-else-client-len
-invariant_of-self-else-client-len c =
-    let before : length c.self.inside.touched.items + length c.self.inside.core.outstanding ≤ vec_capacity c.self.inside.touched = c.self.invariant in
-    let kept = kept_given_up c.self.inside.core c.args.op in
-    let now = ap (λ (p : ProxyView). length p.outstanding) c.give_up.ensures.state in
-    let is : length c.self.inside.touched.items + length c.give_up.new.self.outstanding ≤ vec_capacity c.self.inside.touched = omega (arith, before, kept, now) in
-    is
+invariant_of-self-else-client-len c = still_fits _ _ c.self.inside.core _ c.args.op c.self.invariant c.give_up.ensures.state
 
 pub invariant_of-self-else-client-len-2 : goal.invariant_of-self-else-client-len-2
-invariant_of-self-else-client-len-2 c =
-    let before : length c.self.inside.touched.items + length c.self.inside.core.outstanding ≤ vec_capacity c.self.inside.touched = c.self.invariant in
-    let kept = kept_given_up c.self.inside.core c.args.op in
-    let now = ap (λ (p : ProxyView). length p.outstanding) c.give_up.ensures.state in
-    let is : length c.self.inside.touched.items + length c.give_up.new.self.outstanding ≤ vec_capacity c.self.inside.touched = omega (arith, before, kept, now) in
-    is
+invariant_of-self-else-client-len-2 c = still_fits _ _ c.self.inside.core _ c.args.op c.self.invariant c.give_up.ensures.state
 
 pub invariant_of-self-else-client-len-3 : goal.invariant_of-self-else-client-len-3
-invariant_of-self-else-client-len-3 c =
-    let before : length c.self.inside.touched.items + length c.self.inside.core.outstanding ≤ vec_capacity c.self.inside.touched = c.self.invariant in
-    let kept = kept_given_up c.self.inside.core c.args.op in
-    let now = ap (λ (p : ProxyView). length p.outstanding) c.give_up.ensures.state in
-    let is : length c.self.inside.touched.items + length c.give_up.new.self.outstanding ≤ vec_capacity c.self.inside.touched = omega (arith, before, kept, now) in
-    is
+invariant_of-self-else-client-len-3 c = still_fits _ _ c.self.inside.core _ c.args.op c.self.invariant c.give_up.ensures.state
 
 pub invariant_of-self-else-client-len-4 : goal.invariant_of-self-else-client-len-4
-invariant_of-self-else-client-len-4 c =
-    let before : length c.self.inside.touched.items + length c.self.inside.core.outstanding ≤ vec_capacity c.self.inside.touched = c.self.invariant in
-    let kept = kept_given_up c.self.inside.core c.args.op in
-    let now = ap (λ (p : ProxyView). length p.outstanding) c.give_up.ensures.state in
-    let is : length c.self.inside.touched.items + length c.give_up.new.self.outstanding ≤ vec_capacity c.self.inside.touched = omega (arith, before, kept, now) in
-    is
+invariant_of-self-else-client-len-4 c = still_fits _ _ c.self.inside.core _ c.args.op c.self.invariant c.give_up.ensures.state
 
 pub invariant_of-self-else-client-len-5 : goal.invariant_of-self-else-client-len-5
-invariant_of-self-else-client-len-5 c =
-    let before : length c.self.inside.touched.items + length c.self.inside.core.outstanding ≤ vec_capacity c.self.inside.touched = c.self.invariant in
-    let kept = kept_given_up c.self.inside.core c.args.op in
-    let now = ap (λ (p : ProxyView). length p.outstanding) c.give_up.ensures.state in
-    let is : length c.self.inside.touched.items + length c.give_up.new.self.outstanding ≤ vec_capacity c.self.inside.touched = omega (arith, before, kept, now) in
-    is
+invariant_of-self-else-client-len-5 c = still_fits _ _ c.self.inside.core _ c.args.op c.self.invariant c.give_up.ensures.state
 
 pub invariant_of-self-else-client-len-6 : goal.invariant_of-self-else-client-len-6
-invariant_of-self-else-client-len-6 c =
-    let before : length c.self.inside.touched.items + length c.self.inside.core.outstanding ≤ vec_capacity c.self.inside.touched = c.self.invariant in
-    let kept = kept_given_up c.self.inside.core c.args.op in
-    let now = ap (λ (p : ProxyView). length p.outstanding) c.give_up.ensures.state in
-    let is : length c.self.inside.touched.items + length c.give_up.new.self.outstanding ≤ vec_capacity c.self.inside.touched = omega (arith, before, kept, now) in
-    is
+invariant_of-self-else-client-len-6 c = still_fits _ _ c.self.inside.core _ c.args.op c.self.invariant c.give_up.ensures.state
 
 pub invariant_of-self-else-client-len-7 : goal.invariant_of-self-else-client-len-7
-invariant_of-self-else-client-len-7 c =
-    let before : length c.self.inside.touched.items + length c.self.inside.core.outstanding ≤ vec_capacity c.self.inside.touched = c.self.invariant in
-    let kept = kept_given_up c.self.inside.core c.args.op in
-    let now = ap (λ (p : ProxyView). length p.outstanding) c.give_up.ensures.state in
-    let is : length c.self.inside.touched.items + length c.give_up.new.self.outstanding ≤ vec_capacity c.self.inside.touched = omega (arith, before, kept, now) in
-    is
+invariant_of-self-else-client-len-7 c = still_fits _ _ c.self.inside.core _ c.args.op c.self.invariant c.give_up.ensures.state

@@ -1,4 +1,6 @@
-use Rattle.std.proofs.Common.{◌∙◌, sym, ap, subst}
+use Rattle.std.proofs.Common.{◌∙◌, Option, Result, Ok, sym, ap, subst}
+use Rattle.mr_join.specs.declared.leg_reply.LegReply.{LegReply}
+use Rattle.mr_proxy.specs.Pending.{PendingView}
 use Rattle.mr_proxy.specs.contracts.proxy_core.ProxyCore.{the_view}
 use Rattle.mr_proxy.specs.Transitions.{taken_of}
 use Rattle.mr_proxy.specs.Sound.{IsSound, IsSoundAnswer}
@@ -7,11 +9,15 @@ use Rattle.mr_proxy.specs.steps.Outstanding.{list_settled}
 use Rattle.mr_proxy.proofs.SoundLemmas.{last_reply_answers_lem}
 use Rattle.mr_proxy.proofs.TakeLemmas.{with_list, taken_list, taken_sound, taken_as, became, last_answers}
 use Rattle.mr_proxy.proofs.proxy_core.ProxyCore.take_reply.Goals as goal
-use Rattle.mr_proxy.proofs.proxy_core.ProxyCore.take_reply.Goals.{in-Stranger, in-Waiting, in-Last}
+use Rattle.mr_proxy.proofs.proxy_core.ProxyCore.take_reply.Goals.{in-Err, in-Ok-None, in-Ok-Some}
+
+abbrev ok_of : Option PendingView → Result (Option PendingView) LegReply
+ok_of pending = Ok pending
 
 pub of-requires : goal.of-requires
 of-requires c =
-    (last_answers (the_view c.self.inside) c.args.id c.args.reply c.in-Last.pending c.self.invariant (sym c.in-Last.is ∙ c.take.ensures.settled)).whole
+    (last_answers (the_view c.self.inside) c.args.id c.args.reply c.in-Ok-Some.pending c.self.invariant
+    (sym (c.in-Ok-Some.is ∙ ap ok_of c.in-Ok-Some.field-0-is) ∙ c.take.ensures.settled)).whole
 
 pub invariant_of-self : goal.invariant_of-self
 invariant_of-self c =
@@ -25,9 +31,9 @@ pub returns-clause-taken : goal.returns-clause-taken
 returns-clause-taken c =
     let is = became (the_view c.self.inside) c.args.id c.args.reply c.take.result c.take.ensures.settled in
     elim c.match-take.branch [
-      | in-Stranger w ↦ rw (← c.self.view_is) (w.result-is ∙ ap taken_as (sym w.in-Stranger.is) ∙ is)
-      | in-Waiting w ↦ rw (← c.self.view_is) (w.result-is ∙ ap taken_as (sym w.in-Waiting.is) ∙ is)
-      | in-Last w ↦ rw (← c.self.view_is) (w.result-is ∙ ap Answered w.of.ensures ∙ ap taken_as (sym w.in-Last.is) ∙ is)
+      | in-Err w ↦ rw (← c.self.view_is) (w.result-is ∙ ap taken_as (sym w.in-Err.is) ∙ is)
+      | in-Ok-None w ↦ rw (← c.self.view_is) (w.result-is ∙ ap taken_as (sym (w.in-Ok-None.is ∙ ap ok_of w.in-Ok-None.field-0-is)) ∙ is)
+      | in-Ok-Some w ↦ rw (← c.self.view_is) (w.result-is ∙ ap Answered w.of.ensures ∙ ap taken_as (sym (w.in-Ok-Some.is ∙ ap ok_of w.in-Ok-Some.field-0-is)) ∙ is)
     ]
 
 pub returns-clause-state : goal.returns-clause-state

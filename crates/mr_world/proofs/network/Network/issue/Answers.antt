@@ -10,8 +10,8 @@ use Rattle.mr_history.specs.Places.{At}
 use Rattle.mr_proxy.specs.Issue.{next_op, sheets_of, refusal_of}
 use Rattle.mr_proxy.specs.Sheets.{IsPlaced}
 use Rattle.mr_world.specs.contracts.network.Network.{the_view}
-use Rattle.mr_world.specs.declared.error.WorldError.{WorldError}
-use Rattle.mr_world.specs.declared.error.WorldError.TheVariants.{IssueRefused, OutOfMemory}
+use Rattle.mr_proxy.specs.declared.world_error.WorldError.{WorldError}
+use Rattle.mr_proxy.specs.declared.world_error.WorldError.TheVariants.{IssueRefused, OutOfMemory}
 use Rattle.mr_world.specs.declared.note.Note.TheVariants.{Issued}
 use Rattle.mr_world.specs.Network.{IsReady, message_by, HasNumber}
 use Rattle.mr_world.specs.Refusals.{refused_request}

@@ -1,7 +1,7 @@
 use Rattle.std.proofs.Common.{◌≢◌, ◌<◌, ◌-◌, ◌^◌, length, refl, sym, ap, subst, ◌∙◌, arith}
 use Rattle.mr_proxy.specs.ProxyView.{ProxyView}
 use Rattle.mr_world.specs.contracts.network.Network.{the_view}
-use Rattle.mr_world.specs.declared.error.WorldError.TheVariants.{IssueRefused}
+use Rattle.mr_proxy.specs.declared.world_error.WorldError.TheVariants.{IssueRefused}
 use Rattle.mr_world.specs.declared.event.Event.TheVariants.{ProxyRestart}
 use Rattle.mr_world.specs.Refusals.{refused_restart, IsEventRefusal}
 use Rattle.mr_world.proofs.Lists.{at_read}

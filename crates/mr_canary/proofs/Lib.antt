@@ -1,0 +1,5 @@
+pub mod ViewLemmas
+pub mod NoteLemmas
+pub mod KeyLemmas
+pub mod KeysLemmas
+pub mod RequestLemmas

@@ -1,0 +1,4 @@
+pub mod Notes
+pub mod JudgeView
+pub mod Views
+pub mod steps

@@ -1,0 +1,4 @@
+-- What private functions of this crate keep and find. No clause of a public call cites these definitions.
+pub mod Past
+pub mod Watched
+pub mod Knowing
