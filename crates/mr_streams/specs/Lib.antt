@@ -15,3 +15,4 @@ pub mod OneNode
 pub mod Flushing
 pub mod Beginning
 pub mod Issuing
+pub mod Canary

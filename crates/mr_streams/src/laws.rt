@@ -1,5 +1,6 @@
 //! What holds of a fleet as streams of bytes.
 ghost use Rattle.mr_streams.specs.Beginning.{SetupsStart};
+ghost use Rattle.mr_streams.specs.Canary.{NoCanaryConvicts};
 ghost use Rattle.mr_streams.specs.Flushing.{FlushesPutTexts};
 ghost use Rattle.mr_streams.specs.Halves.{BytesAreSafe, ClientsAreServed};
 ghost use Rattle.mr_streams.specs.Headline.{HeadlineOverBytes};
@@ -8,6 +9,7 @@ ghost use Rattle.mr_streams.specs.OneLink.{RepliesComeBack, LinksGiveUp};
 ghost use Rattle.mr_streams.specs.OneNode.{RequestsAreDelivered};
 ghost use Rattle.mr_streams.specs.Refines.{RefinesWorld};
 
+use mr_canary::laws::no_false_alarm;
 use mr_phases::laws::hop_within;
 use mr_proxy::laws::sheets_say;
 use mr_text::laws::{
@@ -91,6 +93,15 @@ pub fn headline_over_bytes()
 {
     bytes_are_safe();
     clients_are_served();
+}
+
+/// A canary's conviction is no false alarm. Whatever happens to streams while the four premises hold: where each value is that of one set,
+/// which no node performs once it was answered with STORED, no hit convicts in what clients note of what they were told.
+pub fn no_canary_convicts()
+    ensures { NoCanaryConvicts }
+{
+    bytes_are_safe();
+    no_false_alarm();
 }
 
 /// What a loop does at a flush is what streams do where requests are answered.
