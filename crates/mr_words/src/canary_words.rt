@@ -214,11 +214,7 @@ fn span_in(matches: &ArgMatches) -> Option<Span>
     ensures missing { IfNone result ((span : Span) → ¬ IsSpan (rows_of (found_of matches.now)) span) }
 {
     if !is_given(matches, "until-migrated") {
-        return Some(Span::Seconds(number_or(
-            matches,
-            "seconds",
-            USUAL_SECONDS,
-        )?));
+        return Some(Span::Seconds(number_or(matches, "seconds", USUAL_SECONDS)?));
     }
     match text_in(matches, "seconds") {
         Some(_) => None,
