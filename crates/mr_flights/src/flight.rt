@@ -9,7 +9,7 @@ ghost use Rattle.mr_text.specs.Sink.{SinkView};
 use crate::fault::FlightFault;
 use crate::flock::Flock;
 use crate::log::Log;
-use crate::plans::{addresses_of, clients_of, plan_of};
+use crate::plans::{addresses_of, clients_of, make_canary};
 use crate::scene::{SECOND, Scene};
 use crate::seeing::write_second;
 use crate::showing::{Manner, ending_text, manner_of};
@@ -17,7 +17,7 @@ use mr_configs::Config;
 use mr_counting::{ClockWatch, sum_of};
 use mr_driver::Solo;
 use mr_printing::write_at_once;
-use mr_probes::{Canary, choose_keys};
+use mr_probes::Canary;
 use mr_servers::HostServers;
 use mr_sightings::Verdict;
 use mr_text::Sink;
@@ -37,9 +37,6 @@ const STEP: u64 = 100_000;
 
 /// How many such looks there are: five seconds of them.
 const STEPS: u32 = 50;
-
-/// The most keys that are chosen by their number, beside those that nodes without a key are given.
-const MOST_KEYS: u64 = 65_536;
 
 /// For how many seconds a canary flies on once the last migration is over.
 const LAST_SECONDS: u64 = 10;
@@ -191,6 +188,38 @@ fn end_flight<O: Sink>(
     write_ending(alloc, manner, scene, canary, log, output)
 }
 
+/// Flies to the end, once the proxies were reached: what is written of it, and whether nothing came back.
+fn fly_out<
+    R: Net<Listener = TcpListener, Stream = TcpStream>
+        + Threads
+        + Wait
+        + time::Clock
+        + RandomSource
+        + Sync,
+    O: Sink,
+>(
+    alloc: Global,
+    manner: Manner,
+    span: Span,
+    scene: &Scene<'_>,
+    servers: &HostServers<'_, R>,
+    solo: &mut Solo<'_, R, Flock>,
+    output: &mut O,
+) -> Result<bool, FlightFault>
+    ensures { FliesOut manner span (scene_of scene.now) (O.told output.old) result (O.told output.new) }
+{
+    let mut log = Log::new(alloc);
+    fly_seconds(
+        alloc, manner, span, scene, servers, solo, &mut log, output,
+    )?;
+    clean(solo)?;
+    let canary = solo.machine_mut().canary_mut();
+    let at = servers.second();
+    end_flight(
+        alloc, manner, span, scene, at, canary, &mut log, output,
+    )
+}
+
 /// Asks the proxies that these values name as their clients do, by this configuration, and writes what is seen: each second, what came
 /// back in it, and at the end a table and the verdict. Says whether nothing that was deleted came back. The first of these faults that
 /// there is: NoNumber where the machine gives no number for the run, BadPrefix where the prefix makes no key, Net where no proxy is
@@ -215,36 +244,18 @@ pub fn fly<
     let Ok(run) = servers.draw_number() else {
         return Err(FlightFault::NoNumber);
     };
-    let count = values.keys.min(MOST_KEYS) as usize;
-    let chosen = choose_keys(alloc, config.routing(), values.prefix, run, count)?;
-    let Ok(canary) = Canary::new(alloc, plan_of(values, run, chosen.keys)) else {
-        return Err(FlightFault::Memory);
-    };
-    let mut scene = Scene {
+    let flock = Flock::new(make_canary(alloc, values, config, run)?);
+    let addresses = addresses_of(alloc, values.proxies(), clients_of(values))?;
+    let watch = ClockWatch::new();
+    let mut solo = servers.open_solo(alloc, flock, addresses.as_slice(), DIAL_MILLIS, &watch)?;
+    reach(&mut solo)?;
+    let scene = Scene {
         proxies: values.proxies(),
         schedule: config.schedule(),
-        begun: 0,
+        begun: servers.microseconds().saturating_sub(solo.now()),
     };
-    let addresses = addresses_of(alloc, &scene, clients_of(values))?;
-    let watch = ClockWatch::new();
-    let mut solo = servers.open_solo(
-        alloc,
-        Flock::new(canary),
-        addresses.as_slice(),
-        DIAL_MILLIS,
-        &watch,
-    )?;
-    reach(&mut solo)?;
-    scene.begun = servers.microseconds().saturating_sub(solo.now());
     let manner = manner_of(values.json, servers.screen());
-    let mut log = Log::new(alloc);
-    fly_seconds(
-        alloc, manner, values.span, &scene, servers, &mut solo, &mut log, output,
-    )?;
-    clean(&mut solo)?;
-    let canary = solo.machine_mut().canary_mut();
-    let at = servers.second();
-    end_flight(
-        alloc, manner, values.span, &scene, at, canary, &mut log, output,
+    fly_out(
+        alloc, manner, values.span, &scene, servers, &mut solo, output,
     )
 }

@@ -72,8 +72,7 @@ impl Linked for Flock {
     fn on_link_dialed(&mut self, _number: usize)
         requires { _number < length self.old.clients }
         ensures { self.new ≡ self.old }
-    {
-    }
+    {}
 
     fn on_link_up(&mut self, number: usize, now: u64)
         requires { number < length self.old.clients }

@@ -1,8 +1,6 @@
 //! Where and when the requests of a canary were issued, as it is told.
-ghost use Rattle.std.specs.Prelude.{◌≡◌, ◌%◌, ◌/◌};
-ghost use Rattle.mr_counting.specs.Counting.{sum_of};
-ghost use Rattle.mr_phases.specs.Schedule.{hop_of, phase_of};
-ghost use Rattle.mr_flights.specs.Scene.{IsDeed, micros_of, proxies_of, proxy_of, scene_of};
+ghost use Rattle.std.specs.Prelude.{◌≡◌, map};
+ghost use Rattle.mr_flights.specs.Scene.{IsDeed, proxy_of, scene_of};
 
 use mr_counting::sum_of;
 use mr_phases::{Schedule, judge};
@@ -22,18 +20,17 @@ pub struct Scene<'a> {
     pub begun: u64,
 }
 
-impl<'a> Scene<'a> {
-    /// The address of the proxy that a client is at.
-    pub(crate) fn proxy_of(&self, client: u64) -> &'a str
-        ensures { result.now ≡ proxy_of (proxies_of self.now) client }
-    {
-        let proxies = self.proxies;
-        if proxies.is_empty() {
-            return "";
-        }
-        proxies[(client % proxies.len() as u64) as usize]
+/// The address of the proxy that a client is at: clients are at them in turn. An empty one where there is no proxy.
+pub(crate) fn proxy_of<'a>(proxies: &[&'a str], client: u64) -> &'a str
+    ensures { result.now ≡ proxy_of (map (λ proxy. proxy.now) proxies.now) client }
+{
+    if proxies.is_empty() {
+        return "";
     }
+    proxies[(client % proxies.len() as u64) as usize]
+}
 
+impl<'a> Scene<'a> {
     /// What is told of a request that a client issued, at a time of the canary's clock, in microseconds.
     pub(crate) fn deed(&self, client: u64, time: u64) -> Deed<'a>
         ensures { IsDeed (scene_of self.now) client time result }
@@ -42,7 +39,7 @@ impl<'a> Scene<'a> {
         let second = moment / SECOND;
         let judged = judge(self.schedule, second);
         Deed {
-            proxy: self.proxy_of(client),
+            proxy: proxy_of(self.proxies, client),
             second,
             micros: (moment % SECOND) as u32,
             hop: judged.hop(),
