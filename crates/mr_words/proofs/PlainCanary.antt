@@ -6,7 +6,7 @@ use Rattle.clap.specs.Kinds.{Kinds, or_else}
 use Rattle.clap.specs.Simple.{Shape, built_leaf, inherited, marked_built, with_leaf_noted}
 use Rattle.clap.specs.Walk.{Held, Walk, positional, walked, nothing_held, settled, finished}
 use Rattle.clap.specs.Words.{Row, Text, fault_of, subcommand_of}
-use Rattle.mr_words.proofs.PlainWalk.{IsPlainWord, IsWalked, Leads, after_walk, all_walked, asking, flag_before, no_words, option_before, plain_word, standing, with_flag, with_given, with_named, word_before}
+use Rattle.mr_words.proofs.PlainWalk.{IsPlainWord, IsWalked, after_walk, all_walked, asking, flag_before, no_words, option_before, plain_word, standing, with_flag, with_given, with_named, word_before}
 use Rattle.mr_words.specs.Command.{canary_app, flag_rule, program_app}
 use Rattle.mr_words.specs.Words.{IsSpan, Say, SaysCanary}
 use Rattle.mr_words.specs.declared.canary_words.CanaryValues.{CanaryValues}

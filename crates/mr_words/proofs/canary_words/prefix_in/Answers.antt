@@ -1,4 +1,4 @@
-use Rattle.std.proofs.Common.{◌≡◌, ap, codes, List, ℕ, Option}
+use Rattle.std.proofs.Common.{ap, List, ℕ, Option}
 use Rattle.std.specs.Prelude.{unwrap_or}
 use Rattle.mr_words.specs.Words.{usual_prefix}
 use Rattle.mr_words.proofs.canary_words.prefix_in.Goals as goal

@@ -1,4 +1,4 @@
-use Rattle.std.proofs.Common.{◌∙◌, sym, codes}
+use Rattle.std.proofs.Common.{◌∙◌, sym}
 use Rattle.clap.specs.Words.{found_of, rows_of}
 use Rattle.mr_words.proofs.WordLemmas.{no_span_of_both, no_span_of_seconds}
 use Rattle.mr_words.proofs.canary_words.span_in.Goals as goal
