@@ -1,1 +1,4 @@
+pub mod JsonLemmas
+pub mod PercentileLemmas
 mod SumLemmas
+pub mod TableLemmas
