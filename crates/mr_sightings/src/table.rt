@@ -1,5 +1,5 @@
 //! What was counted in each phase.
-ghost use Rattle.std.specs.Prelude.{◌≡◌, ◌+◌, ◌++◌, ◌<◌, List, [], position, length, decimal, OnOk, OnErr, IfOk};
+ghost use Rattle.std.specs.Prelude.{◌≡◌, ◌+◌, ◌++◌, ◌<◌, [], position, length, decimal, OnOk, OnErr, IfOk};
 ghost use Rattle.mr_phases.specs.PhaseText.{phase_text};
 ghost use Rattle.mr_sightings.specs.Table.{is_same_phase, is_of, with_tally, with_more, percent_text, rate_text, slowest_cell, table_head, times_cells, row_text, rows_text, table_text};
 ghost use Rattle.mr_sightings.specs.Percentile.{bound_said, percentile_of};
@@ -47,6 +47,9 @@ pub struct Table {
 }
 
 impl Model for Table {
+    ghost use Rattle.std.specs.Prelude.{List};
+    ghost use Rattle.mr_sightings.specs.declared.table.Row.{Row};
+
     ghost Value = { List Row };
 
     ghost view = { λ table. table.rows.items };
