@@ -2,3 +2,4 @@ pub mod JsonLemmas
 pub mod PercentileLemmas
 mod SumLemmas
 pub mod TableLemmas
+pub mod TextLemmas

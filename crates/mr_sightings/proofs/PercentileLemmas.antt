@@ -23,7 +23,7 @@ answer_here (count ∷ counts) (suc index) place left d within here = answer_her
 
 -- an answer behind it
 pub answer_behind : (counts : List ℕ) (index place left : ℕ) (d : ℕ) → index < length counts → get_or counts index d ≤ left
-    → slice_get (each_place place (drop index counts)) left ≡ slice_get (each_place (place + 1) (drop (index + 1) counts)) (left - get_or counts index d)
+    → slice_get (each_place place (drop index counts)) left ≡ slice_get (each_place (place + 1) (drop (suc index) counts)) (left - get_or counts index d)
 answer_behind [] index place left d within behind = absurd (omega arith)
 answer_behind (count ∷ counts) zero place left d within behind = behind_this count place left (each_place (place + 1) counts) behind
 answer_behind (count ∷ counts) (suc index) place left d within behind = answer_behind counts index place left d (omega arith) behind

@@ -1,6 +1,9 @@
 -- How a row is found, and what more is counted in it.
-use Rattle.std.proofs.Common.{◌≡◌, ℕ, zero, suc, ◌+◌, ◌<◌, ◌≤◌, Bool, true, false, List, [], ◌∷◌, ◌++◌, length, set, get_or, Option, Some, None, refl, ap, ◌∙◌, sym, arith, if◌then◌else◌}
+use Rattle.std.proofs.Common.{◌≡◌, ℕ, zero, suc, ◌+◌, ◌<◌, ◌≤◌, Bool, true, false, List, [], ◌∷◌, ◌++◌, length, set, get_or, Option, Some, None, nat_lt, refl, ap, arith, if◌then◌else◌}
 use Rattle.std.specs.Prelude.{position}
+use Rattle.std.specs.List.{position_or_len}
+use Rattle.std.proofs.lemmas.List.Sums.{fails_before_first}
+use borrow.Author.Tests.{ltb-false}
 use Rattle.mr_phases.specs.declared.phase_name.PhaseName.{PhaseName}
 use Rattle.mr_sightings.specs.Table.{is_of, with_tally, with_more}
 use Rattle.mr_sightings.specs.Tally.{tally_sum}
@@ -24,8 +27,27 @@ more_at hop phase tally (row ∷ rows) (suc place) d within here before =
     let other = before 0 (omega arith) in
     rw other (ap (λ rest. row ∷ rest) (more_at hop phase tally rows place d (omega arith) here (λ k h. before (suc k) (omega arith))))
 
+some_if : {X : Type 0} → (test : Bool) (x : X) → (if test then Some x else None) ≡ None → test ≡ false
+some_if false x none = refl
+some_if true x none = cc
+
+-- a list of which no element is found has none that passes
+no_first : (test : Row → Bool) (rows : List Row) → length rows ≤ position_or_len test rows → (k : ℕ) (d : Row) → k < length rows → test (get_or rows k d) ≡ false
+no_first test rows none k d within = fails_before_first test rows k d (let before : k < position_or_len test rows = omega arith in before)
+
+-- a row behind all that are of other phases
+new_row_behind : (hop : ℕ) (phase : PhaseName) (tally : Tally) (rows : List Row) (d : Row) → ((k : ℕ) → k < length rows → is_of hop phase (get_or rows k d) ≡ false)
+    → rows ++ record { hop = hop; phase = phase; tally = tally } ∷ [] ≡ with_tally hop phase tally rows
+new_row_behind hop phase tally [] d others = refl
+new_row_behind hop phase tally (row ∷ rows) d others =
+    let other = others 0 (omega arith) in
+    rw other (ap (λ rest. row ∷ rest) (new_row_behind hop phase tally rows d (λ k h. others (suc k) (omega arith))))
+
 -- no row is of the phase
 pub new_row : (hop : ℕ) (phase : PhaseName) (tally : Tally) (rows : List Row) → position (is_of hop phase) rows ≡ None
     → rows ++ record { hop = hop; phase = phase; tally = tally } ∷ [] ≡ with_tally hop phase tally rows
-new_row hop phase tally [] none = refl
-new_row hop phase tally (row ∷ rows) none = ?
+new_row hop phase tally rows none =
+    let missed = some_if (nat_lt (position_or_len (is_of hop phase) rows) (length rows)) (position_or_len (is_of hop phase) rows) none in
+    let behind : length rows ≤ position_or_len (is_of hop phase) rows = omega (arith, ltb-false (position_or_len (is_of hop phase) rows) (length rows) missed) in
+    let blank : Row = record { hop = hop; phase = phase; tally = tally } in
+    new_row_behind hop phase tally rows blank (λ k within. no_first (is_of hop phase) rows behind k blank within)

@@ -4,11 +4,18 @@ use Rattle.mr_sightings.specs.Shown.{printable, digits_of, place_text}
 use Rattle.mr_sightings.specs.declared.came_back.CameBack.{CameBack}
 use Rattle.mr_sightings.specs.declared.came_back.Deed.{Deed}
 
--- who was asked for what, and when: the line of a request
-abbrev pub deed_line : List ℕ → Deed → List ℕ
+-- what was asked, and who was
+unfoldable pub who_text : List ℕ → List ℕ → List ℕ
+who_text name proxy = codes "  " ++ (name ++ (codes "at " ++ proxy))
+
+-- when that was, to the microsecond
+unfoldable pub moment_text : ℕ → ℕ → List ℕ
+moment_text second micros = codes ", second " ++ (decimal second ++ (codes "." ++ digits_of 6 micros))
+
+-- the line of a request
+unfoldable pub deed_line : List ℕ → Deed → List ℕ
 deed_line name deed =
-    codes "  " ++ (name ++ (codes "at " ++ (deed.proxy.now ++ (codes ", second " ++ (decimal deed.second ++ (codes "."
-    ++ (digits_of 6 deed.micros ++ (codes ", " ++ (place_text deed.phase deed.hop ++ codes "\n")))))))))
+    who_text name deed.proxy.now ++ (moment_text deed.second deed.micros ++ (codes ", " ++ (place_text deed.phase deed.hop ++ codes "\n")))
 
 -- the key, and a line for each of the three requests
 unfoldable pub came_back_text : CameBack → List ℕ

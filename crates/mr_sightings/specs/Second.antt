@@ -17,14 +17,16 @@ abbrev pub slowest_said : Option ℕ → List ℕ
 slowest_said None = codes "-"
 slowest_said (Some micros) = millis_text micros ++ codes " ms"
 
--- how many requests there were, what gets found, and how long answers took
-abbrev pub counts_text : Tally → List ℕ
-counts_text tally =
+-- how many requests there were, and what gets found
+unfoldable pub gets_text : Tally → List ℕ
+gets_text tally =
     number_of tally.requests (codes "request") (codes "requests")
-    ++ (codes ", " ++ (number_of tally.hits (codes "hit") (codes "hits")
-    ++ (codes ", " ++ (number_of tally.misses (codes "miss") (codes "misses")
-    ++ (codes ", median " ++ (time_said (median_of tally)
-    ++ (codes ", greatest " ++ slowest_said (slowest_of tally.greatest (median_of tally)))))))))
+    ++ (codes ", " ++ (number_of tally.hits (codes "hit") (codes "hits") ++ (codes ", " ++ number_of tally.misses (codes "miss") (codes "misses"))))
+
+-- how long answers took
+unfoldable pub times_text : Tally → List ℕ
+times_text tally =
+    codes ", median " ++ (time_said (median_of tally) ++ (codes ", greatest " ++ slowest_said (slowest_of tally.greatest (median_of tally))))
 
 -- how many requests came to nothing
 abbrev pub errors_of : List ℕ → ℕ
@@ -43,18 +45,26 @@ each_error before (trouble ∷ more) troubles =
     else error_text before (slice_index troubles (place_of trouble)) trouble ++ each_error (codes ", ") more troubles
 
 -- how many requests came to nothing, and why; nothing where none did
-abbrev pub errors_text : List ℕ → List ℕ
+unfoldable pub errors_text : List ℕ → List ℕ
 errors_text troubles =
     if nat_eq (errors_of troubles) 0
     then []
     else codes ", errors " ++ (decimal (errors_of troubles) ++ each_error (codes ": ") all_troubles troubles)
 
--- how often what was deleted came back; nothing where it didn't
-abbrev pub came_back_part : ℕ → List ℕ
-came_back_part count = if nat_eq count 0 then [] else codes ", came back " ++ decimal count
+-- how often what was deleted came back
+unfoldable pub back_text : ℕ → List ℕ
+back_text count = codes ", came back " ++ decimal count
+
+-- the same; nothing where it didn't
+unfoldable pub came_back_part : ℕ → List ℕ
+came_back_part count = if nat_eq count 0 then [] else back_text count
+
+-- which second it is, and in which phase
+unfoldable pub head_text : Second → List ℕ
+head_text second = codes "second " ++ (decimal second.at ++ (codes " " ++ (place_text second.phase second.hop ++ codes ": ")))
 
 -- the line of a second
 unfoldable pub second_text : Second → List ℕ
 second_text second =
-    codes "second " ++ (decimal second.at ++ (codes " " ++ (place_text second.phase second.hop ++ (codes ": " ++ (counts_text second.tally
-    ++ (errors_text second.tally.troubles ++ (came_back_part second.came_back ++ codes "\n")))))))
+    head_text second ++ (gets_text second.tally ++ (times_text second.tally ++ (errors_text second.tally.troubles ++ (came_back_part second.came_back
+    ++ codes "\n"))))

@@ -16,11 +16,11 @@ abbrev pub padding : ℕ → List ℕ
 padding count = take (min count 16) (codes "                ")
 
 -- a word at the right of so many columns
-abbrev pub right : ℕ → List ℕ → List ℕ
+unfoldable pub right : ℕ → List ℕ → List ℕ
 right columns word = padding (columns - length word) ++ word
 
 -- a word at the left of so many columns
-abbrev pub left : ℕ → List ℕ → List ℕ
+unfoldable pub left : ℕ → List ℕ → List ℕ
 left columns word = word ++ padding (columns - length word)
 
 -- so many zeros, up to 6
@@ -28,11 +28,11 @@ abbrev pub zeros : ℕ → List ℕ
 zeros count = take (min count 6) (codes "000000")
 
 -- a number in as many digits at least
-abbrev pub digits_of : ℕ → ℕ → List ℕ
+unfoldable pub digits_of : ℕ → ℕ → List ℕ
 digits_of width number = zeros (width - length (decimal number)) ++ decimal number
 
 -- microseconds as milliseconds, with three decimals
-abbrev pub millis_text : ℕ → List ℕ
+unfoldable pub millis_text : ℕ → List ℕ
 millis_text micros = decimal (micros / 1000) ++ (codes "." ++ digits_of 3 (micros % 1000))
 
 -- a comma where so many digits follow, which is a multiple of three
@@ -53,13 +53,13 @@ abbrev pub noun_of : ℕ → List ℕ → List ℕ → List ℕ
 noun_of number one many = if nat_eq number 1 then one else many
 
 -- a number and its noun
-abbrev pub number_of : ℕ → List ℕ → List ℕ → List ℕ
+unfoldable pub number_of : ℕ → List ℕ → List ℕ → List ℕ
 number_of number one many = decimal number ++ (codes " " ++ noun_of number one many)
 
 -- the same with commas
-abbrev pub great_number_of : ℕ → List ℕ → List ℕ → List ℕ
+unfoldable pub great_number_of : ℕ → List ℕ → List ℕ → List ℕ
 great_number_of number one many = with_commas number ++ (codes " " ++ noun_of number one many)
 
 -- a phase and the migration that it is of
-abbrev pub place_text : PhaseName → ℕ → List ℕ
+unfoldable pub place_text : PhaseName → ℕ → List ℕ
 place_text phase hop = phase_text phase ++ (codes " of hop " ++ decimal hop)

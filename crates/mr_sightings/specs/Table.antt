@@ -34,7 +34,7 @@ with_more zero tally (row ∷ rows) = record row { tally = tally_sum row.tally t
 with_more (suc place) tally (row ∷ rows) = row ∷ with_more place tally rows
 
 -- of so many gets this many found a value: in percent with one decimal, and what is left over is left out
-abbrev pub percent_text : ℕ → ℕ → List ℕ
+unfoldable pub percent_text : ℕ → ℕ → List ℕ
 percent_text hits gets = decimal (hits * 1000 / gets / 10) ++ (codes "." ++ decimal (hits * 1000 / gets % 10))
 
 -- how many gets found a value; a dash where none was answered
@@ -51,18 +51,23 @@ unfoldable pub table_head : List ℕ
 table_head = codes " hop  phase              requests   hits %     p50 ms     p99 ms        max ms\n"
 
 -- how long answers took
-abbrev pub times_cells : Tally → List ℕ
+unfoldable pub times_cells : Tally → List ℕ
 times_cells tally =
     right 9 (bound_said (percentile_of 50 tally.times.counts))
     ++ (codes "  " ++ (right 9 (bound_said (percentile_of 99 tally.times.counts))
     ++ (codes "  " ++ right 12 (slowest_cell (slowest_of tally.greatest (percentile_of 50 tally.times.counts))))))
 
+-- of which phase a row is
+unfoldable pub place_cells : Row → List ℕ
+place_cells row = right 4 (decimal row.hop) ++ (codes "  " ++ (left 13 (phase_text row.phase) ++ codes "  "))
+
+-- how many requests there were, and what gets found
+unfoldable pub gets_cells : Tally → List ℕ
+gets_cells tally = right 12 (decimal tally.requests) ++ (codes "  " ++ (right 7 (rate_text tally.hits tally.misses) ++ codes "  "))
+
 -- the row of a phase
-abbrev pub row_text : Row → List ℕ
-row_text row =
-    right 4 (decimal row.hop) ++ (codes "  " ++ (left 13 (phase_text row.phase)
-    ++ (codes "  " ++ (right 12 (decimal row.tally.requests) ++ (codes "  " ++ (right 7 (rate_text row.tally.hits row.tally.misses)
-    ++ (codes "  " ++ (times_cells row.tally ++ codes "\n"))))))))
+unfoldable pub row_text : Row → List ℕ
+row_text row = place_cells row ++ (gets_cells row.tally ++ (times_cells row.tally ++ codes "\n"))
 
 -- the rows, in order
 abbrev pub rows_text : List Row → List ℕ

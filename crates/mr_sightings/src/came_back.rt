@@ -1,6 +1,6 @@
 //! What is told where something came back that was deleted.
 ghost use Rattle.std.specs.Prelude.{◌≡◌, ◌++◌, OnOk, IfOk};
-ghost use Rattle.mr_sightings.specs.CameBack.{deed_line, came_back_text};
+ghost use Rattle.mr_sightings.specs.CameBack.{who_text, moment_text, deed_line, came_back_text};
 
 use crate::shown::{push_digits, push_number, push_place, push_printable};
 use mr_phases::PhaseName;
@@ -34,18 +34,37 @@ pub struct CameBack<'a> {
     pub get: Deed<'a>,
 }
 
-/// Adds the line of a request, whose name fills eight columns.
-fn push_deed(text: &mut Vec<u8>, name: &str, deed: &Deed<'_>) -> Result<(), AllocError>
-    ensures { OnOk result (text.new.items ≡ text.old.items ++ deed_line name.now deed.now) }
+/// Adds what was asked, in a word of eight columns, and who was.
+#[tactic(auto, unfolding(crate::specs::CameBack::who_text))]
+fn push_who(text: &mut Vec<u8>, name: &[u8], proxy: &str) -> Result<(), AllocError>
+    ensures { OnOk result (text.new.items ≡ text.old.items ++ who_text name.now proxy.now) }
 {
     text.extend_from_slice(b"  ")?;
-    text.extend_from_slice(name.as_bytes())?;
+    text.extend_from_slice(name)?;
     text.extend_from_slice(b"at ")?;
-    text.extend_from_slice(deed.proxy.as_bytes())?;
+    text.extend_from_slice(proxy.as_bytes())?;
+    Ok(())
+}
+
+/// Adds when that was.
+#[tactic(auto, unfolding(crate::specs::CameBack::moment_text))]
+fn push_moment(text: &mut Vec<u8>, second: u64, micros: u32) -> Result<(), AllocError>
+    ensures { OnOk result (text.new.items ≡ text.old.items ++ moment_text second micros) }
+{
     text.extend_from_slice(b", second ")?;
-    push_number(text, deed.second)?;
+    push_number(text, second)?;
     text.extend_from_slice(b".")?;
-    push_digits(text, 6, u64::from(deed.micros))?;
+    push_digits(text, 6, u64::from(micros))?;
+    Ok(())
+}
+
+/// Adds the line of a request.
+#[tactic(auto, unfolding(crate::specs::CameBack::deed_line))]
+fn push_deed(text: &mut Vec<u8>, name: &[u8], deed: &Deed<'_>) -> Result<(), AllocError>
+    ensures { OnOk result (text.new.items ≡ text.old.items ++ deed_line name.now deed.now) }
+{
+    push_who(text, name, deed.proxy)?;
+    push_moment(text, deed.second, deed.micros)?;
     text.extend_from_slice(b", ")?;
     push_place(text, deed.phase, deed.hop)?;
     text.extend_from_slice(b"\n")?;
@@ -60,9 +79,9 @@ fn push_came_back(text: &mut Vec<u8>, found: &CameBack<'_>) -> Result<(), AllocE
     text.extend_from_slice(b"came back: ")?;
     push_printable(text, found.key)?;
     text.extend_from_slice(b"\n")?;
-    push_deed(text, "set     ", &found.set)?;
-    push_deed(text, "delete  ", &found.delete)?;
-    push_deed(text, "get     ", &found.get)?;
+    push_deed(text, b"set     ", &found.set)?;
+    push_deed(text, b"delete  ", &found.delete)?;
+    push_deed(text, b"get     ", &found.get)?;
     Ok(())
 }
 

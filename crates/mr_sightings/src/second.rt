@@ -2,7 +2,7 @@
 ghost use Rattle.std.specs.Prelude.{◌≡◌, ◌++◌, fold, OnOk, IfOk, IfSome, ◌<◌, codes};
 ghost use Rattle.mr_counting.specs.Counting.{sum_of};
 ghost use Rattle.mr_sightings.specs.Percentile.{time_said};
-ghost use Rattle.mr_sightings.specs.Second.{median_of, slowest_said, counts_text, errors_of, error_text, each_error, errors_text, came_back_part, second_text};
+ghost use Rattle.mr_sightings.specs.Second.{median_of, slowest_said, gets_text, times_text, errors_of, error_text, each_error, errors_text, back_text, came_back_part, head_text, second_text};
 
 use crate::percentile::{bound_said, percentile_of, slowest_of};
 use crate::shown::{push_millis, push_number, push_number_of, push_place};
@@ -61,16 +61,25 @@ fn push_slowest(text: &mut Vec<u8>, slowest: Option<u64>) -> Result<(), AllocErr
     Ok(())
 }
 
-/// Adds how many requests there were, what gets found, and how long answers took.
-fn push_counts(text: &mut Vec<u8>, tally: &Tally) -> Result<(), AllocError>
-    ensures { OnOk result (text.new.items ≡ text.old.items ++ counts_text tally.now) }
+/// Adds how many requests there were, and what gets found.
+#[tactic(auto, unfolding(crate::specs::Second::gets_text))]
+fn push_gets(text: &mut Vec<u8>, tally: &Tally) -> Result<(), AllocError>
+    ensures { OnOk result (text.new.items ≡ text.old.items ++ gets_text tally.now) }
 {
-    let median = median_of(tally);
     push_number_of(text, tally.requests, "request", "requests")?;
     text.extend_from_slice(b", ")?;
     push_number_of(text, tally.hits, "hit", "hits")?;
     text.extend_from_slice(b", ")?;
     push_number_of(text, tally.misses, "miss", "misses")?;
+    Ok(())
+}
+
+/// Adds how long answers took.
+#[tactic(auto, unfolding(crate::specs::Second::times_text))]
+fn push_times(text: &mut Vec<u8>, tally: &Tally) -> Result<(), AllocError>
+    ensures { OnOk result (text.new.items ≡ text.old.items ++ times_text tally.now) }
+{
+    let median = median_of(tally);
     text.extend_from_slice(b", median ")?;
     push_time(text, median)?;
     text.extend_from_slice(b", greatest ")?;
@@ -92,13 +101,13 @@ fn errors_of(troubles: &[u64; 11]) -> u64
 /// Adds a reason, and how often it was seen, behind what stands before it.
 fn push_error(
     text: &mut Vec<u8>,
-    before: &str,
+    before: &[u8],
     count: u64,
     trouble: Trouble,
 ) -> Result<(), AllocError>
     ensures { OnOk result (text.new.items ≡ text.old.items ++ error_text before.now count trouble) }
 {
-    text.extend_from_slice(before.as_bytes())?;
+    text.extend_from_slice(before)?;
     push_number(text, count)?;
     text.extend_from_slice(b" ")?;
     text.extend_from_slice(trouble.as_str().as_bytes())?;
@@ -113,18 +122,19 @@ fn push_each_error(
 ) -> Result<(), AllocError>
     ensures { OnOk result (text.new.items ≡ text.old.items ++ each_error (codes ": ") reasons.now troubles.now) }
 {
-    let mut before = ": ";
+    let mut before: &[u8] = b": ";
     for reason in reasons {
         let count = troubles[reason.place()];
         if count > 0 {
             push_error(text, before, count, *reason)?;
-            before = ", ";
+            before = b", ";
         }
     }
     Ok(())
 }
 
 /// Adds how many requests came to nothing, and why, where some did.
+#[tactic(auto, unfolding(crate::specs::Second::errors_text))]
 fn push_errors(text: &mut Vec<u8>, troubles: &[u64; 11]) -> Result<(), AllocError>
     ensures { OnOk result (text.new.items ≡ text.old.items ++ errors_text troubles.now) }
 {
@@ -137,14 +147,36 @@ fn push_errors(text: &mut Vec<u8>, troubles: &[u64; 11]) -> Result<(), AllocErro
     Ok(())
 }
 
-/// Adds how often what was deleted came back, where it did.
+/// Adds how often what was deleted came back.
+fn push_back(text: &mut Vec<u8>, count: u64) -> Result<(), AllocError>
+    ensures { OnOk result (text.new.items ≡ text.old.items ++ back_text count) }
+{
+    text.extend_from_slice(b", came back ")?;
+    push_number(text, count)?;
+    Ok(())
+}
+
+/// Adds the same where it did.
+#[tactic(auto, unfolding(crate::specs::Second::came_back_part))]
 fn push_came_back(text: &mut Vec<u8>, count: u64) -> Result<(), AllocError>
     ensures { OnOk result (text.new.items ≡ text.old.items ++ came_back_part count) }
 {
     if count > 0 {
-        text.extend_from_slice(b", came back ")?;
-        push_number(text, count)?;
+        push_back(text, count)?;
     }
+    Ok(())
+}
+
+/// Adds which second it is, and in which phase.
+#[tactic(auto, unfolding(crate::specs::Second::head_text))]
+fn push_head(text: &mut Vec<u8>, second: &Second) -> Result<(), AllocError>
+    ensures { OnOk result (text.new.items ≡ text.old.items ++ head_text second.now) }
+{
+    text.extend_from_slice(b"second ")?;
+    push_number(text, second.at)?;
+    text.extend_from_slice(b" ")?;
+    push_place(text, second.phase, second.hop)?;
+    text.extend_from_slice(b": ")?;
     Ok(())
 }
 
@@ -153,12 +185,9 @@ fn push_came_back(text: &mut Vec<u8>, count: u64) -> Result<(), AllocError>
 fn push_second(text: &mut Vec<u8>, second: &Second) -> Result<(), AllocError>
     ensures { OnOk result (text.new.items ≡ text.old.items ++ second_text second.now) }
 {
-    text.extend_from_slice(b"second ")?;
-    push_number(text, second.at)?;
-    text.extend_from_slice(b" ")?;
-    push_place(text, second.phase, second.hop)?;
-    text.extend_from_slice(b": ")?;
-    push_counts(text, &second.tally)?;
+    push_head(text, second)?;
+    push_gets(text, &second.tally)?;
+    push_times(text, &second.tally)?;
     push_errors(text, &second.tally.troubles)?;
     push_came_back(text, second.came_back)?;
     text.extend_from_slice(b"\n")?;

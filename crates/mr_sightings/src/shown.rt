@@ -45,6 +45,7 @@ fn push_padding(text: &mut Vec<u8>, count: usize) -> Result<(), AllocError>
 }
 
 /// Adds a word at the right of so many columns.
+#[tactic(auto, unfolding(crate::specs::Shown::right))]
 pub(crate) fn push_right(text: &mut Vec<u8>, columns: usize, word: &[u8]) -> Result<(), AllocError>
     ensures { OnOk result (text.new.items ≡ text.old.items ++ right columns word.now) }
 {
@@ -54,6 +55,7 @@ pub(crate) fn push_right(text: &mut Vec<u8>, columns: usize, word: &[u8]) -> Res
 }
 
 /// Adds a word at the left of so many columns.
+#[tactic(auto, unfolding(crate::specs::Shown::left))]
 pub(crate) fn push_left(text: &mut Vec<u8>, columns: usize, word: &[u8]) -> Result<(), AllocError>
     ensures { OnOk result (text.new.items ≡ text.old.items ++ left columns word.now) }
 {
@@ -81,6 +83,7 @@ fn push_zeros(text: &mut Vec<u8>, count: usize) -> Result<(), AllocError>
 }
 
 /// Adds a number in as many digits at least, with zeros in front.
+#[tactic(auto, unfolding(crate::specs::Shown::digits_of))]
 pub(crate) fn push_digits(text: &mut Vec<u8>, width: usize, number: u64) -> Result<(), AllocError>
     ensures { OnOk result (text.new.items ≡ text.old.items ++ digits_of width number) }
 {
@@ -92,6 +95,7 @@ pub(crate) fn push_digits(text: &mut Vec<u8>, width: usize, number: u64) -> Resu
 }
 
 /// Adds microseconds as milliseconds, with three decimals.
+#[tactic(auto, unfolding(crate::specs::Shown::millis_text))]
 pub(crate) fn push_millis(text: &mut Vec<u8>, micros: u64) -> Result<(), AllocError>
     ensures { OnOk result (text.new.items ≡ text.old.items ++ millis_text micros) }
 {
@@ -150,6 +154,7 @@ pub(crate) fn push_noun(
 }
 
 /// Adds a number and its noun.
+#[tactic(auto, unfolding(crate::specs::Shown::number_of))]
 pub(crate) fn push_number_of(
     text: &mut Vec<u8>,
     number: u64,
@@ -165,6 +170,7 @@ pub(crate) fn push_number_of(
 }
 
 /// Adds a number with commas between its thousands, and its noun.
+#[tactic(auto, unfolding(crate::specs::Shown::great_number_of))]
 pub(crate) fn push_great_number_of(
     text: &mut Vec<u8>,
     number: u64,
@@ -180,6 +186,7 @@ pub(crate) fn push_great_number_of(
 }
 
 /// Adds a phase and the migration that it is of.
+#[tactic(auto, unfolding(crate::specs::Shown::place_text))]
 pub(crate) fn push_place(text: &mut Vec<u8>, phase: PhaseName, hop: u32) -> Result<(), AllocError>
     ensures { OnOk result (text.new.items ≡ text.old.items ++ place_text phase hop) }
 {

@@ -1,7 +1,7 @@
 //! What was counted in each phase.
 ghost use Rattle.std.specs.Prelude.{◌≡◌, ◌+◌, ◌++◌, ◌<◌, [], position, length, decimal, OnOk, OnErr, IfOk};
 ghost use Rattle.mr_phases.specs.PhaseText.{phase_text};
-ghost use Rattle.mr_sightings.specs.Table.{is_same_phase, is_of, with_tally, with_more, percent_text, rate_text, slowest_cell, table_head, times_cells, row_text, rows_text, table_text};
+ghost use Rattle.mr_sightings.specs.Table.{is_same_phase, is_of, with_tally, with_more, percent_text, rate_text, slowest_cell, table_head, times_cells, place_cells, gets_cells, row_text, rows_text, table_text};
 ghost use Rattle.mr_sightings.specs.Percentile.{bound_said, percentile_of};
 ghost use Rattle.mr_sightings.specs.Shown.{right};
 
@@ -112,6 +112,7 @@ impl Table {
 }
 
 /// Adds of how many gets how many found a value, in percent.
+#[tactic(auto, unfolding(crate::specs::Table::percent_text))]
 fn push_percent(text: &mut Vec<u8>, hits: u64, gets: u128) -> Result<(), AllocError>
     requires { 0 < gets }
     ensures { OnOk result (text.new.items ≡ text.old.items ++ percent_text hits gets) }
@@ -159,6 +160,7 @@ fn push_count(text: &mut Vec<u8>, columns: usize, count: u64) -> Result<(), Allo
 }
 
 /// Adds how long answers took.
+#[tactic(auto, unfolding(crate::specs::Table::times_cells))]
 fn push_times(alloc: Global, text: &mut Vec<u8>, tally: &Tally) -> Result<(), AllocError>
     ensures { OnOk result (text.new.items ≡ text.old.items ++ times_cells tally.now) }
 {
@@ -176,19 +178,38 @@ fn push_times(alloc: Global, text: &mut Vec<u8>, tally: &Tally) -> Result<(), Al
     Ok(())
 }
 
-/// Adds the row of a phase.
-fn push_row(alloc: Global, text: &mut Vec<u8>, row: &Row) -> Result<(), AllocError>
-    ensures { OnOk result (text.new.items ≡ text.old.items ++ row_text row.now) }
+/// Adds of which phase a row is.
+#[tactic(auto, unfolding(crate::specs::Table::place_cells))]
+fn push_place(text: &mut Vec<u8>, row: &Row) -> Result<(), AllocError>
+    ensures { OnOk result (text.new.items ≡ text.old.items ++ place_cells row.now) }
 {
-    let rate = rate_text(alloc, row.tally.hits, row.tally.misses)?;
     push_count(text, 4, u64::from(row.hop))?;
     text.extend_from_slice(b"  ")?;
     push_left(text, 13, row.phase.as_str().as_bytes())?;
     text.extend_from_slice(b"  ")?;
-    push_count(text, 12, row.tally.requests)?;
+    Ok(())
+}
+
+/// Adds how many requests there were, and what gets found.
+#[tactic(auto, unfolding(crate::specs::Table::gets_cells))]
+fn push_gets(alloc: Global, text: &mut Vec<u8>, tally: &Tally) -> Result<(), AllocError>
+    ensures { OnOk result (text.new.items ≡ text.old.items ++ gets_cells tally.now) }
+{
+    let rate = rate_text(alloc, tally.hits, tally.misses)?;
+    push_count(text, 12, tally.requests)?;
     text.extend_from_slice(b"  ")?;
     push_right(text, 7, rate.as_slice())?;
     text.extend_from_slice(b"  ")?;
+    Ok(())
+}
+
+/// Adds the row of a phase.
+#[tactic(auto, unfolding(crate::specs::Table::row_text))]
+fn push_row(alloc: Global, text: &mut Vec<u8>, row: &Row) -> Result<(), AllocError>
+    ensures { OnOk result (text.new.items ≡ text.old.items ++ row_text row.now) }
+{
+    push_place(text, row)?;
+    push_gets(alloc, text, &row.tally)?;
     push_times(alloc, text, &row.tally)?;
     text.extend_from_slice(b"\n")?;
     Ok(())

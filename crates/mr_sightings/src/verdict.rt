@@ -1,6 +1,6 @@
 //! What a canary comes to.
 ghost use Rattle.std.specs.Prelude.{◌≡◌, ◌++◌, OnOk, IfOk};
-ghost use Rattle.mr_sightings.specs.Verdict.{finding_text, asked_text, left_text, verdict_text};
+ghost use Rattle.mr_sightings.specs.Verdict.{nothing_text, found_text, finding_text, asked_text, acknowledged_text, left_text, verdict_text};
 
 use crate::shown::{push_great_number_of, push_noun};
 use std::alloc::{AllocError, Global};
@@ -20,20 +20,38 @@ pub struct Verdict {
     pub left: u64,
 }
 
+/// Adds that it found nothing.
+#[tactic(auto, unfolding(crate::specs::Verdict::nothing_text))]
+fn push_nothing(text: &mut Vec<u8>) -> Result<(), AllocError>
+    ensures { OnOk result (text.new.items ≡ text.old.items ++ nothing_text) }
+{
+    text.extend_from_slice(b"nothing that was deleted came back")?;
+    Ok(())
+}
+
+/// Adds how often it found something.
+fn push_found(text: &mut Vec<u8>, count: u64) -> Result<(), AllocError>
+    ensures { OnOk result (text.new.items ≡ text.old.items ++ found_text count) }
+{
+    text.extend_from_slice(b"what was deleted came back ")?;
+    push_great_number_of(text, count, "time", "times")?;
+    Ok(())
+}
+
 /// Adds what it found.
+#[tactic(auto, unfolding(crate::specs::Verdict::finding_text))]
 fn push_finding(text: &mut Vec<u8>, count: u64) -> Result<(), AllocError>
     ensures { OnOk result (text.new.items ≡ text.old.items ++ finding_text count) }
 {
     if count == 0 {
-        text.extend_from_slice(b"nothing that was deleted came back")?;
+        push_nothing(text)
     } else {
-        text.extend_from_slice(b"what was deleted came back ")?;
-        push_great_number_of(text, count, "time", "times")?;
+        push_found(text, count)
     }
-    Ok(())
 }
 
-/// Adds what it asked.
+/// Adds whom it asked, and how often.
+#[tactic(auto, unfolding(crate::specs::Verdict::asked_text))]
 fn push_asked(text: &mut Vec<u8>, verdict: &Verdict) -> Result<(), AllocError>
     ensures { OnOk result (text.new.items ≡ text.old.items ++ asked_text verdict.now) }
 {
@@ -41,12 +59,21 @@ fn push_asked(text: &mut Vec<u8>, verdict: &Verdict) -> Result<(), AllocError>
     text.extend_from_slice(b" at ")?;
     push_great_number_of(text, verdict.proxies, "proxy", "proxies")?;
     text.extend_from_slice(b", ")?;
-    push_great_number_of(text, verdict.acknowledged, "delete", "deletes")?;
+    Ok(())
+}
+
+/// Adds how many deletes were acknowledged.
+#[tactic(auto, unfolding(crate::specs::Verdict::acknowledged_text))]
+fn push_acknowledged(text: &mut Vec<u8>, count: u64) -> Result<(), AllocError>
+    ensures { OnOk result (text.new.items ≡ text.old.items ++ acknowledged_text count) }
+{
+    push_great_number_of(text, count, "delete", "deletes")?;
     text.extend_from_slice(b" acknowledged\n")?;
     Ok(())
 }
 
 /// Adds how many keys it leaves, where it leaves some.
+#[tactic(auto, unfolding(crate::specs::Verdict::left_text))]
 fn push_left_keys(text: &mut Vec<u8>, count: u64) -> Result<(), AllocError>
     ensures { OnOk result (text.new.items ≡ text.old.items ++ left_text count) }
 {
@@ -70,6 +97,7 @@ fn push_verdict(text: &mut Vec<u8>, verdict: &Verdict) -> Result<(), AllocError>
     push_finding(text, verdict.came_back)?;
     text.extend_from_slice(b": ")?;
     push_asked(text, verdict)?;
+    push_acknowledged(text, verdict.acknowledged)?;
     push_left_keys(text, verdict.left)?;
     Ok(())
 }
