@@ -26,31 +26,31 @@ second_false false b none = none
 second_false true b none = cc
 
 -- a member more that is no float
-put_no_float : (name : List ℕ) (value : Data) (members : Members) → has_float value ≡ false → members_have_float members ≡ false
-    → members_have_float (put name value members) ≡ false
+put_no_float : (name : List ℕ) (value : Data) (rest : Members) → has_float value ≡ false → members_have_float rest ≡ false
+    → members_have_float (put name value rest) ≡ false
 put_no_float name value no_members plain others = rw plain refl
-put_no_float name value (member other before members) plain others =
-    go (put_no_float name value members plain (second_false (has_float before) (members_have_float members) others)) (slice_cmp nat_cmp name other)
+put_no_float name value (member other before rest) plain others =
+    go (put_no_float name value rest plain (second_false (has_float before) (members_have_float rest) others)) (slice_cmp nat_cmp name other)
   where
-    go : members_have_float (put name value members) ≡ false → (order : Ordering)
-        → members_have_float (match_ordering order (member name value (member other before members)) (member other value members) (member other before (put name value members))) ≡ false
+    go : members_have_float (put name value rest) ≡ false → (order : Ordering)
+        → members_have_float (match_ordering order (member name value (member other before rest)) (member other value rest) (member other before (put name value rest))) ≡ false
     go more Less = rw plain others
-    go more Equal = rw plain (second_false (has_float before) (members_have_float members) others)
-    go more Greater = rw (first_false (has_float before) (members_have_float members) others) more
+    go more Equal = rw plain (second_false (has_float before) (members_have_float rest) others)
+    go more Greater = rw (first_false (has_float before) (members_have_float rest) others) more
 
-error_no_float : (trouble : Trouble) (count : ℕ) (members : Members) → members_have_float members ≡ false → members_have_float (with_error trouble count members) ≡ false
-error_no_float trouble count members others = go (nat_eq count 0)
+error_no_float : (trouble : Trouble) (count : ℕ) (rest : Members) → members_have_float rest ≡ false → members_have_float (with_error trouble count rest) ≡ false
+error_no_float trouble count rest others = go (nat_eq count 0)
   where
-    go : (none : Bool) → members_have_float (if none then members else with_count (trouble_text trouble) count members) ≡ false
+    go : (none : Bool) → members_have_float (if none then rest else with_count (trouble_text trouble) count rest) ≡ false
     go true = others
-    go false = put_no_float (trouble_text trouble) (number_json count) members refl others
+    go false = put_no_float (trouble_text trouble) (number_json count) rest refl others
 
-errors_no_float : (reasons : List Trouble) (troubles : List ℕ) (members : Members) → members_have_float members ≡ false
-    → members_have_float (with_errors reasons troubles members) ≡ false
-errors_no_float [] troubles members others = others
-errors_no_float (reason ∷ reasons) troubles members others =
-    errors_no_float reasons troubles (with_error reason (slice_index troubles (place_of reason)) members)
-    (error_no_float reason (slice_index troubles (place_of reason)) members others)
+errors_no_float : (reasons : List Trouble) (troubles : List ℕ) (rest : Members) → members_have_float rest ≡ false
+    → members_have_float (with_errors reasons troubles rest) ≡ false
+errors_no_float [] troubles rest others = others
+errors_no_float (reason ∷ reasons) troubles rest others =
+    errors_no_float reasons troubles (with_error reason (slice_index troubles (place_of reason)) rest)
+    (error_no_float reason (slice_index troubles (place_of reason)) rest others)
 
 all_errors_no_float : (troubles : List ℕ) → has_float (errors_json troubles) ≡ false
 unfolding errors_json

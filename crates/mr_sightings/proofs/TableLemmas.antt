@@ -1,9 +1,11 @@
 -- How a row is found, and what more is counted in it.
-use Rattle.std.proofs.Common.{◌≡◌, ℕ, zero, suc, ◌+◌, ◌<◌, ◌≤◌, Bool, true, false, List, [], ◌∷◌, ◌++◌, length, set, get_or, Option, Some, None, nat_lt, refl, ap, arith, if◌then◌else◌}
+use Rattle.std.proofs.Common.{◌≡◌, ℕ, zero, suc, ◌+◌, ◌<◌, ◌≤◌, Bool, true, false, List, [], ◌∷◌, ◌++◌, length, take, drop, set, get_or, Option, Some, None, nat_lt, refl, ap, sym, ◌∙◌, arith, if◌then◌else◌}
 use Rattle.std.specs.Prelude.{position}
 use Rattle.std.specs.List.{position_or_len}
 use Rattle.std.proofs.lemmas.List.Sums.{fails_before_first}
-use borrow.Author.Tests.{ltb-false}
+use Rattle.std.proofs.lemmas.Bool.{ltb-false}
+use Rattle.std.proofs.lemmas.List.Quantifiers.{position-Some}
+use Rattle.std.proofs.Math.Seq.{take-append_seam}
 use Rattle.mr_phases.specs.declared.phase_name.PhaseName.{PhaseName}
 use Rattle.mr_sightings.specs.Table.{is_of, with_tally, with_more}
 use Rattle.mr_sightings.specs.Tally.{tally_sum}
@@ -51,3 +53,13 @@ new_row hop phase tally rows none =
     let behind : length rows ≤ position_or_len (is_of hop phase) rows = omega (arith, ltb-false (position_or_len (is_of hop phase) rows) (length rows) missed) in
     let blank : Row = record { hop = hop; phase = phase; tally = tally } in
     new_row_behind hop phase tally rows blank (λ k within. no_first (is_of hop phase) rows behind k blank within)
+
+-- the first row of the phase has more, and all rows are kept
+pub row_has_more : (hop : ℕ) (phase : PhaseName) (tally : Tally) (rows new : List Row) (place count : ℕ) → Some place ≡ position (is_of hop phase) rows
+    → new ≡ with_more place tally rows → length new ≡ count
+    → take count (new ++ drop (length new) rows) ≡ with_tally hop phase tally rows
+row_has_more hop phase tally rows new place count found more same =
+    let blank : Row = record { hop = hop; phase = phase; tally = tally } in
+    let here = position-Some (is_of hop phase) rows place blank (sym found) in
+    let whole : take count (new ++ drop (length new) rows) ≡ new = rw (← same) (take-append_seam new (drop (length new) rows)) in
+    whole ∙ more ∙ more_at hop phase tally rows place blank here.0 here.1 here.2
