@@ -1,5 +1,5 @@
 -- Where an answer lies among all.
-use Rattle.std.proofs.Common.{◌≡◌, ℕ, zero, suc, ◌+◌, ◌-◌, ◌<◌, ◌≤◌, List, [], ◌∷◌, ◌++◌, length, drop, get_or, Option, Some, None, refl, ap, ◌∙◌, sym, arith}
+use Rattle.std.proofs.Common.{◌≡◌, ℕ, zero, suc, ◌+◌, ◌-◌, ◌<◌, ◌≤◌, List, [], ◌∷◌, ◌++◌, length, drop, get_or, Some, None, refl, ap, ◌∙◌, arith}
 use Rattle.std.specs.Prelude.{replicate, slice_get}
 use Rattle.mr_sightings.specs.Percentile.{each_place}
 
@@ -27,10 +27,3 @@ pub answer_behind : (counts : List ℕ) (index place left : ℕ) (d : ℕ) → i
 answer_behind [] index place left d within behind = absurd (omega arith)
 answer_behind (count ∷ counts) zero place left d within behind = behind_this count place left (each_place (place + 1) counts) behind
 answer_behind (count ∷ counts) (suc index) place left d within behind = answer_behind counts index place left d (omega arith) behind
-
--- there is no bucket left
-pub no_answer : (counts : List ℕ) (index place left : ℕ) → length counts ≤ index → slice_get (each_place place (drop index counts)) left ≡ None
-no_answer [] zero place left past = refl
-no_answer [] (suc index) place left past = refl
-no_answer (count ∷ counts) zero place left past = absurd (omega arith)
-no_answer (count ∷ counts) (suc index) place left past = no_answer counts index place left (omega arith)

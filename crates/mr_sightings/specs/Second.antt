@@ -1,5 +1,5 @@
 -- What is told of a second.
-use Rattle.std.specs.Prelude.{ℕ, ◌+◌, nat_eq, List, [], ◌∷◌, ◌++◌, fold, slice_index, Option, Some, None, if◌then◌else◌, codes, decimal}
+use Rattle.std.specs.Prelude.{ℕ, nat_eq, List, [], ◌∷◌, ◌++◌, fold, slice_index, Option, Some, None, if◌then◌else◌, codes, decimal}
 use Rattle.mr_counting.specs.Counting.{sum_of}
 use Rattle.mr_sightings.specs.Percentile.{percentile_of, time_said, slowest_of}
 use Rattle.mr_sightings.specs.Shown.{millis_text, number_of, place_text}

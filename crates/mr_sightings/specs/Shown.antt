@@ -1,5 +1,5 @@
 -- What the texts of a canary are made of.
-use Rattle.std.specs.Prelude.{ℕ, ◌+◌, ◌-◌, ◌/◌, ◌%◌, min, nat_eq, nat_lt, ◌&&◌, List, [], ◌∷◌, ◌++◌, length, take, map, if◌then◌else◌, codes, decimal}
+use Rattle.std.specs.Prelude.{ℕ, ◌-◌, ◌/◌, ◌%◌, min, nat_eq, nat_lt, ◌&&◌, List, [], ◌∷◌, ◌++◌, length, take, map, if◌then◌else◌, codes, decimal}
 use Rattle.mr_phases.specs.PhaseText.{phase_text}
 use Rattle.mr_phases.specs.declared.phase_name.PhaseName.{PhaseName}
 

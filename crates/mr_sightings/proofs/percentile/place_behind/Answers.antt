@@ -1,4 +1,4 @@
-use Rattle.std.proofs.Common.{◌≡◌, ◌∙◌, ◌+◌, ◌<◌, ◌≤◌, add-one, length, get_or, sym, arith}
+use Rattle.std.proofs.Common.{◌∙◌, ◌<◌, ◌≤◌, add-one, length, get_or, sym, arith}
 use Rattle.mr_sightings.proofs.PercentileLemmas.{answer_here, answer_behind}
 use Rattle.mr_sightings.proofs.percentile.place_behind.Goals as goal
 
