@@ -3,6 +3,7 @@ mod forgetting;
 mod playing;
 mod refusing;
 mod rows;
+mod sightings;
 
 use std::process::Abort;
 

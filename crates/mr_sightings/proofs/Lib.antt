@@ -1,0 +1,5 @@
+pub mod JsonLemmas
+pub mod PercentileLemmas
+mod SumLemmas
+pub mod TableLemmas
+pub mod TextLemmas
