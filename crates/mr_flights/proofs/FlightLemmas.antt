@@ -14,6 +14,7 @@ use Rattle.mr_flights.specs.declared.showing.Sight.{Sight}
 use Rattle.mr_phases.specs.Schedule.{Hop}
 use Rattle.mr_probes.specs.CanaryView.{CanaryView}
 use Rattle.mr_sightings.specs.declared.second.Second.{Second}
+use Rattle.mr_sightings.specs.declared.verdict.Verdict.{Verdict}
 use Rattle.mr_text.proofs.Writes.{written_none, written_then}
 use Rattle.mr_text.specs.Sink.{SinkView, HasWritten}
 use Rattle.mr_words.specs.declared.canary_words.Span.{Span}
@@ -191,3 +192,13 @@ module _ (manner : Manner) (span : Span) (scene : SceneView) (log : LogView) (be
     flight_ended (Err NoNumber) wrote = absurd wrote
     flight_ended (Err BadPrefix) wrote = absurd wrote
     flight_ended (Err Net) wrote = absurd wrote
+
+abbrev verdict_by : ℕ → ℕ → ℕ → ℕ → ℕ → Verdict
+verdict_by came_back requests proxies acknowledged left =
+    record { came_back = came_back; requests = requests; proxies = proxies; acknowledged = acknowledged; left = left }
+
+-- one verdict, part by part
+pub same_verdict : (came_back requests proxies acknowledged left : ℕ) (came_back' requests' proxies' acknowledged' left' : ℕ)
+    → came_back ≡ came_back' → requests ≡ requests' → proxies ≡ proxies' → acknowledged ≡ acknowledged' → left ≡ left'
+    → verdict_by came_back requests proxies acknowledged left ≡ verdict_by came_back' requests' proxies' acknowledged' left'
+same_verdict came_back requests proxies acknowledged left came_back' requests' proxies' acknowledged' left' c r p a l = rw (c, r, p, a, l) refl

@@ -1,5 +1,5 @@
 -- What a canary saw in a second, and what is written of it.
-use Rattle.std.specs.Prelude.{◌≡◌, ⊤, ℕ, ◌-◌, List, [], ◌∷◌, drop, take, slice_index_or, Result, Ok, Err, Vec}
+use Rattle.std.specs.Prelude.{◌≡◌, ⊤, ℕ, ◌-◌, List, [], ◌∷◌, drop, take, slice_get, unwrap_or, Result, Ok, Err, Vec}
 use Rattle.mr_flights.specs.Log.{LogView, with_second}
 use Rattle.mr_flights.specs.Scene.{SceneView, IsDeed}
 use Rattle.mr_flights.specs.Showing.{shown}
@@ -38,7 +38,7 @@ TakesFound old (Err error) new = ⊤
 
 -- the name of the key of a number; an empty one where there is none
 abbrev pub key_at : List (List ℕ) → ℕ → List ℕ
-key_at keys number = slice_index_or keys number []
+key_at keys number = unwrap_or (slice_get keys number) []
 
 -- what is told of a conviction: the key, and the set, the delete and the get, each with the proxy that its client was at and when it was
 -- issued

@@ -134,7 +134,7 @@ fn fly_seconds<
     ensures { FliesSeconds manner span (scene_of scene.now) log.new (O.told output.old) result (O.told output.new) }
 {
     let mut end = solo.now();
-    for _ in 0..most_of(span) {
+    for number in 0..most_of(span) {
         end = sum_of(end, SECOND);
         drive(solo, end)?;
         let canary = solo.machine_mut().canary_mut();

@@ -33,7 +33,7 @@ impl Model for Log {
 fn is_migrated(schedule: &Schedule, second: &Second) -> bool
     ensures { result ≡ is_migrated schedule.now second.now }
 {
-    second.hop + 1 == schedule.hops() && second.phase == PhaseName::NewOnly
+    u64::from(second.hop) + 1 == u64::from(schedule.hops()) && second.phase == PhaseName::NewOnly
 }
 
 impl Log {

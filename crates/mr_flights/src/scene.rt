@@ -32,7 +32,9 @@ pub(crate) fn proxy_of<'a>(proxies: &[&'a str], client: u64) -> &'a str
 
 impl<'a> Scene<'a> {
     /// What is told of a request that a client issued, at a time of the canary's clock, in microseconds.
-    pub(crate) fn deed(&self, client: u64, time: u64) -> Deed<'a>
+    pub(crate) fn deed<'k>(&self, client: u64, time: u64) -> Deed<'k>
+    where
+        'a: 'k,
         ensures { IsDeed (scene_of self.now) client time result }
     {
         let moment = sum_of(self.begun, time);

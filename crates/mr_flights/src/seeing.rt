@@ -22,7 +22,7 @@ fn take_found(alloc: Global, canary: &mut Canary) -> Result<Vec<Found>, AllocErr
     ensures { TakesFound canary.old result canary.new }
 {
     let mut all = Vec::with_capacity(alloc, MOST_FOUND)?;
-    for _ in 0..MOST_FOUND {
+    for number in 0..MOST_FOUND {
         match canary.take_conviction() {
             Some(found) => all.push(found)?,
             None => return Ok(all),
@@ -42,7 +42,7 @@ fn key_of(canary: &Canary, number: usize) -> &[u8]
 }
 
 /// What is told of a conviction.
-fn told_of<'a>(scene: &Scene<'a>, canary: &'a Canary, found: &Found) -> CameBack<'a>
+fn told_of<'k, 'a: 'k>(scene: &Scene<'a>, canary: &'k Canary, found: &Found) -> CameBack<'k>
     ensures { IsTold (scene_of scene.now) canary.now.notebook.keys found.now result }
 {
     let get = found.conviction.get;
@@ -56,12 +56,12 @@ fn told_of<'a>(scene: &Scene<'a>, canary: &'a Canary, found: &Found) -> CameBack
 }
 
 /// What is told of each conviction.
-fn all_told<'a>(
+fn all_told<'k, 'a: 'k>(
     alloc: Global,
     scene: &Scene<'a>,
-    canary: &'a Canary,
+    canary: &'k Canary,
     found: &[Found],
-) -> Result<Vec<CameBack<'a>>, AllocError>
+) -> Result<Vec<CameBack<'k>>, AllocError>
     ensures { IfOk result (λ told. AreTold (scene_of scene.now) canary.now.notebook.keys found.now told.items) }
 {
     let mut all = Vec::with_capacity(alloc, found.len())?;
