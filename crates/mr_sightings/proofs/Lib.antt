@@ -3,3 +3,4 @@ pub mod PercentileLemmas
 mod SumLemmas
 pub mod TableLemmas
 pub mod TextLemmas
+pub mod WidthLemmas

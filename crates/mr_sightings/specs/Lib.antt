@@ -1,5 +1,6 @@
 pub mod CameBack
 pub mod Json
+pub mod Laws
 pub mod Outcome
 pub mod Percentile
 pub mod Second

@@ -3,6 +3,7 @@
 
 mod came_back;
 mod json;
+pub mod laws;
 mod outcome;
 mod percentile;
 mod second;
