@@ -1,0 +1,5 @@
+pub mod DigitsLemmas
+pub mod HeardLemmas
+pub mod NotebookLemmas
+pub mod RoundLemmas
+pub mod StampLemmas
