@@ -1,3 +1,4 @@
+pub mod ChoosingLemmas
 pub mod DigitsLemmas
 pub mod HeardLemmas
 pub mod NotebookLemmas

@@ -1,6 +1,11 @@
 -- What happens to clients one after the other.
-use Rattle.std.proofs.Common.{◌≡◌, ◌≢◌, ◌∙◌, ℕ, zero, suc, ◌+◌, ◌-◌, ◌<◌, ◌≤◌, ◌⊎◌, inl, inr, Bool, true, false, MatchBool, List, [], ◌∷◌, ◌++◌, length, get_or, set, Option, Some, None, slice_get, slice_set, refl, sym, ap, subst, arith}
+use Rattle.std.proofs.Common.{◌≡◌, ◌≢◌, ◌∙◌, ℕ, zero, suc, ◌+◌, ◌-◌, ◌<◌, ◌≤◌, ◌⊎◌, inl, inr, Bool, true, false, MatchBool, List, [], ◌∷◌, ◌++◌, length, get_or, is_some, Option, Some, None, slice_get, slice_set, refl, sym, ap, subst, arith}
 use Rattle.std.specs.List.{range_with_len}
+use Rattle.std.specs.Prelude.{Vec, vec_len, MatchOption}
+use Rattle.std.specs.Vec.{with_items}
+use Rattle.std.proofs.lemmas.List.{with_items_is}
+use Rattle.mr_canary.specs.JudgeView.{JudgeView}
+use Rattle.mr_probes.specs.NotebookView.{IsFirstSet, NeverSetBetween}
 use Rattle.std.proofs.lemmas.List.{set_past}
 use Rattle.std.proofs.lemmas.Option.{slice_get_past, slice_get-get_or}
 use Rattle.mr_probes.specs.CanaryView.{CanaryView, AsksAt, AsksThrough, GivesUpAt, GivesUpThrough, Settles, TakesOf, canary_of, is_late_in}
@@ -82,3 +87,17 @@ pub kept_on : (now place give_up : ℕ) (clients : List Client) (notebook : Note
 kept_on now place give_up clients notebook course d within early is =
     on_false (is_late_in (slice_get clients place) course.give_up now) (Settles place now (Failed Silent) Down (canary_of clients notebook course) (canary_of clients notebook course))
     (canary_of clients notebook course ≡ canary_of clients notebook course) (late_in now place give_up clients course d within is ∙ early) refl
+
+-- what is so of the clients as a slice is so of the canary that holds them
+pub seen : {Z : Type 0} (R : CanaryView → CanaryView → Type 0) (v : Vec Client Z) (was new : List Client) (notebook notebook' : NotebookView) (course course' : Course)
+    → was ≡ v.items → length new ≡ vec_len v → R (canary_of was notebook course) (canary_of new notebook' course')
+    → R (canary_of v.items notebook course) (canary_of (with_items v new).items notebook' course')
+seen R v was new notebook notebook' course course' same long holds =
+    subst (λ (l : List Client). R (canary_of v.items notebook course) (canary_of l notebook' course')) (sym (with_items_is v new long))
+    (subst (λ (l : List Client). R (canary_of l notebook course) (canary_of new notebook' course')) same holds)
+
+-- where a key is left to be deleted, not each was asked
+pub some_left : (judge : JudgeView) (from : ℕ) (result : Option ℕ) → MatchOption result (NeverSetBetween judge.notes from judge.keys) (IsFirstSet judge from) → is_some result ≡ true
+    → NeverSetBetween judge.notes from judge.keys → ⊥
+some_left judge from None m e never = cc
+some_left judge from (Some key) m e never = let none = never key m.behind m.there in let some = m.was_set in omega arith

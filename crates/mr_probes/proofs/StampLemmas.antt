@@ -1,5 +1,5 @@
 -- The parts of what the data of a set says.
-use Rattle.std.proofs.Common.{◌≡◌, ◌∙◌, ℕ, ◌+◌, ◌↔◌, List, ◌++◌, length, take, drop, Option, Some, None, refl, sym, ap, arith, append_assoc, take-append-drop, length-append, length-drop, ◌-◌, suc, zero}
+use Rattle.std.proofs.Common.{◌≡◌, ◌∙◌, ℕ, ◌+◌, ◌↔◌, List, [], ◌∷◌, ◌++◌, length, take, drop, Option, Some, None, refl, sym, ap, arith, append_assoc, take-append-drop, length-append, length-drop, ◌-◌, suc, zero}
 use Rattle.std.proofs.lemmas.List.{drop-drop}
 use Rattle.mr_probes.specs.Digits.{number_text, word_text}
 use Rattle.mr_probes.specs.Stamp.{stamp_text}
@@ -112,7 +112,7 @@ same_stamp : (a b c d e a' b' c' d' e' : ℕ) → a ≡ a' → b ≡ b' → c �
     → ◌≡◌ {A = Stamp} (record { run = a; key = b; value = c; client = d; time = e }) (record { run = a'; key = b'; value = c'; client = d'; time = e' })
 same_stamp a b c d e a' b' c' d' e' p q r s t = cc
 
-inside : (a b : ℕ) → Some a ≡ Some b → a ≡ b
+pub inside : (a b : ℕ) → Some a ≡ Some b → a ≡ b
 inside a b e = cc
 
 stamp_inside : (a b : Stamp) → Some a ≡ Some b → a ≡ b

@@ -1,6 +1,7 @@
 pub mod Digits
 pub mod Stamp
 pub mod Naming
+pub mod Choosing
 pub mod Heard
 pub mod Dice
 pub mod Pace

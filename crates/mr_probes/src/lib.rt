@@ -5,6 +5,7 @@
 mod answering;
 mod asking;
 mod canary;
+mod choosing;
 mod client;
 mod course;
 mod dice;
@@ -20,6 +21,7 @@ mod wish;
 
 pub use answering::Said;
 pub use canary::{Canary, Goes, Plan};
+pub use choosing::{ChosenKeys, choose_keys};
 pub use client::{Asking, Client, Waiting};
 pub use course::Course;
 pub use dice::Dice;

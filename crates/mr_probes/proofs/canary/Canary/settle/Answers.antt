@@ -1,16 +1,11 @@
-use Rattle.std.proofs.Common.{rules, ◌≡◌, ◌↔◌, IsTrue, IfOk, length, drop, replicate, slice_get, ℕ, ◌+◌, ◌-◌, ◌*◌, ◌<◌, ◌≤◌, ◌/◌, ◌%◌, Bool, true, false, nat_eq, nat_lt, List, [], ◌∷◌, ◌++◌, slice_index_or, slice_set, bit_and, bit_or, Fits, w8, w32, w64, Bor, MutBor}
-use Rattle.std.specs.Option.{option_copied}
-use Rattle.std.specs.List.{range_with_len}
-use Rattle.mr_canary.specs.Notes.{IsConvicted}
-use Rattle.mr_canary.specs.declared.note.Probe.{Probe}
-use Rattle.mr_sightings.specs.Tally.{no_tally}
-use Rattle.mr_sightings.specs.declared.trouble.Trouble.TheVariants.{BrokeOff}
-use Rattle.mr_probes.specs.CanaryView.{GivesUpThrough, HearsAt, IsOver, IssuesDue, Settles, TakesBytes, Ticks, begun_cleaning, fresh_canary, written, output_at, is_up_at}
-use Rattle.mr_probes.specs.NotebookView.{first_of}
-use Rattle.mr_probes.specs.declared.answering.Said.TheVariants.{Failed}
-use Rattle.mr_probes.specs.declared.client.Client.TheVariants.{Down, Idle}
+use Rattle.std.proofs.Common.{◌∙◌}
+use Rattle.mr_probes.specs.CanaryView.{CanaryView, Settles}
+use Rattle.mr_probes.proofs.RoundLemmas.{seen}
 use Rattle.mr_probes.proofs.canary.Canary.settle.Goals as goal
 
--- src/canary.rt:267:5
 pub returns : goal.returns
-returns c = ?
+returns c =
+    rw (← c.self.view_is)
+    (seen (λ (old new : CanaryView). Settles c.args.client c.args.now c.args.said c.args.next old new) c.self.inside.clients c.deref_mut.result.now c.settle.new.clients
+    c.self.inside.notebook c.settle.new.notebook c.self.inside.course c.self.inside.course c.deref_mut.ensures.value (c.settle.auto.clients ∙ c.deref_mut.ensures.len)
+    (c.settle.ensures c.self.inside.course))
