@@ -1,5 +1,5 @@
 -- Numbers as digits: how many there are, and that they are read back.
-use Rattle.std.proofs.Common.{◌≡◌, ℕ, suc, zero, ◌+◌, ◌*◌, ◌^◌, ◌<◌, ◌↔◌, Bool, true, false, List, [], ◌∷◌, ◌++◌, length, take, drop, get_or, Ok, Err, Result, OnOk, nat_eq, refl, sym, ap, ◌∙◌, arith, eqb-true, eq-eqb, take-append-drop, length-drop, length-append}
+use Rattle.std.proofs.Common.{◌≡◌, ℕ, suc, zero, ◌*◌, ◌^◌, ◌<◌, ◌↔◌, true, false, List, [], ◌∷◌, ◌++◌, length, take, drop, get_or, Ok, Err, Result, OnOk, nat_eq, refl, sym, ap, ◌∙◌, arith, eqb-true, eq-eqb, take-append-drop, length-drop, length-append}
 use Rattle.std.specs.Prelude.{MatchResult, is_err}
 use Rattle.std.specs.Cmp.Lexicographic.{pointwise}
 use Rattle.std.proofs.lemmas.Bool.{and_parts, and_from}

@@ -1,6 +1,6 @@
 -- What a reader of replies says of bytes.
-use Rattle.std.proofs.Common.{◌≡◌, ◌∙◌, ℕ, suc, ◌+◌, ◌↔◌, Bool, true, false, IsTrue, List, [], ◌∷◌, ◌++◌, length, Ok, Err, Result, nat_eq, is_err, refl, sym, ap, arith, eq-eqb, eqb-true}
-use Rattle.mr_text.specs.Replies.{NextReplyIs, RefusesReply}
+use Rattle.std.proofs.Common.{◌≡◌, ℕ, ◌+◌, ◌↔◌, true, false, IsTrue, List, [], ◌∷◌, ◌++◌, length, Ok, Err, Result, nat_eq, is_err, refl, arith, eq-eqb, eqb-true}
+use Rattle.mr_text.specs.Replies.{NextReplyIs}
 use Rattle.mr_text.specs.Stream.{ReaderView, Becomes, FeedIs}
 use Rattle.mr_text.specs.declared.error.TextError.{TextError}
 use Rattle.mr_text.specs.declared.error.TextError.TheVariants.{LineTooLong, BadKey, BadNumber, WrongWords, DataTooLong, BadDataEnd, UnknownCommand, Truncated, Closed, OutOfMemory}

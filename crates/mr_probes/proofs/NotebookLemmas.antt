@@ -1,6 +1,6 @@
 -- What a notebook keeps of its notes.
-use Rattle.std.proofs.Common.{◌≡◌, ◌≢◌, ◌∙◌, ℕ, zero, suc, ◌+◌, ◌-◌, ◌^◌, ◌<◌, ◌≤◌, ◌↔◌, ◌⊎◌, inl, inr, Bool, true, false, List, [], ◌∷◌, ◌++◌, length, get_or, set, Option, Some, None, refl, sym, ap, subst, arith}
-use Rattle.std.specs.Prelude.{nat_eq, min, slice_get, slice_index, slice_set, ◌==◌, ◌&&◌, vec_len}
+use Rattle.std.proofs.Common.{◌≡◌, ◌∙◌, ℕ, zero, suc, ◌+◌, ◌<◌, inl, inr, true, false, List, [], ◌∷◌, ◌++◌, length, Option, Some, None, refl, sym, ap, subst, arith}
+use Rattle.std.specs.Prelude.{slice_get, slice_index, slice_set, ◌==◌}
 use Rattle.std.proofs.lemmas.Bool.{cases_eq}
 use Rattle.mr_counting.specs.Counting.{one_more}
 use Rattle.mr_canary.specs.declared.note.Probe.{Probe}
@@ -9,24 +9,23 @@ use Rattle.mr_canary.specs.declared.note.Asked.TheVariants as asks
 use Rattle.mr_canary.specs.declared.note.Note.{Note}
 use Rattle.mr_canary.specs.declared.note.Conviction.{Conviction}
 use Rattle.mr_canary.specs.JudgeView.{VerdictsStand, OtherVerdictsStand, JudgesAnswer}
-use Rattle.mr_canary.specs.Notes.{IsConvicted, Convicts, Tells}
+use Rattle.mr_canary.specs.Notes.{IsConvicted, Convicts}
 use Rattle.mr_canary.specs.declared.error.CanaryError.{CanaryError}
-use Rattle.mr_canary.specs.declared.error.CanaryError.TheVariants as errors
 use Rattle.mr_canary.specs.declared.note.Answer.{Answer}
 use Rattle.mr_canary.specs.declared.note.Note.TheVariants.{Issued, Answered}
-use Rattle.mr_canary.specs.JudgeView.{JudgeView, Issues, RefusesIssue, RefusesAnswer, with_note}
+use Rattle.mr_canary.specs.JudgeView.{JudgeView, Issues, RefusesIssue, with_note}
 use Rattle.mr_canary.specs.Notes.{is_set, is_set_of, sets_of}
-use Rattle.mr_canary.proofs.NoteLemmas.{issued_stays, stored_stays, acknowledged_stays, sets_few, sets_one_more, sets_same}
+use Rattle.mr_canary.proofs.NoteLemmas.{issued_stays, stored_stays, acknowledged_stays, sets_one_more, sets_same}
 use Rattle.std.specs.Vec.{with_item}
 use Rattle.std.specs.List.{range_with_len}
 use Rattle.std.specs.Prelude.{MatchOption, MatchResult, Result, Ok, Err, map}
 use Rattle.std.proofs.Common.{eq-eqb, ne_eqb}
-use Rattle.std.proofs.lemmas.Bool.{and_left, and_from}
+use Rattle.std.proofs.lemmas.Bool.{and_left}
 use Rattle.std.proofs.lemmas.List.{get_or-set_same, get_or-set_other}
 use Rattle.std.proofs.lemmas.List.FromFn.{fill_by_all}
 use Rattle.mr_probes.specs.NotebookView.{IsFirstSet, NeverSetBetween, came_back_after}
 use Rattle.mr_probes.specs.steps.Judging.{AreZero, Counts, IsFirstPositive, IsOfSame}
-use Rattle.mr_probes.specs.steps.Notebook.{IsNotebook, notebook_of}
+use Rattle.mr_probes.specs.steps.Notebook.{IsNotebook}
 use Rattle.mr_probes.specs.declared.notebook.Notebook.TheInside.{Inside}
 
 get_left : (list : List Note) (place : ℕ) (note : Note) (later : List Note) → slice_get list place ≡ Some note → slice_get (list ++ later) place ≡ Some note

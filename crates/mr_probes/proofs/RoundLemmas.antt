@@ -1,5 +1,5 @@
 -- What happens to clients one after the other.
-use Rattle.std.proofs.Common.{◌≡◌, ◌≢◌, ◌∙◌, ℕ, zero, suc, ◌+◌, ◌-◌, ◌<◌, ◌≤◌, ◌⊎◌, inl, inr, Bool, true, false, MatchBool, List, [], ◌∷◌, ◌++◌, length, get_or, is_some, Option, Some, None, slice_get, slice_set, refl, sym, ap, subst, arith}
+use Rattle.std.proofs.Common.{◌≡◌, ◌∙◌, ℕ, zero, suc, ◌+◌, ◌<◌, ◌≤◌, ◌⊎◌, inl, inr, Bool, true, false, MatchBool, List, [], ◌∷◌, ◌++◌, length, get_or, is_some, Option, Some, None, slice_get, slice_set, refl, sym, ap, subst, arith}
 use Rattle.std.specs.List.{range_with_len}
 use Rattle.std.specs.Prelude.{Vec, vec_len, MatchOption}
 use Rattle.std.specs.Vec.{with_items}
@@ -10,9 +10,9 @@ use Rattle.std.proofs.lemmas.List.{set_past}
 use Rattle.std.proofs.lemmas.Option.{slice_get_past, slice_get-get_or}
 use Rattle.mr_probes.specs.CanaryView.{CanaryView, AsksAt, AsksThrough, GivesUpAt, GivesUpThrough, Settles, TakesOf, canary_of, is_late_in}
 use Rattle.mr_sightings.specs.declared.trouble.Trouble.TheVariants.{Silent}
-use Rattle.mr_probes.specs.Clients.{is_late_client}
+use Rattle.mr_probes.specs.Clients.{is_idle, is_late_client}
 use Rattle.mr_probes.specs.declared.answering.Said.TheVariants.{Failed}
-use Rattle.mr_probes.specs.declared.client.Client.TheVariants.{Down}
+use Rattle.mr_probes.specs.declared.client.Client.TheVariants.{Down, Idle, Waits}
 use Rattle.mr_probes.specs.NotebookView.{NotebookView}
 use Rattle.mr_probes.specs.declared.answering.Said.{Said}
 use Rattle.mr_probes.specs.declared.client.Client.{Client}
@@ -101,3 +101,12 @@ pub some_left : (judge : JudgeView) (from : ℕ) (result : Option ℕ) → Match
     → NeverSetBetween judge.notes from judge.keys → ⊥
 some_left judge from None m e never = cc
 some_left judge from (Some key) m e never = let none = never key m.behind m.there in let some = m.was_set in omega arith
+
+-- the client that is idle
+idle_is : (client : Client) → is_idle client ≡ true → client ≡ Idle
+idle_is Down e = absurd (cc)
+idle_is Idle e = refl
+idle_is (Waits waiting) e = absurd (cc)
+
+pub idle_there : (clients : List Client) (place : ℕ) (d : Client) → place < length clients → is_idle (get_or clients place d) ≡ true → slice_get clients place ≡ Some Idle
+idle_there clients place d within idle = slice_get-get_or clients place d within ∙ ap Some (idle_is (get_or clients place d) idle)

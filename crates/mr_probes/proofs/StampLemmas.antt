@@ -1,5 +1,5 @@
 -- The parts of what the data of a set says.
-use Rattle.std.proofs.Common.{◌≡◌, ◌∙◌, ℕ, ◌+◌, ◌↔◌, List, [], ◌∷◌, ◌++◌, length, take, drop, Option, Some, None, refl, sym, ap, arith, append_assoc, take-append-drop, length-append, length-drop, ◌-◌, suc, zero}
+use Rattle.std.proofs.Common.{◌≡◌, ◌∙◌, ℕ, ◌↔◌, List, [], ◌∷◌, ◌++◌, length, take, drop, Option, Some, None, refl, sym, ap, arith, append_assoc, take-append-drop, length-append, length-drop, ◌-◌, suc, zero}
 use Rattle.std.proofs.lemmas.List.{drop-drop}
 use Rattle.mr_probes.specs.Digits.{number_text, word_text}
 use Rattle.mr_probes.specs.Stamp.{stamp_text}
@@ -101,8 +101,18 @@ length-stamp_text stamp =
     let c = word_text stamp.value in
     let d = word_text stamp.client in
     let e = number_text stamp.time in
-    omega (arith, length-append (a ++ b ++ c ++ d) e, length-append (a ++ b ++ c) d, length-append (a ++ b) c, length-append a b, length-word_text stamp.run,
-    length-word_text stamp.key, length-word_text stamp.value, length-word_text stamp.client, length-number_text stamp.time)
+    omega (
+      arith,
+      length-append (a ++ b ++ c ++ d) e,
+      length-append (a ++ b ++ c) d,
+      length-append (a ++ b) c,
+      length-append a b,
+      length-word_text stamp.run,
+      length-word_text stamp.key,
+      length-word_text stamp.value,
+      length-word_text stamp.client,
+      length-number_text stamp.time,
+    )
 
 -- where nothing is read, no data says anything
 pub unread : (text : List ℕ) (stamp : Stamp) (result : Option Stamp) → result ≡ None → (text ≡ stamp_text stamp → ⊥) → (result ≡ Some stamp) ↔ (text ≡ stamp_text stamp)
@@ -139,7 +149,7 @@ read_so text stamp a b c d e ra rb rc rd re = (
   λ same.
       let p = parts_of text stamp same in
       ap (λ (s : Stamp). Some s) (same_stamp a b c d e stamp.run stamp.key stamp.value stamp.client stamp.time (inside a stamp.run (ra.1 p.run)) (inside b stamp.key (rb.1 p.key))
-          (inside c stamp.value (rc.1 p.value)) (inside d stamp.client (rd.1 p.client)) (inside e stamp.time (re.1 p.time))),
+      (inside c stamp.value (rc.1 p.value)) (inside d stamp.client (rd.1 p.client)) (inside e stamp.time (re.1 p.time))),
 )
 
 -- and what isn't read is none of it

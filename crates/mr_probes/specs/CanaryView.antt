@@ -1,13 +1,13 @@
 -- A canary as contracts see it, and what happens to it.
-use Rattle.std.specs.Prelude.{◌≡◌, ℕ, ◌+◌, ◌-◌, ◌<◌, ◌⊎◌, ◌||◌, nat_le, nat_lt, min, pos, Bool, true, false, is_some, List, [], ◌∷◌, ◌++◌, length, drop, slice_get, slice_set, slice_index, slice_index_or, replicate, if◌then◌else◌, MatchBool, Option, Some, None}
+use Rattle.std.specs.Prelude.{◌≡◌, ℕ, ◌+◌, ◌-◌, ◌<◌, ◌⊎◌, ◌||◌, nat_le, min, pos, Bool, true, false, is_some, List, [], ◌∷◌, length, slice_get, slice_set, slice_index, slice_index_or, replicate, if◌then◌else◌, MatchBool, Option, Some, None}
 use Rattle.std.specs.List.{list_any, range_with_len}
 use Rattle.mr_node.specs.declared.command.NodeCommand.{NodeCommand}
 use Rattle.mr_node.specs.declared.command.NodeCommand.TheVariants as commands
 use Rattle.mr_proxy.specs.NodeRequests.{text_for}
 use Rattle.mr_canary.specs.JudgeView.{JudgeView}
 use Rattle.mr_canary.specs.Notes.{sets_of}
-use Rattle.mr_sightings.specs.declared.trouble.Trouble.TheVariants.{NoReply, BrokeOff, Silent}
-use Rattle.mr_counting.specs.Counting.{sum_of, one_more}
+use Rattle.mr_sightings.specs.declared.trouble.Trouble.TheVariants.{NoReply, Silent}
+use Rattle.mr_counting.specs.Counting.{sum_of}
 use Rattle.mr_probes.specs.Clients.{HearsBytes, is_up, is_late_client, is_waiting, output_of, with_written}
 use Rattle.mr_probes.specs.Dice.{dice_after, drawn}
 use Rattle.mr_probes.specs.NotebookView.{NotebookView, IssuesSo, IsFirstSet, NeverSetBetween, TakesAnswer, fresh_notebook, keys_set}

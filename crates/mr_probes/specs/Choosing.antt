@@ -8,9 +8,13 @@ use Rattle.mr_probes.specs.declared.choosing.ChosenKeys.{ChosenKeys}
 use Rattle.mr_probes.specs.declared.naming.KeyError.{KeyError}
 use Rattle.mr_probes.specs.declared.naming.KeyError.TheVariants.{BadPrefix, OutOfMemory}
 
+-- the key lies at the node of this index, of the pool of this number
+abbrev pub lies_at : RoutingView → (number index : ℕ) → List ℕ → Bool
+lies_at routing number index key = place_of routing.hash (pool_of routing number) key == index
+
 -- none of the keys lies at the node of this index, of the pool of this number
 abbrev pub is_bare : RoutingView → List (List ℕ) → (number index : ℕ) → Bool
-is_bare routing keys number index = not (list_any (λ key. place_of routing.hash (pool_of routing number) key == index) keys)
+is_bare routing keys number index = not (list_any (lies_at routing number index) keys)
 
 -- the key lies at such a node of the pool of this number
 abbrev pub hits_bare_in : RoutingView → List (List ℕ) → List ℕ → ℕ → Bool

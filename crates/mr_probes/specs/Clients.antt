@@ -1,5 +1,5 @@
 -- A client, and what the bytes come to that come over its connection.
-use Rattle.std.specs.Prelude.{◌≡◌, ◌≢◌, ℕ, ◌-◌, ◌<◌, ◌⊎◌, ◌↔◌, nat_lt, Bool, true, false, IsTrue, List, [], ◌++◌, drop}
+use Rattle.std.specs.Prelude.{◌≡◌, ◌≢◌, ℕ, ◌-◌, ◌⊎◌, ◌↔◌, nat_lt, Bool, true, false, IsTrue, List, [], ◌++◌, drop}
 use Rattle.mr_text.specs.Replies.{SpellsReply, RefusesReply}
 use Rattle.mr_text.specs.Stream.{BeginsWith, IsUnfinished}
 use Rattle.mr_text.specs.declared.error.TextError.{TextError}
@@ -59,7 +59,7 @@ abbrev pub IsNoReply : (run sets : ℕ) → Waiting → List ℕ → Type 0
 IsNoReply run sets waiting bytes =
     ((refusal : TextError) × RefusesReply refusal bytes)
     ⊎ ((reply : Reply) × (rest : List ℕ) × BeginsWith SpellsReply bytes reply rest
-        × ((said : Said) → ¬ Says waiting.asking.command run waiting.asking.probe.key sets reply said))
+    × ((said : Said) → ¬ Says waiting.asking.command run waiting.asking.probe.key sets reply said))
 
 -- The bytes begin with a reply that says this of the request, and these stand behind it.
 pub record SaysOf (run sets : ℕ) (waiting : Waiting) (bytes : List ℕ) (said : Said) (rest : List ℕ) : Type 0 where

@@ -1,5 +1,5 @@
 -- What is noted and counted, and what requests and answers do to it.
-use Rattle.std.specs.Prelude.{◌≡◌, ℕ, ◌+◌, ◌-◌, ◌<◌, ◌≤◌, ◌⊎◌, ◌&&◌, nat_lt, Bool, List, [], ◌∷◌, ◌++◌, length, count_by, map, replicate, slice_set, slice_index, if◌then◌else◌, Option, Some, None}
+use Rattle.std.specs.Prelude.{◌≡◌, ℕ, ◌-◌, ◌<◌, ◌≤◌, ◌⊎◌, ◌&&◌, nat_lt, Bool, List, [], ◌∷◌, ◌++◌, length, count_by, map, replicate, if◌then◌else◌, Option, Some, None}
 use Rattle.std.specs.List.{range_with_len}
 use Rattle.mr_counting.specs.Counting.{one_more}
 use Rattle.mr_canary.specs.declared.error.CanaryError.{CanaryError}

@@ -1,5 +1,5 @@
 -- When requests are due.
-use Rattle.std.specs.Prelude.{ℕ, ◌+◌, ◌-◌, ◌/◌, max}
+use Rattle.std.specs.Prelude.{ℕ, ◌-◌, ◌/◌, max}
 use Rattle.mr_counting.specs.Counting.{sum_of}
 use Rattle.mr_probes.specs.declared.pace.Pace.{Pace}
 

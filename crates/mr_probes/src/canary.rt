@@ -267,7 +267,14 @@ impl Canary {
     fn settle(&mut self, client: usize, now: u64, said: Said, next: Client)
         ensures { Settles client now said next self.old self.new }
     {
-        settle(&mut self.clients, &mut self.notebook, client, now, said, next);
+        settle(
+            &mut self.clients,
+            &mut self.notebook,
+            client,
+            now,
+            said,
+            next,
+        );
     }
 
     /// The requests are given up that wait for too long.

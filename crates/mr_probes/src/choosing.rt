@@ -24,7 +24,13 @@ fn is_bare(routing: &Routing, keys: &[Key], number: usize, index: usize) -> bool
     requires { number < length routing.now.pools }
     ensures { result ≡ is_bare routing.now keys.now number index }
 {
-    !keys.iter().any(|key| routing.place(number, key) == index)
+    for key in keys {
+        let place = routing.place(number, key);
+        if place == index {
+            return false;
+        }
+    }
+    true
 }
 
 /// Whether the key lies at a node of some pool at which none of the others does.

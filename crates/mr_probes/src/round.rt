@@ -109,16 +109,7 @@ pub(crate) fn issue_due(
 {
     let many = clients.len();
     let first = course.turn.min(many);
-    ask_between(
-        alloc,
-        buffer,
-        clients,
-        notebook,
-        course,
-        first,
-        many,
-        now,
-    );
+    ask_between(alloc, buffer, clients, notebook, course, first, many, now);
     ask_between(alloc, buffer, clients, notebook, course, 0, first, now);
 }
 
@@ -152,13 +143,7 @@ pub(crate) fn settle(
 }
 
 /// The request of the client of this place is given up where it waits for longer than it may. The client is down then.
-fn give_up_at(
-    clients: &mut [Client],
-    notebook: &mut Notebook,
-    place: usize,
-    give_up: u64,
-    now: u64,
-)
+fn give_up_at(clients: &mut [Client], notebook: &mut Notebook, place: usize, give_up: u64, now: u64)
     requires { place < length clients.old }
     ensures { (course : Course) → course.give_up ≡ give_up → GivesUpAt now place (canary_of clients.old notebook.old course)
         (canary_of clients.new notebook.new course) }
@@ -176,12 +161,7 @@ fn give_up_at(
 }
 
 /// The requests are given up that wait for longer than they may. Their clients are down then.
-pub(crate) fn give_up_late(
-    clients: &mut [Client],
-    notebook: &mut Notebook,
-    give_up: u64,
-    now: u64,
-)
+pub(crate) fn give_up_late(clients: &mut [Client], notebook: &mut Notebook, give_up: u64, now: u64)
     ensures { (course : Course) → course.give_up ≡ give_up → GivesUpThrough now (range_with_len 0 (length clients.old))
         (canary_of clients.old notebook.old course) (canary_of clients.new notebook.new course) }
 {

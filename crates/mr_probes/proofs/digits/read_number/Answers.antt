@@ -1,8 +1,7 @@
-use Rattle.std.proofs.Common.{◌≡◌, ◌∙◌, ℕ, List, Ok, Some, Result, length, ap, sym, arith, OnOk, true, false, Bool, nat_eq}
+use Rattle.std.proofs.Common.{◌≡◌, ◌∙◌, ℕ, List, Ok, Some, ap, sym, true, false, nat_eq}
 use Rattle.std.specs.Cmp.Lexicographic.{pointwise}
 use Rattle.std.specs.Int.{w64, to_be_bytes, from_be_bytes}
-use Rattle.hex.specs.Hex.{IsBytes, decode_sized, encode_lower}
-use Rattle.mr_probes.specs.Digits.{number_text}
+use Rattle.hex.specs.Hex.{decode_sized, encode_lower}
 use Rattle.mr_probes.proofs.DigitsLemmas.{bytes_same, digits_of, number_of, number_read, on_ok, read_of, same_bytes, unread_of, bytes_of}
 use Rattle.mr_probes.proofs.digits.read_number.Goals as goal
 

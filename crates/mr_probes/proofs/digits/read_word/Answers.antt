@@ -1,4 +1,4 @@
-use Rattle.std.proofs.Common.{◌≡◌, ◌∙◌, ℕ, List, [], ◌∷◌, length, get_or, ap, sym, arith}
+use Rattle.std.proofs.Common.{◌≡◌, ◌∙◌, ℕ, List, length, get_or, ap}
 use Rattle.mr_probes.proofs.DigitsLemmas.{dash_of_word, length-word_text, word_is}
 use Rattle.mr_probes.proofs.digits.read_word.Goals as goal
 use Rattle.mr_probes.proofs.digits.read_word.Goals.{then-text-via-then-text, then-text-via-else-text+then-text-ne-DASH}

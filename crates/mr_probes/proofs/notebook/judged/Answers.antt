@@ -1,5 +1,4 @@
-use Rattle.std.proofs.Common.{◌≡◌, ℕ, List, sym, ap, subst}
-use Rattle.mr_canary.specs.declared.note.Note.{Note}
+use Rattle.std.proofs.Common.{sym, subst}
 use Rattle.mr_canary.specs.JudgeView.{JudgeView}
 use Rattle.mr_probes.specs.steps.Judging.{Counts}
 use Rattle.mr_probes.proofs.NotebookLemmas.{counts_by_answer}

@@ -1,4 +1,4 @@
-use Rattle.std.proofs.Common.{◌≡◌, ◌∙◌, ◌+◌, ◌-◌, ◌≤◌, ℕ, List, ◌∷◌, [], ◌++◌, length, refl, sym, ap, subst, arith}
+use Rattle.std.proofs.Common.{◌≡◌, ◌∙◌, ◌+◌, ◌-◌, ℕ, List, ◌∷◌, [], ◌++◌, refl, sym, ap, subst, arith}
 use Rattle.std.specs.List.{range_with_len}
 use Rattle.mr_probes.specs.CanaryView.{AsksThrough, canary_of}
 use Rattle.mr_probes.proofs.RoundLemmas.{asked_more, asked_or_not, range_more}
@@ -29,4 +29,4 @@ pub returns-clause-asked : goal.returns-clause-asked
 returns-clause-asked c =
     let end : c.loop-place.place ≡ c.args.to = omega arith in
     subst (λ (n : ℕ). AsksThrough c.args.now (range_with_len c.args.from (n - c.args.from)) (canary_of c.args.clients.now c.args.notebook.now c.args.course.now)
-        (canary_of c.loop-place.clients c.loop-place.notebook c.loop-place.course)) end c.loop-place.invariant
+    (canary_of c.loop-place.clients c.loop-place.notebook c.loop-place.course)) end c.loop-place.invariant

@@ -1,7 +1,6 @@
-use Rattle.std.proofs.Common.{◌≡◌, ◌∙◌, ◌+◌, ◌≤◌, ℕ, List, ◌∷◌, [], ◌++◌, length, refl, sym, ap, subst, arith}
+use Rattle.std.proofs.Common.{◌≡◌, ◌∙◌, ◌+◌, ℕ, List, ◌∷◌, [], ◌++◌, length, refl, sym, ap, subst, arith}
 use Rattle.std.specs.List.{range_with_len}
 use Rattle.mr_probes.specs.CanaryView.{GivesUpThrough, canary_of}
-use Rattle.mr_probes.specs.declared.course.Course.{Course}
 use Rattle.mr_probes.proofs.RoundLemmas.{given_up_more, range_more}
 use Rattle.mr_probes.proofs.round.give_up_late.Goals as goal
 

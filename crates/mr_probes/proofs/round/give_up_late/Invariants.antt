@@ -1,4 +1,4 @@
-use Rattle.std.proofs.Common.{◌≡◌, length}
+use Rattle.std.proofs.Common.{◌≡◌}
 use Rattle.std.specs.List.{range_with_len}
 use Rattle.mr_probes.specs.CanaryView.{GivesUpThrough, canary_of}
 use Rattle.mr_probes.specs.declared.course.Course.{Course}

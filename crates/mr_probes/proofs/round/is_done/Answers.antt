@@ -1,4 +1,4 @@
-use Rattle.std.proofs.Common.{◌≡◌, ◌∙◌, ℕ, Option, Some, sym, subst}
+use Rattle.std.proofs.Common.{◌≡◌, ◌∙◌, ℕ, sym, subst}
 use Rattle.mr_probes.specs.NotebookView.{NeverSetBetween}
 use Rattle.mr_probes.proofs.RoundLemmas.{some_left}
 use Rattle.mr_probes.proofs.StampLemmas.{inside}

@@ -1,6 +1,4 @@
-use Rattle.std.proofs.Common.{◌≡◌, ◌∙◌, ℕ, List, length, Option, Some, None, refl, sym, ap}
-use Rattle.mr_probes.specs.declared.stamp.Stamp.{Stamp}
-use Rattle.mr_probes.specs.Stamp.{stamp_text}
+use Rattle.std.proofs.Common.{◌∙◌, length, None, refl, ap}
 use Rattle.mr_probes.proofs.StampLemmas.{length-stamp_text, none_read, parts_of, read_so, unread}
 use Rattle.mr_probes.proofs.stamp.read_stamp.Goals as goal
 

@@ -1,5 +1,5 @@
 use Rattle.std.proofs.Common.{◌≡◌, ◌∙◌, ℕ, List, ap, count_by, nat_lt}
-use Rattle.mr_probes.specs.NotebookView.{NotebookView, keys_set}
+use Rattle.mr_probes.specs.NotebookView.{keys_set}
 use Rattle.mr_probes.specs.steps.Notebook.{notebook_of}
 use Rattle.mr_probes.proofs.NotebookLemmas.{sets_listed}
 use Rattle.mr_probes.proofs.notebook.Notebook.begin_cleaning.Goals as goal

@@ -1,4 +1,4 @@
-use Rattle.std.proofs.Common.{◌≡◌, ◌∙◌, ◌≤◌, ℕ, sym, subst}
+use Rattle.std.proofs.Common.{◌∙◌, ◌≤◌, ℕ, sym, subst}
 use Rattle.mr_probes.specs.steps.Judging.{Counts}
 use Rattle.mr_probes.proofs.notebook.Notebook.take.Goals as goal
 
