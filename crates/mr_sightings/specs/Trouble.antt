@@ -1,5 +1,5 @@
 -- Why requests come to nothing.
-use Rattle.std.specs.Prelude.{ℕ, Bool, true, false, List, [], ◌∷◌, ◌++◌, codes}
+use Rattle.std.specs.Prelude.{◌≡◌, ℕ, Bool, true, false, List, [], ◌∷◌, ◌++◌, map, codes, refl}
 use Rattle.mr_text.specs.CauseText.{text_of_cause}
 use Rattle.mr_text.specs.declared.cause.Cause.{Cause}
 use Rattle.mr_text.specs.declared.cause.Cause.TheVariants as cause
@@ -56,3 +56,7 @@ place_of Error = 7
 place_of NoReply = 8
 place_of BrokeOff = 9
 place_of Silent = 10
+
+-- each has a place of its own
+pub own-places : map place_of all_troubles ≡ 0 ∷ 1 ∷ 2 ∷ 3 ∷ 4 ∷ 5 ∷ 6 ∷ 7 ∷ 8 ∷ 9 ∷ 10 ∷ []
+own-places = refl

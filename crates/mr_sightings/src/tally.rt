@@ -95,7 +95,7 @@ impl Tally {
 fn add_each(counts: &mut [u64; 11], more: &[u64; 11])
     ensures { counts.new ≡ sums_of counts.old more.now }
 {
-    for place in 0..Trouble::COUNT {
+    for place in 0..11 {
         counts[place] = sum_of(counts[place], more[place]);
     }
 }

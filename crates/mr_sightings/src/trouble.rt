@@ -30,8 +30,20 @@ pub enum Trouble {
 }
 
 impl Trouble {
-    /// How many there are.
-    pub(crate) const COUNT: usize = 11;
+    /// All of them, in the order in which they are counted and told.
+    pub const ALL: [Trouble; 11] = [
+        Trouble::Busy,
+        Trouble::LegLost,
+        Trouble::ClockFault,
+        Trouble::OutOfMemory,
+        Trouble::NodeRefused,
+        Trouble::OtherServerError,
+        Trouble::ClientError,
+        Trouble::Error,
+        Trouble::NoReply,
+        Trouble::BrokeOff,
+        Trouble::Silent,
+    ];
 
     /// How it is told, as `SERVER_ERROR busy` or `broke off`.
     pub fn as_str(self) -> &'static str

@@ -4,6 +4,7 @@ mod playing;
 mod probing;
 mod refusing;
 mod rows;
+mod sightings;
 
 use std::process::Abort;
 

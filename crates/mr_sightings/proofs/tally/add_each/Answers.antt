@@ -1,5 +1,4 @@
-use Rattle.std.proofs.Common.{◌≡◌, ◌+◌, ◌<◌, ◌≤◌, ◌∙◌, length, refl, arith}
-use Rattle.mr_counting.specs.Sums.{sums_of}
+use Rattle.std.proofs.Common.{◌+◌, ◌<◌, ◌≤◌, ◌∙◌, length, refl, arith}
 use Rattle.mr_sightings.proofs.SumLemmas.{sums_step, sums_end}
 use Rattle.mr_sightings.proofs.tally.add_each.Goals as goal
 
