@@ -1,12 +1,14 @@
 -- What one more second, a failed write and the ending say of a whole flight.
-use Rattle.std.proofs.Common.{arith, ◌≡◌, ◌+◌, ◌≤◌, ◌∙◌, ℕ, Bool, true, false, List, [], ◌∷◌, ◌++◌, length, Result, Ok, Err, IsErrAnd, refl, ap, subst, sym, inl, inr, min, nat_le, if◌then◌else◌, le-leb, leb-true}
+use Rattle.std.proofs.Common.{arith, ◌≡◌, ◌+◌, ◌≤◌, ◌∙◌, ⊤, ℕ, Bool, true, false, List, [], ◌∷◌, ◌++◌, length, Result, Ok, Err, IsErrAnd, refl, ap, subst, sym, inl, inr, min, nat_le, if◌then◌else◌, le-leb, leb-true}
 use Rattle.std.proofs.lemmas.List.{append_assoc}
 use Rattle.mr_counting.specs.Counting.{one_more}
-use Rattle.mr_flights.specs.Flight.{AreAll, AreSights, FliesOut, FliesSeconds, HasFlown, HasFlownOut, HasShown, StopsBehind, StopsBetween, WritesEnding, all_shown, is_over, most_of, most_seconds, told_by, verdict_of}
+use Rattle.mr_configs.specs.Config.{ConfigView}
+use Rattle.mr_flights.specs.Flight.{AreAll, AreSights, FliesConfig, FliesOut, FliesSeconds, HasFlown, HasFlownOut, HasShown, StopsBehind, StopsBetween, WritesEnding, all_shown, is_over, most_of, scene_by, verdict_of}
 use Rattle.mr_flights.specs.Log.{LogView, Sights, fresh_log, is_migrated, log_of, with_second}
 use Rattle.mr_flights.specs.Scene.{SceneView}
 use Rattle.mr_flights.specs.Seeing.{FailsToWrite, HasSeen, IsSight, WritesSecond, without_second}
-use Rattle.mr_flights.specs.Showing.{ending, shown}
+use Rattle.mr_flights.specs.Plans.{MakesCanary}
+use Rattle.mr_flights.specs.Showing.{ending, manner_of, shown}
 use Rattle.mr_flights.specs.declared.fault.FlightFault.{FlightFault}
 use Rattle.mr_flights.specs.declared.fault.FlightFault.TheVariants.{Memory, Write, NoNumber, BadPrefix, Net}
 use Rattle.mr_flights.specs.declared.showing.Manner.{Manner}
@@ -17,6 +19,8 @@ use Rattle.mr_sightings.specs.declared.second.Second.{Second}
 use Rattle.mr_sightings.specs.declared.verdict.Verdict.{Verdict}
 use Rattle.mr_text.proofs.Writes.{written_none, written_then}
 use Rattle.mr_text.specs.Sink.{SinkView, HasWritten}
+use Rattle.mr_servers.specs.declared.screen.Screen.{Screen}
+use Rattle.mr_words.specs.declared.canary_words.CanaryValues.{CanaryValues}
 use Rattle.mr_words.specs.declared.canary_words.Span.{Span}
 use Rattle.mr_words.specs.declared.canary_words.Span.TheVariants.{Seconds, UntilMigrated}
 
@@ -119,6 +123,15 @@ pub stops_between : (manner : Manner) (span : Span) (scene : SceneView) (log : L
 stops_between manner span scene log begin mid new number u same =
     record { sights = u.sights; shown = subst (λ (w : SinkView). HasShown manner scene u.sights begin w) (sym same) u.shown }
 
+-- the loop couldn't be driven, which is passed on
+pub drive_failed : (manner : Manner) (span : Span) (scene : SceneView) (log final : LogView) (begin mid : SinkView) (number : ℕ) (failed : FlightFault)
+    (result : Result (Unit {0}) FlightFault) → IsErrAnd result (λ other. other ≡ failed) → failed ≡ Net
+    → IsUnderway manner span scene log begin number mid → FliesSeconds manner span scene final begin result mid
+drive_failed manner span scene log final begin mid number failed result is net u =
+    failed_so (λ (r : Result (Unit {0}) FlightFault). FliesSeconds manner span scene final begin r mid) result failed is
+    (subst (λ (f : FlightFault). FliesSeconds manner span scene final begin (Err f) mid) (sym net)
+    (stops_between manner span scene log begin mid mid number u refl))
+
 -- a second that wasn't written, which is passed on
 pub second_failed : (manner : Manner) (span : Span) (scene : SceneView) (log after : LogView) (final : LogView) (begin mid new : SinkView) (number at : ℕ)
     (canary left : CanaryView) (failed : FlightFault) (result : Result (Unit {0}) FlightFault) → IsErrAnd result (λ other. other ≡ failed)
@@ -202,3 +215,79 @@ pub same_verdict : (came_back requests proxies acknowledged left : ℕ) (came_ba
     → came_back ≡ came_back' → requests ≡ requests' → proxies ≡ proxies' → acknowledged ≡ acknowledged' → left ≡ left'
     → verdict_by came_back requests proxies acknowledged left ≡ verdict_by came_back' requests' proxies' acknowledged' left'
 same_verdict came_back requests proxies acknowledged left came_back' requests' proxies' acknowledged' left' c r p a l = rw (c, r, p, a, l) refl
+
+-- nothing was written
+pub nothing_flown : (manner : Manner) (scene : SceneView) (w : SinkView) → StopsBetween manner scene w w
+nothing_flown manner scene w = record { sights = []; shown = record { are_sights = tt; writes = written_none w } }
+
+-- the seconds weren't all written, and that is passed on
+pub seconds_failed : (manner : Manner) (span : Span) (scene : SceneView) (log : LogView) (begin new : SinkView) (failed : FlightFault)
+    (result : Result Bool FlightFault) → IsErrAnd result (λ other. other ≡ failed) → FliesSeconds manner span scene log begin (Err failed) new
+    → FliesOut manner span scene begin result new
+seconds_failed manner span scene log begin new failed result is flew =
+    failed_so (λ (r : Result Bool FlightFault). FliesOut manner span scene begin r new) result failed is (passed failed flew)
+  where
+    passed : (failed : FlightFault) → FliesSeconds manner span scene log begin (Err failed) new → FliesOut manner span scene begin (Err failed) new
+    passed Write flew = flew
+    passed Memory flew = flew
+    passed Net flew = flew
+    passed NoNumber flew = absurd flew
+    passed BadPrefix flew = absurd flew
+
+-- the loop couldn't be driven while the keys were deleted, and that is passed on
+pub clean_failed : (manner : Manner) (span : Span) (scene : SceneView) (log : LogView) (begin new : SinkView) (failed : FlightFault)
+    (result : Result Bool FlightFault) → IsErrAnd result (λ other. other ≡ failed) → failed ≡ Net → HasFlown manner span scene log begin new
+    → FliesOut manner span scene begin result new
+clean_failed manner span scene log begin new failed result is net flown =
+    failed_so (λ (r : Result Bool FlightFault). FliesOut manner span scene begin r new) result failed is
+    (subst (λ (f : FlightFault). FliesOut manner span scene begin (Err f) new) (sym net) (record { sights = flown.sights; shown = flown.shown }))
+
+-- why nothing is flown at all, and nothing is written
+abbrev pub NeverFlies : FlightFault → Type 0
+NeverFlies Memory = ⊤
+NeverFlies Net = ⊤
+NeverFlies failed = ⊥
+
+module _ (values : CanaryValues) (screen : Screen) (config : ConfigView) (w : SinkView) where
+  never : (failed : FlightFault) → NeverFlies failed → FliesConfig values screen config w (Err failed) w
+  never Memory why = (0, nothing_flown (manner_of values.json screen) (scene_by values config 0) w)
+  never Net why = (0, nothing_flown (manner_of values.json screen) (scene_by values config 0) w)
+  never Write why = absurd why
+  never NoNumber why = absurd why
+  never BadPrefix why = absurd why
+
+  pub never_flown : (failed : FlightFault) (result : Result Bool FlightFault) → IsErrAnd result (λ other. other ≡ failed) → NeverFlies failed
+      → FliesConfig values screen config w result w
+  never_flown failed result is why =
+      failed_so (λ (r : Result Bool FlightFault). FliesConfig values screen config w r w) result failed is (never failed why)
+
+  -- the canary wasn't made
+  unmade : (run : ℕ) (failed : FlightFault) → MakesCanary values run (Err failed) → FliesConfig values screen config w (Err failed) w
+  unmade run Memory why = never Memory tt
+  unmade run BadPrefix why = record { run = run; number = why.0; is_none = why.1; unwritten = refl }
+  unmade run Write why = absurd why
+  unmade run NoNumber why = absurd why
+  unmade run Net why = absurd why
+
+  pub never_made : (run : ℕ) (failed : FlightFault) (result : Result Bool FlightFault) → IsErrAnd result (λ other. other ≡ failed)
+      → MakesCanary values run (Err failed) → FliesConfig values screen config w result w
+  never_made run failed result is why =
+      failed_so (λ (r : Result Bool FlightFault). FliesConfig values screen config w r w) result failed is (unmade run failed why)
+
+-- what a flight came to is what the canary comes to
+pub flown_out : (values : CanaryValues) (screen : Screen) (config : ConfigView) (manner : Manner) (scene : SceneView) (old new : SinkView)
+    (result : Result Bool FlightFault) → manner ≡ manner_of values.json screen → scene ≡ scene_by values config scene.begun
+    → FliesOut manner values.span scene old result new → FliesConfig values screen config old result new
+flown_out values screen config manner scene old new result same_manner same_scene flew =
+    by_result result
+    (subst (λ (m : Manner). FliesOut m values.span (scene_by values config scene.begun) old result new) same_manner
+    (subst (λ (s : SceneView). FliesOut manner values.span s old result new) same_scene flew))
+  where
+    by_result : (result : Result Bool FlightFault) → FliesOut (manner_of values.json screen) values.span (scene_by values config scene.begun) old result new
+        → FliesConfig values screen config old result new
+    by_result (Ok sound) flew = (scene.begun, flew)
+    by_result (Err Write) flew = (scene.begun, flew)
+    by_result (Err Memory) flew = (scene.begun, flew)
+    by_result (Err Net) flew = (scene.begun, flew)
+    by_result (Err NoNumber) flew = absurd flew
+    by_result (Err BadPrefix) flew = absurd flew

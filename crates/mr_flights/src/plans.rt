@@ -69,7 +69,7 @@ pub(crate) fn make_canary(
 ) -> Result<Canary, FlightFault>
     ensures { MakesCanary values.now run result }
 {
-    let count = values.keys.min(MOST_KEYS) as usize;
+    let count = values.keys.min(MOST_KEYS);
     let chosen = choose_keys(alloc, config.routing(), values.prefix, run, count)?;
     match Canary::new(alloc, plan_of(values, run, chosen.keys)) {
         Ok(canary) => Ok(canary),
