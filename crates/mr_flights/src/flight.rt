@@ -209,15 +209,11 @@ fn fly_out<
     ensures { FliesOut manner span (scene_of scene.now) (O.told output.old) result (O.told output.new) }
 {
     let mut log = Log::new(alloc);
-    fly_seconds(
-        alloc, manner, span, scene, servers, solo, &mut log, output,
-    )?;
+    fly_seconds(alloc, manner, span, scene, servers, solo, &mut log, output)?;
     clean(solo)?;
     let canary = solo.machine_mut().canary_mut();
     let at = servers.second();
-    end_flight(
-        alloc, manner, span, scene, at, canary, &mut log, output,
-    )
+    end_flight(alloc, manner, span, scene, at, canary, &mut log, output)
 }
 
 /// Asks the proxies that these values name as their clients do, by this configuration, and writes what is seen: each second, what came
@@ -256,6 +252,12 @@ pub fn fly<
     };
     let manner = manner_of(values.json, servers.screen());
     fly_out(
-        alloc, manner, values.span, &scene, servers, &mut solo, output,
+        alloc,
+        manner,
+        values.span,
+        &scene,
+        servers,
+        &mut solo,
+        output,
     )
 }
