@@ -1,6 +1,6 @@
 -- What a notebook keeps of its notes.
-use Rattle.std.proofs.Common.{◌≡◌, ◌∙◌, ℕ, zero, suc, ◌+◌, ◌<◌, inl, inr, true, false, List, [], ◌∷◌, ◌++◌, length, Option, Some, None, refl, sym, ap, subst, arith}
-use Rattle.std.specs.Prelude.{slice_get, slice_index, slice_set, ◌==◌}
+use Rattle.std.proofs.Common.{◌≡◌, ◌∙◌, ℕ, Bool, zero, suc, ◌+◌, ◌<◌, inl, inr, true, false, List, [], ◌∷◌, ◌++◌, length, Option, Some, None, refl, sym, ap, subst, arith, ◌⊎◌}
+use Rattle.std.specs.Prelude.{Vec, vec_len, get_or, slice_get, slice_index, slice_set, ◌==◌}
 use Rattle.std.proofs.lemmas.Bool.{cases_eq}
 use Rattle.mr_counting.specs.Counting.{one_more}
 use Rattle.mr_canary.specs.declared.note.Probe.{Probe}
@@ -9,7 +9,7 @@ use Rattle.mr_canary.specs.declared.note.Asked.TheVariants as asks
 use Rattle.mr_canary.specs.declared.note.Note.{Note}
 use Rattle.mr_canary.specs.declared.note.Conviction.{Conviction}
 use Rattle.mr_canary.specs.JudgeView.{VerdictsStand, OtherVerdictsStand, JudgesAnswer}
-use Rattle.mr_canary.specs.Notes.{IsConvicted, Convicts}
+use Rattle.mr_canary.specs.Notes.{IsConvicted, Convicts, Tells}
 use Rattle.mr_canary.specs.declared.error.CanaryError.{CanaryError}
 use Rattle.mr_canary.specs.declared.note.Answer.{Answer}
 use Rattle.mr_canary.specs.declared.note.Note.TheVariants.{Issued, Answered}
@@ -23,8 +23,12 @@ use Rattle.std.proofs.Common.{eq-eqb, ne_eqb}
 use Rattle.std.proofs.lemmas.Bool.{and_left}
 use Rattle.std.proofs.lemmas.List.{get_or-set_same, get_or-set_other}
 use Rattle.std.proofs.lemmas.List.FromFn.{fill_by_all}
-use Rattle.mr_probes.specs.NotebookView.{IsFirstSet, NeverSetBetween, came_back_after}
-use Rattle.mr_probes.specs.steps.Judging.{AreZero, Counts, IsFirstPositive, IsOfSame}
+use Rattle.std.specs.Prelude.{if◌then◌else◌, nat_lt, drop}
+use Rattle.mr_probes.specs.declared.answering.Said.{Said}
+use Rattle.mr_probes.specs.declared.answering.Said.TheVariants.{Hit, Miss, Stored, Deleted, NotFound, Failed}
+use Rattle.mr_probes.specs.declared.notebook.Found.{Found}
+use Rattle.mr_probes.specs.NotebookView.{found_after, IsFirstSet, NeverSetBetween, came_back_after}
+use Rattle.mr_probes.specs.steps.Judging.{AreTold, AreZero, Counts, IsFirstPositive, IsOfSame}
 use Rattle.mr_probes.specs.steps.Notebook.{IsNotebook}
 use Rattle.mr_probes.specs.declared.notebook.Notebook.TheInside.{Inside}
 
@@ -46,6 +50,44 @@ convicts_stays {notes = notes} later c = record {
   answered_before = c.answered_before;
   acknowledged_before = c.acknowledged_before;
 }
+
+tells_more : (notes later : List Note) (conviction : Conviction) → Tells notes conviction → Tells (notes ++ later) conviction
+tells_more notes later conviction t = record { set = t.set; convicts = convicts_stays later t.convicts }
+
+-- what the notes tell they tell with one more
+pub told_stays : (old : List Note) (note : Note) (new : List Note) → new ≡ old ++ note ∷ [] → (found : List Found) → AreTold old found → AreTold new found
+told_stays old note new is found told place one there =
+    subst (λ (n : List Note). Tells n one.conviction) (sym is) (tells_more old (note ∷ []) one.conviction (told place one there))
+
+there_or_last : (found : List Found) (last : Found) (place : ℕ) (one : Found) → slice_get (found ++ last ∷ []) place ≡ Some one → (slice_get found place ≡ Some one) ⊎ (last ≡ one)
+there_or_last [] last zero one e = inr (cc)
+there_or_last [] last (suc place) one e = absurd (cc)
+there_or_last (first ∷ found) last zero one e = inl e
+there_or_last (first ∷ found) last (suc place) one e = there_or_last found last place one e
+
+-- and one more that they tell
+told_with : (notes : List Note) (last : Found) (found : List Found) → Tells notes last.conviction → AreTold notes found → (few : Bool) → AreTold notes (if few then found ++ last ∷ [] else found)
+told_with notes last found tells told true place one there = elim (there_or_last found last place one there) [
+  | inl old ↦ told place one old
+  | inr new ↦ subst (λ (f : Found). Tells notes f.conviction) new tells
+]
+told_with notes last found tells told false place one there = told place one there
+
+found_told : (notes : List Note) (convicted : Option Conviction) (said : Said) (found : List Found) → ((conviction : Conviction) → convicted ≡ Some conviction → Tells notes conviction)
+    → AreTold notes found → AreTold notes (found_after convicted said found)
+found_told notes None said found tells told = told
+found_told notes (Some conviction) (Hit stamp) found tells told =
+    told_with notes (record { conviction = conviction; stamp = stamp }) found (tells conviction refl) told (nat_lt (length found) 64)
+found_told notes (Some conviction) Miss found tells told = told
+found_told notes (Some conviction) Stored found tells told = told
+found_told notes (Some conviction) Deleted found tells told = told
+found_told notes (Some conviction) NotFound found tells told = told
+found_told notes (Some conviction) (Failed trouble) found tells told = told
+
+-- without the first
+pub told_behind : (notes : List Note) (found : List Found) → AreTold notes found → AreTold notes (drop 1 found)
+told_behind notes [] told place one there = absurd (cc)
+told_behind notes (first ∷ found) told place one there = told (suc place) one there
 
 pub convicted_stays : (notes later : List Note) (get : Probe) → IsConvicted notes get → IsConvicted (notes ++ later) get
 convicted_stays notes later get c = record { set = c.set; delete = c.delete; value = c.value; convicts = convicts_stays later c.convicts }
@@ -103,6 +145,7 @@ module _ (n : Inside) (judge : JudgeView) (client time key : ℕ) (asked : Asked
     all = i.all ∙ sym keys_by;
     counted = λ k. i.counted k ∙ sym (ap (λ (l : List Note). sets_of l k) notes_by ∙ sets_same n.judge.notes (Issued probe asked) k (and_left (is_set asked) (probe.key == k) none));
     kept = i.kept;
+    tells = told_stays n.judge.notes (Issued probe asked) judge.notes notes_by n.found.items i.tells;
     told = counts_same n.came_back n.judge.notes (Issued probe asked) judge.notes notes_by stands i.told;
   }
 
@@ -134,6 +177,7 @@ issued_set n judge client time key value more probe issues stands i within is = 
   all = i.all ∙ sym (keys_by n judge client time key (asks.Set value) probe issues i);
   counted = set_counted n judge client time key value more probe issues i within is;
   kept = i.kept;
+  tells = told_stays n.judge.notes (Issued probe (asks.Set value)) judge.notes (notes_by n judge client time key (asks.Set value) probe issues i) n.found.items i.tells;
   told = counts_same n.came_back n.judge.notes (Issued probe (asks.Set value)) judge.notes (notes_by n judge client time key (asks.Set value) probe issues i) stands i.told;
 }
 
@@ -147,6 +191,9 @@ issued_or_not n judge client time key asked (Err e) m stands none i = kept_by n 
 -- how often each key was set, as a list
 pub sets_listed : (n : Inside) → IsNotebook n → n.sets.items ≡ map (sets_of n.judge.notes) (range_with_len 0 n.judge.keys)
 sets_listed n i = fill_by_all (sets_of n.judge.notes) n.sets.items n.judge.keys 0 (let ok = n.sets.ok.0 in let all = i.all in omega arith) (λ k within. i.counted k)
+
+one_inside : (a b : Conviction) → Some a ≡ Some b → a ≡ b
+one_inside a b e = cc
 
 -- what an answer does to a judge
 
@@ -165,6 +212,15 @@ module _ (old new : JudgeView) (number : ℕ) (answer : Answer) (noted : new ≡
       → (count : ℕ) → Counts count old.notes → Counts (came_back_after convicted count) new.notes
   counts_by_answer None judged stands count counts = counts_silent count old.notes (Answered number answer) new.notes number answer_notes stands judged counts
   counts_by_answer (Some conviction) judged stands count counts = counts_more count new.notes number conviction judged
+
+  tells_now : (convicted : Option Conviction) → JudgesAnswer new.notes number convicted → (conviction : Conviction) → convicted ≡ Some conviction → Tells new.notes conviction
+  tells_now None judged conviction e = absurd (cc)
+  tells_now (Some found) judged conviction e = subst (λ (c : Conviction). Tells new.notes c) (one_inside found conviction e) judged.1
+
+  pub told_by_answer : (convicted : Option Conviction) → JudgesAnswer new.notes number convicted → (said : Said) (found : List Found) → AreTold old.notes found
+      → AreTold new.notes (found_after convicted said found)
+  told_by_answer convicted judged said found told =
+      found_told new.notes convicted said found (tells_now convicted judged) (told_stays old.notes (Answered number answer) new.notes answer_notes found told)
 
 pub same_by_none : (old new : JudgeView) → new ≡ old → IsOfSame old new
 same_by_none old new e = record {
@@ -190,3 +246,18 @@ first_by n i from (Some key) is =
       was_set = omega arith;
       first = λ k behind before. sym (i.counted k) ∙ is.first k behind before;
     }
+
+pub told_none : (notes : List Note) (found : List Found) → found ≡ [] → AreTold notes found
+told_none notes [] is place one there = absurd (cc)
+told_none notes (first ∷ found) is place one there = absurd (cc)
+
+pub first_told : (notes : List Note) (found : List Found) (one : Found) → AreTold notes found → 0 < length found → one ≡ get_or found 0 one → Tells notes one.conviction
+first_told notes [] one told some is = absurd (omega arith)
+first_told notes (first ∷ found) one told some is = subst (λ (f : Found). Tells notes f.conviction) (sym is) (told 0 first refl)
+
+-- what isn't empty has a first
+pub some_found : {Z : Type 0} (found : Vec Found Z) → (vec_len found == 0) ≡ false → 0 < length found.items
+some_found found some = elim (cases_eq (vec_len found) 0) [
+  | inl none ↦ absurd (let e = eq-eqb (vec_len found) 0 none in cc)
+  | inr more ↦ (let ok = found.ok.0 in omega arith)
+]

@@ -1,8 +1,8 @@
 //! A canary: what happens to it, and what it then does.
-ghost use Rattle.std.specs.Prelude.{◌≡◌, ◌↔◌, IsTrue, IfOk, length, drop, replicate, slice_get};
+ghost use Rattle.std.specs.Prelude.{◌≡◌, ◌↔◌, IsTrue, IfOk, IfSome, length, drop, replicate, slice_get};
 ghost use Rattle.std.specs.Option.{option_copied};
 ghost use Rattle.std.specs.List.{range_with_len};
-ghost use Rattle.mr_canary.specs.Notes.{IsConvicted};
+ghost use Rattle.mr_canary.specs.Notes.{IsConvicted, Tells};
 ghost use Rattle.mr_canary.specs.declared.note.Probe.{Probe};
 ghost use Rattle.mr_sightings.specs.Tally.{no_tally};
 ghost use Rattle.mr_sightings.specs.declared.trouble.Trouble.TheVariants.{BrokeOff};
@@ -18,7 +18,6 @@ use crate::dice::Dice;
 use crate::notebook::{Found, Notebook};
 use crate::pace::Pace;
 use crate::round::{give_up_late, is_done, issue_due, settle};
-use mr_canary::CanaryError;
 use mr_sightings::{Tally, Trouble};
 use mr_text::{FixedBuffer, Key};
 use std::alloc::{AllocError, Global};
@@ -88,8 +87,8 @@ fn fresh_clients(alloc: Global, clients: usize) -> Result<Vec<Client>, AllocErro
 }
 
 impl Canary {
-    /// A canary of which no client has a connection. Memory alone may be refused.
-    pub fn new(alloc: Global, plan: Plan) -> Result<Canary, CanaryError>
+    /// A canary of which no client has a connection.
+    pub fn new(alloc: Global, plan: Plan) -> Result<Canary, AllocError>
         ensures { IfOk result (λ canary. canary ≡ fresh_canary plan) }
     {
         let Plan {
@@ -240,6 +239,7 @@ impl Canary {
     /// The first conviction that wasn't taken yet, with what the data of the hit said.
     pub fn take_conviction(&mut self) -> Option<Found>
         ensures first { result ≡ first_of self.old.notebook.found }
+        ensures told { IfSome result (λ one. Tells self.old.notebook.judge.notes one.conviction) }
         ensures taken { self.new ≡ record self.old { notebook = record self.old.notebook { found = drop 1 self.old.notebook.found } } }
     {
         self.notebook.take_found()

@@ -45,7 +45,7 @@ pub enum Client {
 
 /// What bytes come to that came over a client's connection.
 #[derive(Clone, Copy, Debug, PartialEq, Eq)]
-pub(crate) enum Hearing {
+pub enum Hearing {
     /// The reply isn't whole.
     Part,
     /// This came of the request. Nothing stands behind the reply, or something does.

@@ -22,7 +22,7 @@ mod wish;
 pub use answering::Said;
 pub use canary::{Canary, Goes, Plan};
 pub use choosing::{ChosenKeys, choose_keys};
-pub use client::{Asking, Client, Waiting};
+pub use client::{Asking, Client, Hearing, Waiting};
 pub use course::Course;
 pub use dice::Dice;
 pub use heard::Heard;

@@ -1,12 +1,13 @@
 //! What is noted and counted of requests and answers.
-ghost use Rattle.std.specs.Prelude.{◌≡◌, ◌≤◌, ◌<◌, ◌↔◌, ◌+◌, [], ◌∷◌, ◌++◌, ◌⊎◌, ℕ, count_by, nat_lt, length, drop, slice_get, slice_index, vec_len, vec_capacity, IsTrue, IfOk, IfErr, MatchOption, MatchResult, None, Some};
+ghost use Rattle.std.specs.Prelude.{◌≡◌, ◌≤◌, ◌<◌, ◌↔◌, ◌+◌, [], ◌∷◌, ◌++◌, ◌⊎◌, ℕ, List, count_by, nat_lt, length, drop, slice_get, slice_index, vec_len, vec_capacity, IsTrue, IfOk, IfErr, IfSome, MatchOption, MatchResult, None, Some};
 ghost use Rattle.std.specs.Option.{option_copied};
-ghost use Rattle.mr_canary.specs.Notes.{IsConvicted, sets_of};
+ghost use Rattle.mr_canary.specs.Notes.{IsConvicted, Tells, sets_of};
+ghost use Rattle.mr_probes.specs.declared.notebook.Found.{Found};
 ghost use Rattle.mr_canary.specs.JudgeView.{RefusesIssue};
 ghost use Rattle.mr_canary.specs.declared.note.Probe.{Probe};
 ghost use Rattle.mr_sightings.specs.Tally.{no_tally};
 ghost use Rattle.mr_probes.specs.NotebookView.{IssuesSo, TakesAnswer, fresh_notebook, keys_set, NeverSetBetween, IsFirstSet, first_of, found_after, came_back_after, left_after, kept_with, JudgesSo, TakesNone};
-ghost use Rattle.mr_probes.specs.steps.Judging.{AreZero, Counts, IsFirstPositive, IsOfSame};
+ghost use Rattle.mr_probes.specs.steps.Judging.{AreTold, AreZero, Counts, IsFirstPositive, IsOfSame};
 ghost use Rattle.mr_probes.specs.Said.{answer_of};
 
 use crate::answering::Said;
@@ -17,7 +18,7 @@ use mr_canary::{CanaryError, Conviction, Judge, Probe};
 use mr_counting::one_more;
 use mr_sightings::Tally;
 use mr_text::Key;
-use std::alloc::Global;
+use std::alloc::{AllocError, Global};
 use std::marker::Model;
 
 /// How many values of a key the judge keeps at most.
@@ -96,6 +97,7 @@ fn judged(judge: &mut Judge, asking: &Asking, said: Said) -> Option<Conviction>
         ⊎ TakesNone judge.old asking.now.probe.number result judge.new }
     ensures same { IsOfSame judge.old judge.new }
     ensures counts { (count : ℕ) → Counts count judge.old.notes → Counts (came_back_after result count) judge.new.notes }
+    ensures told { (found : List Found) → AreTold judge.old.notes found → AreTold judge.new.notes (found_after result said found) }
 {
     match judge.answered(asking.probe.number, said.answer()) {
         Ok(convicted) => convicted,
@@ -145,12 +147,16 @@ fn set_count(sets: &[u64]) -> usize
 
 impl Notebook {
     /// Of a run with these keys, with nothing noted.
-    pub(crate) fn new(alloc: Global, run: u64, keys: Vec<Key>) -> Result<Notebook, CanaryError>
+    pub(crate) fn new(alloc: Global, run: u64, keys: Vec<Key>) -> Result<Notebook, AllocError>
         ensures { IfOk result (λ notebook. notebook ≡ fresh_notebook run keys.items) }
     {
+        let judge = match Judge::new(alloc, keys.len(), ROOM) {
+            Ok(judge) => judge,
+            Err(_) => return Err(AllocError),
+        };
         Ok(Notebook {
             run,
-            judge: Judge::new(alloc, keys.len(), ROOM)?,
+            judge,
             sets: vec![in alloc; 0; keys.len()]?,
             keys,
             second: Tally::NONE,
@@ -267,6 +273,7 @@ impl Notebook {
     /// The first conviction that wasn't taken yet.
     pub(crate) fn take_found(&mut self) -> Option<Found>
         ensures first { result ≡ first_of self.old.found }
+        ensures told { IfSome result (λ one. Tells self.old.judge.notes one.conviction) }
         ensures taken { self.new ≡ record self.old { found = drop 1 self.old.found } }
     {
         if self.found.is_empty() {

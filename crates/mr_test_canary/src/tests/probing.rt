@@ -2,7 +2,9 @@
 use super::{holds, must};
 use mr_node::{CacheNode, answer_on};
 use mr_pools::{NamedHash, Routing};
-use mr_probes::{Canary, Goes, KeyError, Plan, Stamp, choose_keys, name_key, read_stamp, stamp_text};
+use mr_probes::{
+    Canary, Goes, KeyError, Plan, Stamp, choose_keys, name_key, read_stamp, stamp_text,
+};
 use mr_test_support::{reply_text, routing};
 use mr_text::{Key, Reply, Request, RequestReader};
 use std::alloc::Global;
@@ -70,7 +72,14 @@ impl Server {
 }
 
 /// What the client has to write goes to the server, and the answer comes back.
-fn turn(rt: &impl Abort, alloc: Global, canary: &mut Canary, server: &mut Server, place: usize, now: u64) {
+fn turn(
+    rt: &impl Abort,
+    alloc: Global,
+    canary: &mut Canary,
+    server: &mut Server,
+    place: usize,
+    now: u64,
+) {
     let text = must(rt, Vec::from_slice(alloc, canary.output(place)));
     if text.is_empty() {
         return;
@@ -115,13 +124,25 @@ fn plays_honest(rt: &impl Abort, alloc: Global) {
     holds(rt, canary.came_back() == 0, "nothing came back");
     holds(rt, canary.take_conviction().is_none(), "no conviction");
     let second = canary.take_second();
-    holds(rt, second.requests > 3900 && second.requests < 4100, "a thousand in a second");
-    holds(rt, second.hits > 0 && second.misses > 0 && second.stored > 0 && second.acknowledged > 0, "all kinds");
+    holds(
+        rt,
+        second.requests > 3900 && second.requests < 4100,
+        "a thousand in a second",
+    );
+    holds(
+        rt,
+        second.hits > 0 && second.misses > 0 && second.stored > 0 && second.acknowledged > 0,
+        "all kinds",
+    );
     holds(rt, canary.take_second().requests == 0, "nothing since");
     holds(rt, !canary.is_over(), "it isn't over");
     clean(rt, alloc, &mut canary, &mut server);
     holds(rt, canary.is_over() && canary.left() == 0, "all is deleted");
-    holds(rt, canary.take_second().acknowledged == 4, "one delete of each key");
+    holds(
+        rt,
+        canary.take_second().acknowledged == 4,
+        "one delete of each key",
+    );
 }
 
 fn plays_stale(rt: &impl Abort, alloc: Global) {
@@ -133,9 +154,21 @@ fn plays_stale(rt: &impl Abort, alloc: Global) {
     for _ in 0..64 {
         match canary.take_conviction() {
             Some(found) => {
-                holds(rt, found.conviction.value == found.stamp.value, "the value of the hit");
-                holds(rt, found.stamp.run == RUN && found.stamp.client < 2, "by a client of the run");
-                holds(rt, found.stamp.time < found.conviction.delete.time, "set before the delete");
+                holds(
+                    rt,
+                    found.conviction.value == found.stamp.value,
+                    "the value of the hit",
+                );
+                holds(
+                    rt,
+                    found.stamp.run == RUN && found.stamp.client < 2,
+                    "by a client of the run",
+                );
+                holds(
+                    rt,
+                    found.stamp.time < found.conviction.delete.time,
+                    "set before the delete",
+                );
             }
             None => holds(rt, false, "64 are kept"),
         }
@@ -146,10 +179,22 @@ fn plays_stale(rt: &impl Abort, alloc: Global) {
 
 fn leaves(rt: &impl Abort, alloc: Global) {
     let mut canary = canary(rt, alloc, 3, 1);
-    holds(rt, canary.on_bytes(0, 1, b"END\r\n") == Goes::Off, "no connection");
+    holds(
+        rt,
+        canary.on_bytes(0, 1, b"END\r\n") == Goes::Off,
+        "no connection",
+    );
     canary.on_up(0, 1);
-    holds(rt, canary.is_up(0) && !canary.is_up(1) && !canary.is_up(9), "one is up");
-    holds(rt, canary.on_bytes(0, 1, b"END\r\n") == Goes::Off, "nothing asked");
+    holds(
+        rt,
+        canary.is_up(0) && !canary.is_up(1) && !canary.is_up(9),
+        "one is up",
+    );
+    holds(
+        rt,
+        canary.on_bytes(0, 1, b"END\r\n") == Goes::Off,
+        "nothing asked",
+    );
     holds(rt, !canary.is_up(0), "it is left");
     canary.on_up(0, 1);
     canary.on_tick(2);
@@ -157,10 +202,18 @@ fn leaves(rt: &impl Abort, alloc: Global) {
     holds(rt, waits > 0 && canary.output(9).is_empty(), "one asks");
     canary.on_written(0, waits);
     holds(rt, canary.output(0).is_empty(), "all is written");
-    holds(rt, canary.on_bytes(0, 3, b"SERVER_ERROR busy\r\n") == Goes::On, "busy");
+    holds(
+        rt,
+        canary.on_bytes(0, 3, b"SERVER_ERROR busy\r\n") == Goes::On,
+        "busy",
+    );
     canary.on_tick(1_000_000);
     canary.on_written(0, 1000);
-    holds(rt, canary.on_bytes(0, 1_000_001, b"gibberish\r\n") == Goes::Off, "nonsense");
+    holds(
+        rt,
+        canary.on_bytes(0, 1_000_001, b"gibberish\r\n") == Goes::Off,
+        "nonsense",
+    );
     canary.on_up(1, 1_100_000);
     canary.on_tick(1_100_000);
     canary.on_broken(1, 1_100_001);
@@ -173,7 +226,14 @@ fn leaves(rt: &impl Abort, alloc: Global) {
     holds(rt, !canary.is_up(2), "too long");
     let second = canary.take_second();
     holds(rt, second.requests == 4, "four came to something");
-    holds(rt, second.troubles[0] == 1 && second.troubles[8] == 1 && second.troubles[9] == 1 && second.troubles[10] == 1, "each by its reason");
+    holds(
+        rt,
+        second.troubles[0] == 1
+            && second.troubles[8] == 1
+            && second.troubles[9] == 1
+            && second.troubles[10] == 1,
+        "each by its reason",
+    );
 }
 
 fn stamps(rt: &impl Abort, alloc: Global) {
@@ -185,28 +245,57 @@ fn stamps(rt: &impl Abort, alloc: Global) {
         time: 1_012_345_678,
     };
     let text = must(rt, stamp_text(alloc, &stamp));
-    let said: &[u8] = b"0000000000c0ffee-0000000000000007-ffffffffffffffff-0000000000000001-000000003c572b4e";
+    let said: &[u8] =
+        b"0000000000c0ffee-0000000000000007-ffffffffffffffff-0000000000000001-000000003c572b4e";
     holds(rt, text.as_slice() == said, "the text");
     holds(rt, read_stamp(&text) == Some(stamp), "read back");
-    holds(rt, read_stamp(b"0000000000c0ffee-0000000000000007-FFFFFFFFFFFFFFFF-0000000000000001-000000003c572b4e").is_none(), "capital letters");
+    holds(
+        rt,
+        read_stamp(
+            b"0000000000c0ffee-0000000000000007-FFFFFFFFFFFFFFFF-0000000000000001-000000003c572b4e",
+        ).is_none(),
+        "capital letters",
+    );
     holds(rt, read_stamp(b"").is_none(), "nothing");
 }
 
 fn chooses(rt: &impl Abort, alloc: Global) {
-    let routing: Routing = must(rt, routing(alloc, &[b"7003", b"7004", b"7005"], NamedHash::Fnv));
+    let routing: Routing = must(
+        rt,
+        routing(alloc, &[b"7003", b"7004", b"7005"], NamedHash::Fnv),
+    );
     let chosen = must(rt, choose_keys(alloc, &routing, "canary-", RUN, 2));
-    holds(rt, chosen.bare == 0 && chosen.keys.len() < 10, "each node has a key");
+    holds(
+        rt,
+        chosen.bare == 0 && chosen.keys.len() < 10,
+        "each node has a key",
+    );
     for number in 0..2 {
         for node in 0..routing.pool(number).len() {
-            holds(rt, chosen.keys.iter().any(|key| routing.place(number, key) == node), "this one too");
+            holds(
+                rt,
+                chosen
+                    .keys
+                    .iter()
+                    .any(|key| routing.place(number, key) == node),
+                "this one too",
+            );
         }
     }
     match chosen.keys.first() {
-        Some(key) => holds(rt, key.as_bytes() == b"canary-0000000000c0ffee-0".as_slice(), "the first"),
+        Some(key) => holds(
+            rt,
+            key.as_bytes() == b"canary-0000000000c0ffee-0".as_slice(),
+            "the first",
+        ),
         None => holds(rt, false, "there is one"),
     }
     let bad = choose_keys(alloc, &routing, "a b", RUN, 2);
-    holds(rt, matches!(bad, Err(KeyError::BadPrefix)), "no key has a space");
+    holds(
+        rt,
+        matches!(bad, Err(KeyError::BadPrefix)),
+        "no key has a space",
+    );
 }
 
 #[test]
