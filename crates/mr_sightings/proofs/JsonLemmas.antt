@@ -33,12 +33,14 @@ put_no_float name value (member other before rest) plain others =
     go (put_no_float name value rest plain (second_false (has_float before) (members_have_float rest) others)) (slice_cmp nat_cmp name other)
   where
     go : members_have_float (put name value rest) ≡ false → (order : Ordering)
-        → members_have_float (match_ordering order (member name value (member other before rest)) (member other value rest) (member other before (put name value rest))) ≡ false
+        → members_have_float (match_ordering order (member name value (member other before rest)) (member other value rest)
+        (member other before (put name value rest))) ≡ false
     go more Less = rw plain others
     go more Equal = rw plain (second_false (has_float before) (members_have_float rest) others)
     go more Greater = rw (first_false (has_float before) (members_have_float rest) others) more
 
-error_no_float : (trouble : Trouble) (count : ℕ) (rest : Members) → members_have_float rest ≡ false → members_have_float (with_error trouble count rest) ≡ false
+error_no_float : (trouble : Trouble) (count : ℕ) (rest : Members) → members_have_float rest ≡ false
+    → members_have_float (with_error trouble count rest) ≡ false
 error_no_float trouble count rest others = go (nat_eq count 0)
   where
     go : (none : Bool) → members_have_float (if none then rest else with_count (trouble_text trouble) count rest) ≡ false

@@ -27,8 +27,10 @@ answer_here (count ∷ counts) zero place left d within here = in_this count pla
 answer_here (count ∷ counts) (suc index) place left d within here = answer_here counts index place left d (omega arith) here
 
 -- an answer behind it
-pub answer_behind : (counts : List ℕ) (index place left : ℕ) (d : ℕ) → index < length counts → get_or counts index d ≤ left
-    → slice_get (each_place place (drop index counts)) left ≡ slice_get (each_place (place + 1) (drop (suc index) counts)) (left - get_or counts index d)
+pub answer_behind : (counts : List ℕ) (index place left : ℕ) (d : ℕ) → index < length counts
+    → get_or counts index d ≤ left
+    → slice_get (each_place place (drop index counts)) left
+    ≡ slice_get (each_place (place + 1) (drop (suc index) counts)) (left - get_or counts index d)
 answer_behind [] index place left d within behind = absurd (omega arith)
 answer_behind (count ∷ counts) zero place left d within behind = behind_this count place left (each_place (place + 1) counts) behind
 answer_behind (count ∷ counts) (suc index) place left d within behind = answer_behind counts index place left d (omega arith) behind
@@ -105,7 +107,9 @@ percentile_none percent counts most none = go (cases_lt 0 (sum counts))
     go (inl some) =
         let worth : sum counts * percent ≤ 100 * sum counts = omega (arith, mul-le-mul_left (sum counts) most) in
         let before = rank_of percent (sum counts) - 1 in
-        let within : before < length (each_place 0 counts) = rw (length_each 0 counts) (rank_within (sum counts * percent) (rank_of percent (sum counts)) (sum counts) some worth refl) in
+        let within : before < length (each_place 0 counts) =
+        rw (length_each 0 counts)
+        (rank_within (sum counts * percent) (rank_of percent (sum counts)) (sum counts) some worth refl) in
         let found = slice_get-get_or (each_place 0 counts) before 0 within in
         cc
     go (inr nothing) = omega arith

@@ -34,11 +34,13 @@ some_if false x none = refl
 some_if true x none = cc
 
 -- a list of which no element is found has none that passes
-no_first : (test : Row → Bool) (rows : List Row) → length rows ≤ position_or_len test rows → (k : ℕ) (d : Row) → k < length rows → test (get_or rows k d) ≡ false
+no_first : (test : Row → Bool) (rows : List Row) → length rows ≤ position_or_len test rows
+    → (k : ℕ) (d : Row) → k < length rows → test (get_or rows k d) ≡ false
 no_first test rows none k d within = fails_before_first test rows k d (let before : k < position_or_len test rows = omega arith in before)
 
 -- a row behind all that are of other phases
-new_row_behind : (hop : ℕ) (phase : PhaseName) (tally : Tally) (rows : List Row) (d : Row) → ((k : ℕ) → k < length rows → is_of hop phase (get_or rows k d) ≡ false)
+new_row_behind : (hop : ℕ) (phase : PhaseName) (tally : Tally) (rows : List Row) (d : Row)
+    → ((k : ℕ) → k < length rows → is_of hop phase (get_or rows k d) ≡ false)
     → rows ++ record { hop = hop; phase = phase; tally = tally } ∷ [] ≡ with_tally hop phase tally rows
 new_row_behind hop phase tally [] d others = refl
 new_row_behind hop phase tally (row ∷ rows) d others =

@@ -21,12 +21,14 @@ slowest_said (Some micros) = millis_text micros ++ codes " ms"
 unfoldable pub gets_text : Tally → List ℕ
 gets_text tally =
     number_of tally.requests (codes "request") (codes "requests")
-    ++ (codes ", " ++ (number_of tally.hits (codes "hit") (codes "hits") ++ (codes ", " ++ number_of tally.misses (codes "miss") (codes "misses"))))
+    ++ (codes ", " ++ (number_of tally.hits (codes "hit") (codes "hits")
+    ++ (codes ", " ++ number_of tally.misses (codes "miss") (codes "misses"))))
 
 -- how long answers took
 unfoldable pub times_text : Tally → List ℕ
 times_text tally =
-    codes ", median " ++ (time_said (median_of tally) ++ (codes ", greatest " ++ slowest_said (slowest_of tally.greatest (median_of tally))))
+    codes ", median " ++ (time_said (median_of tally)
+    ++ (codes ", greatest " ++ slowest_said (slowest_of tally.greatest (median_of tally))))
 
 -- how many requests came to nothing
 abbrev pub errors_of : List ℕ → ℕ
@@ -66,5 +68,5 @@ head_text second = codes "second " ++ (decimal second.at ++ (codes " " ++ (place
 -- the line of a second
 unfoldable pub second_text : Second → List ℕ
 second_text second =
-    head_text second ++ (gets_text second.tally ++ (times_text second.tally ++ (errors_text second.tally.troubles ++ (came_back_part second.came_back
-    ++ codes "\n"))))
+    head_text second ++ (gets_text second.tally ++ (times_text second.tally
+    ++ (errors_text second.tally.troubles ++ (came_back_part second.came_back ++ codes "\n"))))

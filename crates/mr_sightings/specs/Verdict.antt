@@ -36,4 +36,5 @@ left_text count =
 -- all of it
 unfoldable pub verdict_text : Verdict → List ℕ
 verdict_text verdict =
-    finding_text verdict.came_back ++ (codes ": " ++ (asked_text verdict ++ (acknowledged_text verdict.acknowledged ++ left_text verdict.left)))
+    finding_text verdict.came_back ++ (codes ": " ++ (asked_text verdict
+    ++ (acknowledged_text verdict.acknowledged ++ left_text verdict.left)))

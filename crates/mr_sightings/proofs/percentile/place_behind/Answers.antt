@@ -15,5 +15,6 @@ loop-count-preserved c =
     record {
       place = omega arith;
       answer = rw (c.from-here.ensures, add-one c.loop-count.count-index)
-          (sym (answer_behind c.args.counts.now c.loop-count.count-index c.loop-count.place c.loop-count.left 0 within behind) ∙ c.loop-count.invariant.answer);
+          (sym (answer_behind c.args.counts.now c.loop-count.count-index c.loop-count.place c.loop-count.left 0 within behind)
+          ∙ c.loop-count.invariant.answer);
     }
