@@ -211,6 +211,17 @@ impl<
         }
     }
 
+    /// How many microseconds have passed since the epoch, as the machine's clock says. 0 where it gives no reading.
+    pub fn microseconds(&self) -> u64 {
+        let Ok(time) = SystemTime::now(self.rt) else {
+            return 0;
+        };
+        match time.duration_since(UNIX_EPOCH) {
+            Ok(passed) => passed.as_micros().min(u128::from(u64::MAX)) as u64,
+            Err(_) => 0,
+        }
+    }
+
     /// Waits for so many milliseconds.
     pub fn pause(&self, milliseconds: u64) {
         thread::sleep(self.rt, Duration::from_millis(milliseconds))
@@ -229,6 +240,15 @@ impl<
                 self.failures.add_one();
                 Err(SeedFault)
             }
+        }
+    }
+
+    /// A number that nobody outside knows, drawn from the machine's random source. Contracts don't see that it was drawn.
+    pub fn draw_number(&self) -> Result<u64, SeedFault> {
+        let mut bytes = [0; 8];
+        match self.rt.fill_bytes(&mut bytes) {
+            Ok(()) => Ok(u64::from_be_bytes(bytes)),
+            Err(_) => Err(SeedFault),
         }
     }
 

@@ -1,0 +1,23 @@
+use Rattle.std.proofs.Common.{◌∙◌, ap, refl}
+use Rattle.mr_flights.proofs.FlightLemmas.{flown_out, never_flown, never_made}
+use Rattle.mr_flights.specs.Scene.{scene_of}
+use Rattle.mr_flights.specs.Showing.{manner_of}
+use Rattle.mr_flights.proofs.flight.fly.Goals as goal
+
+pub returns-in_err-make_canary : goal.returns-in_err-make_canary
+returns-in_err-make_canary g c =
+    never_made c.args.values.now c.args.servers.now.screen c.args.config.now (g.O.Sink.told c.args.output.now) _ c.in_err-make_canary.field-0.0 _
+    c.from_residual.ensures.1 c.in_err-make_canary.ensures
+
+pub returns-in_err-reach : goal.returns-in_err-reach
+returns-in_err-reach g c =
+    never_flown c.args.values.now c.args.servers.now.screen c.args.config.now (g.O.Sink.told c.args.output.now) c.in_err-reach.field-0.0 _
+    c.from_residual-in_err-reach.ensures.1 (rw c.in_err-reach.ensures tt)
+
+pub returns : goal.returns
+returns g c =
+    flown_out c.args.values.now c.args.servers.now.screen c.args.config.now _ (scene_of _) (g.O.Sink.told c.args.output.now)
+    (g.O.Sink.told c.fly_out.new.output) _
+    (c.manner_of-manner.ensures ∙ ap (manner_of c.args.values.now.json) c.screen.ensures)
+    (rw (c.proxies-scene.ensures, c.schedule-scene.ensures.schedule) refl)
+    c.fly_out.ensures
