@@ -1,7 +1,8 @@
 //! The services of this machine.
-ghost use Rattle.std.specs.Prelude.{◌≡◌, None, if◌then◌else◌, option_map};
+ghost use Rattle.std.specs.Prelude.{◌≡◌, ◌≢◌, None, if◌then◌else◌, option_map, IfOk, IfErr};
 ghost use Rattle.mr_proxy.specs.ProxyView.{IsFresh};
 ghost use Rattle.mr_servers.specs.Servers.{DrawsSeed, IsOneService, NodeAt, ProxyAt, LoopsAt, NodeLoopsAt, OpensBoth, clients_at};
+ghost use Rattle.mr_servers.specs.declared.fault.OpenFault.{OpenFault};
 
 use crate::asking::{metrics_at, stats_at};
 use crate::driven_node::{NodeLoops, drive_node};
@@ -13,7 +14,9 @@ use crate::listening::MachineListens;
 use crate::moments::{moment_now, passed_since};
 use crate::screen::Screen;
 use crate::seeds::GhostSeeds;
-use mr_driver::DriverBounds;
+use crate::solo::open_solo;
+use mr_counting::ClockWatch;
+use mr_driver::{DriverBounds, Linked, Solo};
 use mr_loop::ProxyLoop;
 use mr_pools::Routing;
 use mr_proxy::ProxyCore;
@@ -193,6 +196,26 @@ impl<
     /// connection is made, or where nothing is answered.
     pub fn stats_at(&self, alloc: Global, name: &str) -> Result<Option<Vec<u8>>, AllocError> {
         stats_at(self.rt, alloc, name)
+    }
+
+    /// A loop of a machine that has links and no clients, whose links lead to these addresses, in order: each is dialled. A text that is no
+    /// address of a node is never dialled. What a dial may take, what happens where it fails, and how its turns are taken, `Solo` says.
+    /// OutOfMemory where memory is refused, Net where it can't be opened for anything else, as for want of descriptors. Contracts don't see
+    /// that it was opened.
+    pub fn open_solo<'w, M: Linked>(
+        &self,
+        alloc: Global,
+        machine: M,
+        addresses: &[&str],
+        dial_millis: u64,
+        watch: &'w ClockWatch,
+    ) -> Result<Solo<'w, R, M>, OpenFault>
+    where
+        'a: 'w,
+        ensures begun { IfOk result (λ solo. solo.now ≡ 0) }
+        ensures fault { IfErr result (λ fault. fault ≢ OpenFault.Metrics) }
+    {
+        open_solo(self.rt, alloc, machine, addresses, dial_millis, watch)
     }
 
     /// How many milliseconds have passed since this was made, by a clock that never goes back. 0 where it gives no reading.
