@@ -151,7 +151,7 @@ impl<'a, R: Net + Clock, M: Linked> Solo<'a, R, M> {
     /// Takes turns, one at least, until it is this moment or later by the loop's own clock, in microseconds since its first turn began. In
     /// each it waits for what happens, until that moment at the latest, and until the next look at its links (`tick_of`) where time does
     /// something to them; it reads what came, tells the machine the time where that look is due, and writes what is there. The error is
-    /// that the system's wait failed, or that the clock gave no reading: then it is earlier still.
+    /// that the system's wait failed, or that the clock gave no reading: with either the call ends, whatever the time.
     pub fn drive_until(&mut self, micros: u64) -> io::Result<()>
     where
         R: Wait,
