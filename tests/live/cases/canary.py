@@ -429,7 +429,7 @@ def a_canary_redraws_its_line_on_a_terminal():
             shown += piece
         os.close(mine)
         check("its status", 0, CHILDREN.end(child) if child.poll() is None else child.returncode)
-        check_true(f"that {shown[:200]} is drawn in place", shown.count(b"\rsecond ") >= 3 and shown.count(b"\x1b[K") >= 3)
+        check_true(f"that {shown[:200]} is drawn in place", shown.count(b"\r\x1b[K\x1b[?7lsecond ") >= 3)
         check_true("the verdict stands below", b"nothing that was deleted came back" in shown.rsplit(b"\x1b[K", 1)[1])
 
 
@@ -440,7 +440,7 @@ def a_canary_refuses_words_that_are_none():
         status, lines, faults = canary(fleet, config, "127.0.0.1:9001", "nowhere")
         check("a word that is no address", (1, [], b"migctl: net nowhere\n"), (status, lines, faults))
         status, lines, faults = canary(fleet, config, "--prefix", "a b", "127.0.0.1:9001")
-        check("a prefix that makes no key", (2, [], b"migctl: words --prefix\n"), (status, lines, faults))
+        check("a prefix that makes no key", (1, [], b"migctl: text 2 BadKey\n"), (status, lines, faults))
 
 
 @case(waits=True)
