@@ -31,6 +31,10 @@ class MovedClock:
         """From now on it gives no reading."""
         self.say("none")
 
+    def fail_all(self):
+        """From now on the clock that never goes back gives none either."""
+        self.say("all")
+
     def say(self, text):
         """Tells the services, which never see a part of it."""
         new = self.file.with_suffix(".new")

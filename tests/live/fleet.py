@@ -326,11 +326,11 @@ class Fleet:
             CHILDREN.end(child)
         return child.returncode, output, faults
 
-    def start_command(self, *words, stdin=subprocess.PIPE, stdout=subprocess.PIPE, memory=None):
-        """Starts a command, which is ended with the case at the latest."""
+    def start_command(self, *words, stdin=subprocess.PIPE, stdout=subprocess.PIPE, memory=None, clock=None):
+        """Starts a command, by the machine's time or by another clock, which is ended with the case at the latest."""
         if words[:1] in (("node",), ("proxy",)):
             words = self.with_loops([*words, *self.form_of(words)])
-        words = [program(), *(os.fspath(word) for word in words)]
+        words = [*(clock.words() if clock else []), program(), *(os.fspath(word) for word in words)]
         if memory is not None:
             words = ["sh", "-c", f'ulimit -v {memory // 1024}; exec "$@"', "sh", *words]
         child = CHILDREN.start(words, stdin=stdin, stdout=stdout, stderr=subprocess.PIPE)

@@ -9,7 +9,7 @@ from wanted import Wrong
 
 SIDE_BY_SIDE = 5  # cases that mostly wait; one more of those that don't runs beside them
 RUNS = 3  # of a case that failed where the machine was late
-OWN_FORM = ("loops", "metrics", "the_program", "watching")  # subjects whose cases say how their services run, or start none
+OWN_FORM = ("canary", "loops", "metrics", "the_program", "watching")  # subjects whose cases say how their services run, or start none
 
 CASES = []
 

@@ -1,5 +1,5 @@
 -- How long a loop may wait for events.
-use Rattle.std.specs.Prelude.{ℕ, ◌+◌, Bool, false, ◌||◌, ◌&&◌, nat_eq, nat_lt, max, if◌then◌else◌, Option, Some, None, option_map}
+use Rattle.std.specs.Prelude.{ℕ, ◌+◌, Bool, false, ◌||◌, ◌&&◌, nat_eq, nat_lt, min, max, if◌then◌else◌, Option, Some, None, option_map}
 use Rattle.mr_driver.specs.declared.waits.Waits.{Waits}
 use Rattle.mr_driver.specs.Times.{nanos_until, next_at}
 
@@ -12,9 +12,17 @@ end_in w =
     else if w.is_bounded then Some w.next_sweep
     else None
 
--- how many nanoseconds it may wait
-abbrev pub nanos_in : Waits → Option ℕ
-nanos_in w = option_map (nanos_until w.begin) (end_in w)
+-- until when it may wait that is to wake at a moment: at once where something can be done, and else then at the latest
+abbrev pub end_by : ℕ → Waits → ℕ
+end_by moment w =
+    if w.is_busy then w.begin
+    else if w.is_timed then min w.next_tick moment
+    else if w.is_bounded then min w.next_sweep moment
+    else moment
+
+-- how many nanoseconds it may wait from a moment on
+abbrev pub nanos_in : ℕ → Waits → Option ℕ
+nanos_in now w = option_map (nanos_until now) (end_in w)
 
 -- it is more than 25 milliseconds later than this end of a wait, if there was one
 abbrev pub is_overslept_after : ℕ → ℕ → Option ℕ → Bool

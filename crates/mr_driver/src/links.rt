@@ -1,4 +1,4 @@
-//! The links of a proxy's loop.
+//! The links of a machine, on sockets.
 ghost use Rattle.std.specs.Prelude.{◌≡◌, ◌+◌, ◌<◌, ◌≤◌, length};
 
 use crate::engine::Engine;
@@ -6,6 +6,7 @@ use crate::flow::Signs;
 use crate::hearing::{Hears, LinkTrouble, LoopEvent, trouble_of, want_of};
 use crate::link::Link;
 use crate::link_side::LinkSide;
+use crate::linked::Linked;
 use crate::reading::{Got, read_once};
 use crate::tokens::link_token;
 use crate::writing::{Put, write_once};
@@ -14,10 +15,10 @@ use mr_loop::ProxyLoop;
 use std::alloc::{AllocError, Global};
 use std::collections::VecDeque;
 use std::io;
-use std::net::Net;
+use std::net::{Net, SocketAddrV4};
 use std::time::Clock;
 
-/// The links of a proxy's loop, by the numbers of their nodes in its machine.
+/// The links of a machine, by their numbers there. What a link leads to is its node, whatever that is to the machine.
 #[derive(Drop)]
 pub struct Links {
     links: Vec<Link>,
@@ -38,8 +39,12 @@ pub(crate) fn number_of(error: &io::Error) -> u32 {
 }
 
 impl Links {
-    /// These links, of which none has a connection.
-    pub(crate) fn new(alloc: Global, links: Vec<Link>) -> Result<Links, AllocError> {
+    /// A link to each of these nodes, which is down, in the order of the machine's own.
+    pub(crate) fn to(alloc: Global, nodes: &[Option<SocketAddrV4>]) -> Result<Links, AllocError> {
+        let mut links = Vec::with_capacity(alloc, nodes.len())?;
+        for node in nodes {
+            links.push(Link::new(*node))?;
+        }
         let ready = VecDeque::with_capacity(alloc, links.len())?;
         let freed = VecDeque::with_capacity(alloc, links.len())?;
         Ok(Links {
@@ -51,11 +56,11 @@ impl Links {
     }
 
     /// Dials the node of a link.
-    fn dial<R: Net>(
+    fn dial<R: Net, M: Linked>(
         &mut self,
         rt: &R,
         registry: &Registry,
-        machine: &mut ProxyLoop,
+        machine: &mut M,
         number: usize,
         now: u64,
     ) -> io::Result<()> {
@@ -70,11 +75,11 @@ impl Links {
     }
 
     /// Dials the node of each link. One that can't be is dialled again later.
-    pub(crate) fn dial_all<R: Net>(
+    pub(crate) fn dial_all<R: Net, M: Linked>(
         &mut self,
         rt: &R,
         registry: &Registry,
-        machine: &mut ProxyLoop,
+        machine: &mut M,
     ) {
         for number in 0..self.links.len() {
             let _ = self.dial(rt, registry, machine, number, 0);
@@ -91,9 +96,9 @@ impl Links {
     }
 
     /// There is no connection to a node, for this reason. It is heard once, until there is one.
-    fn tell_down<R: Net + Clock, E: Hears>(
+    fn tell_down<R: Net + Clock, E: Hears, M: Linked>(
         &mut self,
-        engine: &Engine<'_, R, E, ProxyLoop>,
+        engine: &Engine<'_, R, E, M>,
         number: usize,
         trouble: LinkTrouble,
     ) {
@@ -106,9 +111,9 @@ impl Links {
     }
 
     /// The link to a node has ended, which the machine knows.
-    fn end<R: Net + Clock, E: Hears>(
+    fn end<R: Net + Clock, E: Hears, M: Linked>(
         &mut self,
-        engine: &Engine<'_, R, E, ProxyLoop>,
+        engine: &Engine<'_, R, E, M>,
         number: usize,
         trouble: LinkTrouble,
     ) {
@@ -120,9 +125,9 @@ impl Links {
     }
 
     /// The link to a node has broken.
-    fn break_off<R: Net + Clock, E: Hears>(
+    fn break_off<R: Net + Clock, E: Hears, M: Linked>(
         &mut self,
-        engine: &mut Engine<'_, R, E, ProxyLoop>,
+        engine: &mut Engine<'_, R, E, M>,
         number: usize,
         trouble: LinkTrouble,
     ) {
@@ -133,9 +138,9 @@ impl Links {
     }
 
     /// What became of a node that was dialled.
-    fn answer_dial<R: Net + Clock, E: Hears>(
+    fn answer_dial<R: Net + Clock, E: Hears, M: Linked>(
         &mut self,
-        engine: &mut Engine<'_, R, E, ProxyLoop>,
+        engine: &mut Engine<'_, R, E, M>,
         number: usize,
     ) {
         let Some(link) = self.links.get_mut(number) else {
@@ -165,9 +170,9 @@ impl Links {
     }
 
     /// Reads a share of what a node sent.
-    fn read<R: Net + Clock, E: Hears>(
+    fn read<R: Net + Clock, E: Hears, M: Linked>(
         &mut self,
-        engine: &mut Engine<'_, R, E, ProxyLoop>,
+        engine: &mut Engine<'_, R, E, M>,
         number: usize,
         input: &mut [u8],
     ) {
@@ -192,9 +197,9 @@ impl Links {
     }
 
     /// Bytes of a node came. Where there may be more, it is read again.
-    fn take<R: Net + Clock, E: Hears>(
+    fn take<R: Net + Clock, E: Hears, M: Linked>(
         &mut self,
-        engine: &mut Engine<'_, R, E, ProxyLoop>,
+        engine: &mut Engine<'_, R, E, M>,
         number: usize,
         bytes: &[u8],
     ) {
@@ -209,9 +214,9 @@ impl Links {
     }
 
     /// Writes to a node what is there for it.
-    fn write<R: Net + Clock, E: Hears>(
+    fn write<R: Net + Clock, E: Hears, M: Linked>(
         &mut self,
-        engine: &mut Engine<'_, R, E, ProxyLoop>,
+        engine: &mut Engine<'_, R, E, M>,
         number: usize,
     ) {
         let Some(link) = self.links.get_mut(number) else {
@@ -236,9 +241,9 @@ impl Links {
     }
 
     /// Dials a node, where its pause is over.
-    fn redial<R: Net + Clock, E: Hears>(
+    fn redial<R: Net + Clock, E: Hears, M: Linked>(
         &mut self,
-        engine: &mut Engine<'_, R, E, ProxyLoop>,
+        engine: &mut Engine<'_, R, E, M>,
         number: usize,
     ) {
         let is_due = match self.links.get(number) {
@@ -264,15 +269,15 @@ impl Links {
     }
 
     /// What the time does to a link. Whoever waits for it is looked at as well.
-    fn tick<R: Net + Clock, E: Hears>(
+    fn tick<R: Net + Clock, E: Hears, M: Linked>(
         &mut self,
-        engine: &mut Engine<'_, R, E, ProxyLoop>,
+        engine: &mut Engine<'_, R, E, M>,
         number: usize,
     ) {
         let Some(link) = self.links.get(number) else {
             return;
         };
-        let is_up = engine.machine.is_up(number);
+        let is_up = engine.machine.is_link_up(number);
         if let Some(trouble) = link
             .progress
             .trouble_at(is_up, engine.timing.leg_bound, engine.now)
@@ -287,22 +292,24 @@ impl Links {
             self.is_timed = true;
         }
     }
-}
 
-impl LinkSide<ProxyLoop> for Links {
-    fn count(&self) -> usize {
+    /// How many links there are.
+    pub(crate) fn count(&self) -> usize {
         self.links.len()
     }
 
-    fn are_busy(&self) -> bool {
+    /// Whether one of them is to be read.
+    pub(crate) fn are_busy(&self) -> bool {
         !self.ready.is_empty()
     }
 
-    fn are_timed(&self, machine: &ProxyLoop) -> bool {
-        self.is_timed || machine.core().outstanding() > 0
+    /// Whether time does something to one of them, or to what went over it.
+    pub(crate) fn are_timed<M: Linked>(&self, machine: &M) -> bool {
+        self.is_timed || machine.awaits()
     }
 
-    fn next_freed(&mut self) -> Option<usize> {
+    /// A link that may have places for legs again, each once. None where there is none.
+    pub(crate) fn next_freed(&mut self) -> Option<usize> {
         let number = self.freed.pop_front()?;
         if let Some(link) = self.links.get_mut(number) {
             link.is_freed = false;
@@ -310,9 +317,10 @@ impl LinkSide<ProxyLoop> for Links {
         Some(number)
     }
 
-    fn note<R: Net + Clock, E: Hears>(
+    /// Something happened to the socket of a link.
+    pub(crate) fn note<R: Net + Clock, E: Hears, M: Linked>(
         &mut self,
-        engine: &mut Engine<'_, R, E, ProxyLoop>,
+        engine: &mut Engine<'_, R, E, M>,
         number: usize,
         signs: Signs,
     ) {
@@ -326,9 +334,10 @@ impl LinkSide<ProxyLoop> for Links {
         self.make_ready(number);
     }
 
-    fn read_all<R: Net + Clock, E: Hears>(
+    /// Reads a share of each link to which something came.
+    pub(crate) fn read_all<R: Net + Clock, E: Hears, M: Linked>(
         &mut self,
-        engine: &mut Engine<'_, R, E, ProxyLoop>,
+        engine: &mut Engine<'_, R, E, M>,
         input: &mut [u8],
     ) {
         for _ in 0..self.ready.len() {
@@ -338,7 +347,11 @@ impl LinkSide<ProxyLoop> for Links {
         }
     }
 
-    fn tick_all<R: Net + Clock, E: Hears>(&mut self, engine: &mut Engine<'_, R, E, ProxyLoop>) {
+    /// What the time does to the links, and to what went over them.
+    pub(crate) fn tick_all<R: Net + Clock, E: Hears, M: Linked>(
+        &mut self,
+        engine: &mut Engine<'_, R, E, M>,
+    ) {
         let now = engine.now;
         engine.machine.on_tick(now);
         self.is_timed = false;
@@ -347,9 +360,56 @@ impl LinkSide<ProxyLoop> for Links {
         }
     }
 
-    fn write_all<R: Net + Clock, E: Hears>(&mut self, engine: &mut Engine<'_, R, E, ProxyLoop>) {
+    /// Writes over each link what is there for it.
+    pub(crate) fn write_all<R: Net + Clock, E: Hears, M: Linked>(
+        &mut self,
+        engine: &mut Engine<'_, R, E, M>,
+    ) {
         for number in 0..self.links.len() {
             self.write(engine, number);
         }
+    }
+}
+
+impl LinkSide<ProxyLoop> for Links {
+    fn count(&self) -> usize {
+        Links::count(self)
+    }
+
+    fn are_busy(&self) -> bool {
+        Links::are_busy(self)
+    }
+
+    fn are_timed(&self, machine: &ProxyLoop) -> bool {
+        Links::are_timed(self, machine)
+    }
+
+    fn next_freed(&mut self) -> Option<usize> {
+        Links::next_freed(self)
+    }
+
+    fn note<R: Net + Clock, E: Hears>(
+        &mut self,
+        engine: &mut Engine<'_, R, E, ProxyLoop>,
+        number: usize,
+        signs: Signs,
+    ) {
+        Links::note(self, engine, number, signs);
+    }
+
+    fn read_all<R: Net + Clock, E: Hears>(
+        &mut self,
+        engine: &mut Engine<'_, R, E, ProxyLoop>,
+        input: &mut [u8],
+    ) {
+        Links::read_all(self, engine, input);
+    }
+
+    fn tick_all<R: Net + Clock, E: Hears>(&mut self, engine: &mut Engine<'_, R, E, ProxyLoop>) {
+        Links::tick_all(self, engine);
+    }
+
+    fn write_all<R: Net + Clock, E: Hears>(&mut self, engine: &mut Engine<'_, R, E, ProxyLoop>) {
+        Links::write_all(self, engine);
     }
 }

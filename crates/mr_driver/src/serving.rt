@@ -6,7 +6,6 @@ use crate::accepting::accept_all;
 use crate::doors::{Door, Doors, open_door};
 use crate::engine::Timing;
 use crate::hearing::{Hears, LoopEvent};
-use crate::link::Link;
 use crate::link_side::NoLinks;
 use crate::links::Links;
 use crate::machine::Machine;
@@ -15,7 +14,7 @@ use crate::times::bound_of;
 use crate::turns::{Planned, run_loop};
 use mr_counting::ClockWatch;
 use mr_loop::{Cache, NodeLoop, ProxyLoop, ServedCounts};
-use std::alloc::{AllocError, Global};
+use std::alloc::Global;
 use std::net::{Net, SocketAddrV4, TcpListener, TcpStream};
 use std::sync::Wait;
 use std::thread::{Scope, Threads};
@@ -52,15 +51,6 @@ pub struct Loops<M: Machine> {
     planned: Vec<Planned<M>>,
 }
 
-/// A link to each of these nodes, which is down, in the order of the machine's own.
-fn links_of(alloc: Global, nodes: &[Option<SocketAddrV4>]) -> Result<Links, AllocError> {
-    let mut links = Vec::with_capacity(alloc, nodes.len())?;
-    for node in nodes {
-        links.push(Link::new(*node))?;
-    }
-    Links::new(alloc, links)
-}
-
 /// The loop of a proxy's machine, whose nodes are dialled.
 fn plan<R: Net>(
     rt: &R,
@@ -69,7 +59,7 @@ fn plan<R: Net>(
     nodes: &[Option<SocketAddrV4>],
 ) -> io::Result<(Planned<ProxyLoop>, Door<LoopReport>)> {
     let (side, door) = open_door(rt, alloc)?;
-    let mut links = links_of(alloc, nodes)?;
+    let mut links = Links::to(alloc, nodes)?;
     links.dial_all(rt, side.poll.registry(), &mut machine);
     let planned = Planned {
         side,

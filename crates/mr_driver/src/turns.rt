@@ -2,16 +2,16 @@
 ghost use Rattle.std.specs.Prelude.{◌≡◌, ◌≤◌, length};
 
 use crate::clients::Clients;
-use crate::clocks::Clocks;
 use crate::doors::{Mail, Side};
-use crate::engine::{Engine, Timing};
+use crate::engine::{Engine, Timing, room_of_turns};
 use crate::flow::signs_of;
 use crate::hearing::{Hears, LoopEvent};
 use crate::link_side::LinkSide;
 use crate::machine::Machine;
-use crate::times::{next_at, sweep_of, tick_of};
+use crate::pace::Pace;
+use crate::times::{next_at, sweep_of};
 use crate::tokens::{Origin, origin_of};
-use crate::waits::{Waits, late_turns_after};
+use crate::waits::Waits;
 use crossbeam_channel::{Receiver, Sender};
 use mio::Events;
 use mio::event::Event;
@@ -21,12 +21,6 @@ use std::io;
 use std::net::Net;
 use std::sync::Wait;
 use std::time::Clock;
-
-/// How many events are looked at in one turn.
-const EVENTS: usize = 1_024;
-
-/// How many bytes of a socket are read in one turn, so that each other one has its turn too.
-const SHARE: usize = 65_536;
 
 /// A loop that isn't started yet.
 #[derive(Drop)]
@@ -43,10 +37,8 @@ struct EventLoop<'a, R: Net + Clock, E: Hears, M: Machine> {
     links: M::Links,
     clients: Clients,
     mail: Receiver<Mail<M::Report>>,
-    next_tick: u64,
+    pace: Pace,
     next_sweep: u64,
-    /// For how many turns the loop has been late, so that the time doesn't count; 0 where it isn't.
-    late_turns: u64,
 }
 
 impl<'a, R: Net + Clock, E: Hears, M: Machine> Drop for EventLoop<'a, R, E, M> {
@@ -57,9 +49,8 @@ impl<'a, R: Net + Clock, E: Hears, M: Machine> Drop for EventLoop<'a, R, E, M> {
             links: _,
             clients: _,
             mail: _,
-            next_tick: _,
+            pace: _,
             next_sweep: _,
-            late_turns: _,
         } = self;
     }
 }
@@ -72,25 +63,25 @@ impl<'a, R: Net + Clock, E: Hears, M: Machine> EventLoop<'a, R, E, M> {
             is_timed: self.links.are_timed(&self.engine.machine) || self.clients.are_timed(),
             is_bounded: self.engine.timing.is_idle_bounded() && !self.clients.is_empty(),
             begin: self.engine.now,
-            next_tick: self.next_tick,
+            next_tick: self.pace.next_tick,
             next_sweep: self.next_sweep,
         }
     }
 
     /// What the time does to the links, where it is time to look. Who waits for memory is tried again.
     fn tick(&mut self) {
-        let now = self.engine.now;
-        if self.late_turns > 0 || now < self.next_tick {
-            return;
+        if self
+            .pace
+            .is_due(self.engine.timing.leg_bound, self.engine.now)
+        {
+            self.links.tick_all(&mut self.engine);
+            self.clients.call_starved();
         }
-        self.next_tick = next_at(now, tick_of(self.engine.timing.leg_bound));
-        self.links.tick_all(&mut self.engine);
-        self.clients.call_starved();
     }
 
     /// What the time does to the clients, where it is time to look.
     fn sweep(&mut self) {
-        if self.late_turns > 0 || self.engine.now < self.next_sweep {
+        if self.pace.is_late() || self.engine.now < self.next_sweep {
             return;
         }
         self.next_sweep = next_at(self.engine.now, sweep_of(self.engine.timing.idle_bound));
@@ -136,18 +127,13 @@ impl<'a, R: Net + Clock, E: Hears, M: Machine> EventLoop<'a, R, E, M> {
         }
     }
 
-    /// Waits for what happens, and notes it. A process that was stopped may hear of nothing at first, and of more than it takes in one
-    /// turn then: so the loop is late until all of that came. The events that are there are those of the turn before.
+    /// Waits for what happens, and notes it. The events that are there are those of the turn before.
     fn wait(&mut self, events: &mut Events) -> io::Result<()>
     where
         R: Wait,
     {
         let waits = self.waits();
-        let has_more = waits.is_busy || events.iter().len() >= EVENTS;
-        self.engine.poll.poll(events, waits.patience())?;
-        self.engine.move_on();
-        let is_overslept = waits.is_overslept_at(self.engine.now);
-        self.late_turns = late_turns_after(self.late_turns, is_overslept, has_more);
+        self.engine.wait(&mut self.pace, events, waits)?;
         for event in &*events {
             self.note(event);
         }
@@ -204,25 +190,15 @@ pub(crate) fn run_loop<R: Net + Wait + Clock, E: Hears, M: Machine>(
     } = planned;
     let Side { poll, mail, tally } = side;
     let clients = Clients::new(alloc, links.count(), tally)?;
-    let mut events = Events::with_capacity(alloc, EVENTS)?;
-    let mut input = vec![in alloc; 0u8; SHARE]?;
+    let (mut events, mut input) = room_of_turns(alloc)?;
     let mut running = EventLoop {
         alloc,
-        engine: Engine {
-            rt,
-            ears,
-            poll,
-            clocks: Clocks::new(rt, watch),
-            timing,
-            now: 0,
-            machine,
-        },
+        engine: Engine::new(rt, ears, poll, watch, timing, machine),
         links,
         clients,
         mail,
-        next_tick: 0,
+        pace: Pace::new(),
         next_sweep: 0,
-        late_turns: 0,
     };
     running.run(&mut events, input.as_mut_slice());
     running.clients.end();

@@ -1,7 +1,7 @@
 //! How long a loop may wait for events.
-ghost use Rattle.std.specs.Prelude.{◌≡◌, option_map};
+ghost use Rattle.std.specs.Prelude.{◌≡◌, ◌≤◌, max, option_map};
 ghost use Rattle.std.specs.Duration.{as_nanos};
-ghost use Rattle.mr_driver.specs.Waits.{end_in, late_turns_after, nanos_in, is_overslept_in};
+ghost use Rattle.mr_driver.specs.Waits.{end_by, end_in, late_turns_after, nanos_in, is_overslept_in};
 
 use crate::times::{next_at, until};
 use std::time::Duration;
@@ -46,12 +46,32 @@ impl Waits {
         }
     }
 
-    /// How long the loop may wait. None for as long as nothing happens.
-    pub(crate) fn patience(&self) -> Option<Duration>
-        ensures { option_map as_nanos result ≡ nanos_in self.now }
+    /// The same, of a loop that is to wake at a moment: then at the latest.
+    pub(crate) fn by(self, moment: u64) -> Waits
+        ensures end { end_in result ≡ Some (end_by moment self) }
+        ensures begin { result.begin ≡ self.begin }
+        ensures in_time { end_by moment self ≤ max self.begin moment }
+    {
+        Waits {
+            is_busy: self.is_busy,
+            is_timed: self.is_timed,
+            is_bounded: true,
+            begin: self.begin,
+            next_tick: self.next_tick.min(moment),
+            next_sweep: if self.is_bounded {
+                self.next_sweep.min(moment)
+            } else {
+                moment
+            },
+        }
+    }
+
+    /// How long the loop may wait from now on. None for as long as nothing happens.
+    pub(crate) fn patience(&self, now: u64) -> Option<Duration>
+        ensures { option_map as_nanos result ≡ nanos_in now self.now }
     {
         match self.end() {
-            Some(end) => Some(until(self.begin, end)),
+            Some(end) => Some(until(now, end)),
             None => None,
         }
     }

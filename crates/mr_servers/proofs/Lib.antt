@@ -1,0 +1,2 @@
+-- Lemmas on what texts of addresses come to.
+mod SoloLemmas

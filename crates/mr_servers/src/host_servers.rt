@@ -1,7 +1,8 @@
 //! The services of this machine.
-ghost use Rattle.std.specs.Prelude.{◌≡◌, None, if◌then◌else◌, option_map};
+ghost use Rattle.std.specs.Prelude.{◌≡◌, ◌≢◌, None, if◌then◌else◌, option_map, IfOk, IfErr};
 ghost use Rattle.mr_proxy.specs.ProxyView.{IsFresh};
 ghost use Rattle.mr_servers.specs.Servers.{DrawsSeed, IsOneService, NodeAt, ProxyAt, LoopsAt, NodeLoopsAt, OpensBoth, clients_at};
+ghost use Rattle.mr_servers.specs.declared.fault.OpenFault.{OpenFault};
 
 use crate::asking::{metrics_at, stats_at};
 use crate::driven_node::{NodeLoops, drive_node};
@@ -13,7 +14,9 @@ use crate::listening::MachineListens;
 use crate::moments::{moment_now, passed_since};
 use crate::screen::Screen;
 use crate::seeds::GhostSeeds;
-use mr_driver::DriverBounds;
+use crate::solo::open_solo;
+use mr_counting::ClockWatch;
+use mr_driver::{DriverBounds, Linked, Solo};
 use mr_loop::ProxyLoop;
 use mr_pools::Routing;
 use mr_proxy::ProxyCore;
@@ -195,6 +198,26 @@ impl<
         stats_at(self.rt, alloc, name)
     }
 
+    /// A loop of a machine that has links and no clients, whose links lead to these addresses, in order: each is dialled. A text that is no
+    /// address of a node is never dialled. What a dial may take, what happens where it fails, and how its turns are taken, `Solo` says.
+    /// OutOfMemory where memory is refused, Net where it can't be opened for anything else, as for want of descriptors. Contracts don't see
+    /// that it was opened.
+    pub fn open_solo<'w, M: Linked>(
+        &self,
+        alloc: Global,
+        machine: M,
+        addresses: &[&str],
+        dial_millis: u64,
+        watch: &'w ClockWatch,
+    ) -> Result<Solo<'w, R, M>, OpenFault>
+    where
+        'a: 'w,
+        ensures begun { IfOk result (λ solo. solo.now ≡ 0) }
+        ensures fault { IfErr result (λ fault. fault ≢ OpenFault.Metrics) }
+    {
+        open_solo(self.rt, alloc, machine, addresses, dial_millis, watch)
+    }
+
     /// How many milliseconds have passed since this was made, by a clock that never goes back. 0 where it gives no reading.
     pub fn milliseconds(&self) -> u64 {
         passed_since(self.rt, self.begun).unwrap_or(0)
@@ -207,6 +230,17 @@ impl<
         };
         match time.duration_since(UNIX_EPOCH) {
             Ok(passed) => passed.as_secs(),
+            Err(_) => 0,
+        }
+    }
+
+    /// How many microseconds have passed since the epoch, as the machine's clock says. 0 where it gives no reading.
+    pub fn microseconds(&self) -> u64 {
+        let Ok(time) = SystemTime::now(self.rt) else {
+            return 0;
+        };
+        match time.duration_since(UNIX_EPOCH) {
+            Ok(passed) => passed.as_micros().min(u128::from(u64::MAX)) as u64,
             Err(_) => 0,
         }
     }
@@ -229,6 +263,15 @@ impl<
                 self.failures.add_one();
                 Err(SeedFault)
             }
+        }
+    }
+
+    /// A number that nobody outside knows, drawn from the machine's random source. Contracts don't see that it was drawn.
+    pub fn draw_number(&self) -> Result<u64, SeedFault> {
+        let mut bytes = [0; 8];
+        match self.rt.fill_bytes(&mut bytes) {
+            Ok(()) => Ok(u64::from_be_bytes(bytes)),
+            Err(_) => Err(SeedFault),
         }
     }
 

@@ -20,6 +20,7 @@ mod saying;
 mod scrapes;
 mod screen;
 mod seeds;
+mod solo;
 mod until;
 
 pub use driven_node::NodeLoops;

@@ -1,8 +1,10 @@
 //! What clients note, step by step, and what the judge says of it.
 mod forgetting;
 mod playing;
+mod probing;
 mod refusing;
 mod rows;
+mod sightings;
 
 use std::process::Abort;
 

@@ -19,11 +19,13 @@ use Rattle.mr_tool.specs.declared.fault.Fault.{Fault}
 use Rattle.mr_tool.specs.declared.fault.Fault.TheVariants.{Memory, Input, Output, File, Net, Plan, Pools, Phases, Node, Text}
 use Rattle.mr_tool.specs.ProxyCommand.{ProxyGives}
 use Rattle.mr_tool.specs.Services.{NodeGives}
+use Rattle.mr_tool.specs.CanaryCommand.{CanaryGives}
 use Rattle.mr_tool.specs.WatchCommand.{WatchGives}
 use Rattle.mr_servers.specs.Servers.{ServersView}
 use Rattle.mr_servers.specs.declared.screen.Screen.{Screen}
 use Rattle.mr_words.specs.declared.service_words.NodeValues.{NodeValues}
 use Rattle.mr_words.specs.declared.service_words.ProxyValues.{ProxyValues}
+use Rattle.mr_words.specs.declared.canary_words.CanaryValues.{CanaryValues}
 use Rattle.mr_words.specs.declared.watch_words.WatchValues.{WatchValues}
 use Rattle.mr_words.specs.declared.plan_words.PlanValues.{PlanValues}
 use Rattle.mr_words.specs.declared.words.TimelineValues.{TimelineValues}
@@ -175,6 +177,23 @@ watch_reads values screen before after (Err (Phases refusal)) h = absurd h
 watch_reads values screen before after (Err (Node refusal)) h = absurd h
 watch_reads values screen before after (Err (Text refusal)) h = absurd h
 
+canary_reads : (values : CanaryValues) (screen : Screen) (before after : Devices) (result : Result Ended Fault)
+    → CanaryGives values screen before after result → after.input.reads ≤ before.input.reads + 0
+canary_reads values screen before after (Ok ended) h = unread _ _ _ h.unread
+canary_reads values screen before after (Err Output) h = unread _ _ _ h.unread
+canary_reads values screen before after (Err Input) h = unread _ _ _ h.unread
+canary_reads values screen before after (Err (File line)) h = unread _ _ _ h.unread
+canary_reads values screen before after (Err (Plan refusal)) h = unread _ _ _ h.unread
+canary_reads values screen before after (Err Memory) (inl h) = unread _ _ _ h.unread
+canary_reads values screen before after (Err Memory) (inr (inl h)) = unread _ _ _ h.unread
+canary_reads values screen before after (Err Memory) (inr (inr h)) = unread _ _ _ h.unread
+canary_reads values screen before after (Err (Net line)) (inl h) = unread _ _ _ h.unread
+canary_reads values screen before after (Err (Net line)) (inr h) = unread _ _ _ h.unread
+canary_reads values screen before after (Err (Pools refusal)) h = unread _ _ _ h.unread
+canary_reads values screen before after (Err (Phases refusal)) h = unread _ _ _ h.unread
+canary_reads values screen before after (Err (Node refusal)) h = unread _ _ _ h.unread
+canary_reads values screen before after (Err (Text refusal)) h = unread _ _ _ h.unread
+
 command_reads : (command : Wanted) (before after : Devices) (idle busy : ServersView) (result : Result Ended Fault) → Gives command before after idle busy result
     → after.input.reads ≤ before.input.reads + most_reads_of command
 command_reads (wanted.Plan values) before after idle busy result h = plan_reads values before after result h.0
@@ -186,6 +205,7 @@ command_reads (wanted.Upgrade file) before after idle busy result h = text_reads
 command_reads (wanted.Node values) before after idle busy result h = node_reads values before after idle busy result h
 command_reads (wanted.Proxy values) before after idle busy result h = proxy_reads values before after idle busy result h
 command_reads (wanted.Watch values) before after idle busy result h = watch_reads values idle.screen before after result h.0
+command_reads (wanted.Canary values) before after idle busy result h = canary_reads values idle.screen before after result h.0
 command_reads (wanted.Explain explanation) before after idle busy result h = explain_reads (told_by explanation) before after result h.0
 
 -- the same command has the same bound
@@ -199,6 +219,7 @@ agreed_reads (wanted.Upgrade file) (wanted.Upgrade read) same = ap reads_without
 agreed_reads (wanted.Node values) (wanted.Node read) same = refl
 agreed_reads (wanted.Proxy values) (wanted.Proxy read) same = refl
 agreed_reads (wanted.Watch values) (wanted.Watch read) same = refl
+agreed_reads (wanted.Canary values) (wanted.Canary read) same = refl
 agreed_reads (wanted.Explain explanation) (wanted.Explain read) same = refl
 agreed_reads (wanted.Plan values) (wanted.Timeline read) same = absurd same
 agreed_reads (wanted.Plan values) (wanted.Run read) same = absurd same
@@ -290,6 +311,26 @@ agreed_reads (wanted.Draw file) (wanted.Node read) same = absurd same
 agreed_reads (wanted.Draw file) (wanted.Proxy read) same = absurd same
 agreed_reads (wanted.Draw file) (wanted.Watch read) same = absurd same
 agreed_reads (wanted.Draw file) (wanted.Explain read) same = absurd same
+agreed_reads (wanted.Plan values) (wanted.Canary read) same = absurd same
+agreed_reads (wanted.Timeline values) (wanted.Canary read) same = absurd same
+agreed_reads (wanted.Run file) (wanted.Canary read) same = absurd same
+agreed_reads (wanted.Check file) (wanted.Canary read) same = absurd same
+agreed_reads (wanted.Draw file) (wanted.Canary read) same = absurd same
+agreed_reads (wanted.Upgrade file) (wanted.Canary read) same = absurd same
+agreed_reads (wanted.Node values) (wanted.Canary read) same = absurd same
+agreed_reads (wanted.Proxy values) (wanted.Canary read) same = absurd same
+agreed_reads (wanted.Watch values) (wanted.Canary read) same = absurd same
+agreed_reads (wanted.Explain explanation) (wanted.Canary read) same = absurd same
+agreed_reads (wanted.Canary values) (wanted.Plan read) same = absurd same
+agreed_reads (wanted.Canary values) (wanted.Timeline read) same = absurd same
+agreed_reads (wanted.Canary values) (wanted.Run read) same = absurd same
+agreed_reads (wanted.Canary values) (wanted.Check read) same = absurd same
+agreed_reads (wanted.Canary values) (wanted.Draw read) same = absurd same
+agreed_reads (wanted.Canary values) (wanted.Upgrade read) same = absurd same
+agreed_reads (wanted.Canary values) (wanted.Node read) same = absurd same
+agreed_reads (wanted.Canary values) (wanted.Proxy read) same = absurd same
+agreed_reads (wanted.Canary values) (wanted.Watch read) same = absurd same
+agreed_reads (wanted.Canary values) (wanted.Explain read) same = absurd same
 
 -- what is told at the end reads nothing
 ends_unread : (result : Result Ended Fault) (status : ℕ) (between after : Devices) → EndsWith result status between after → after.input ≡ between.input

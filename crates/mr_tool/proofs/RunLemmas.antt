@@ -12,6 +12,7 @@ use Rattle.mr_tool.specs.Input.{IsGiven, LoadsConfig}
 use Rattle.mr_tool.specs.GivenText.{Makes, WritesText}
 use Rattle.mr_words.specs.declared.service_words.NodeValues.{NodeValues}
 use Rattle.mr_words.specs.declared.service_words.ProxyValues.{ProxyValues}
+use Rattle.mr_words.specs.declared.canary_words.CanaryValues.{CanaryValues}
 use Rattle.mr_words.specs.declared.watch_words.WatchValues.{WatchValues}
 use Rattle.mr_words.specs.declared.plan_words.PlanValues.{PlanValues}
 use Rattle.mr_words.specs.declared.plan_words.Planned.{Planned}
@@ -34,11 +35,14 @@ use Rattle.mr_servers.specs.declared.fault.OpenFault.{OpenFault}
 use Rattle.mr_tool.specs.Fault.{fault_line, fault_of_printing, readings_line}
 use Rattle.mr_tool.specs.Sources.{SourcesView}
 use Rattle.mr_tool.specs.VersionCommand.{VersionGives}
+use Rattle.mr_flights.specs.Flight.{FliesConfig}
+use Rattle.mr_flights.specs.declared.fault.FlightFault.{FlightFault}
 use Rattle.mr_looks.specs.Watch.{Fleet, WatchesConfig}
 use Rattle.mr_looks.specs.declared.manner.Manner.{Manner}
 use Rattle.mr_printing.specs.declared.printing.PrintFault.{PrintFault}
+use Rattle.mr_tool.specs.CanaryCommand.{Flies, IsGivenBy}
 use Rattle.mr_tool.specs.WatchCommand.{Watches, given_by}
-use Rattle.mr_words.specs.Words.{Say, SayBadReadings, SayNothing, SayVersion, path_in}
+use Rattle.mr_words.specs.Words.{Say, SayBadReadings, SayNothing, SayVersion, path_in, proxies_in}
 
 -- a command that did what was wanted met no failure
 config_steady : (path : List ℕ) (before after : SourcesView) (config : ConfigView) → LoadsConfig path before (Ok config) after
@@ -147,6 +151,21 @@ watch_steady values screen ended before between h silent = record {
   faults = ap (λ (s : SinkView). s.failures) silent;
 }
 
+-- and a canary that was
+flown_steady : (values : CanaryValues) (screen : Screen) (config : ConfigView) (proxies : List (List ℕ)) (old new : SinkView) (came : Result Bool FlightFault)
+    (ended : Ended) → IsGivenBy proxies came (Ok ended) → FliesConfig values screen config old came new → new.failures ≡ old.failures
+flown_steady values screen config proxies old new (Ok sound) ended given flies = flies.1.writes.steady
+flown_steady values screen config proxies old new (Err stopped) ended given flies = absurd given
+
+canary_steady : (values : CanaryValues) (screen : Screen) (ended : Ended) (before between : Devices) → Flies values screen before between (Ok ended)
+    → between.faults ≡ before.faults → NoneFailed before between
+canary_steady values screen ended before between h silent = record {
+  sources = h.loads.0.gives.3;
+  input = ap (λ (s : SourceView). s.failures) h.unread;
+  output = flown_steady values screen h.loaded.config (proxies_in values) before.output between.output h.came ended h.given h.flies;
+  faults = ap (λ (s : SinkView). s.failures) silent;
+}
+
 command_steady : (wanted : Wanted) (ended : Ended) (before between : Devices) (idle busy : ServersView) → Gives wanted before between idle busy (Ok ended)
     → between.faults ≡ before.faults → AllSteady before between idle busy
 command_steady (wanted.Plan values) Done before between idle busy h silent = idle_steady _ _ _ _ (plan_steady values h.0.0 before between h.0.1 silent) h.1
@@ -166,6 +185,7 @@ command_steady (wanted.Upgrade file) ended before between idle busy h silent =
 command_steady (wanted.Node values) ended before between idle busy h silent = node_steady values ended before between idle busy h silent
 command_steady (wanted.Proxy values) ended before between idle busy h silent = proxy_steady values ended before between idle busy h silent
 command_steady (wanted.Watch values) ended before between idle busy h silent = idle_steady _ _ _ _ (watch_steady values idle.screen ended before between h.0 silent) h.1
+command_steady (wanted.Canary values) ended before between idle busy h silent = idle_steady _ _ _ _ (canary_steady values idle.screen ended before between h.0 silent) h.1
 command_steady (wanted.Explain explanation) Done before between idle busy h silent =
     idle_steady _ _ _ _ (explanation_steady (told_by explanation) before between h.0 silent) h.1
 command_steady (wanted.Explain explanation) NotAccepted before between idle busy h silent = absurd h.0

@@ -1,3 +1,4 @@
+pub mod CanaryCommand
 pub mod CheckCommand
 pub mod Devices
 pub mod DrawCommand

@@ -1,6 +1,7 @@
 -- What a run does with its words and its devices.
 use Rattle.std.specs.Prelude.{◌≡◌, ℕ, ◌+◌, ◌≤◌, ◌⊎◌, List, Option, Some, None, Result, Ok, Err}
 use Rattle.mr_text.specs.Sink.{SinkView}
+use Rattle.mr_tool.specs.CanaryCommand.{CanaryGives}
 use Rattle.mr_tool.specs.CheckCommand.{CheckGives}
 use Rattle.mr_tool.specs.DrawCommand.{DrawGives}
 use Rattle.mr_tool.specs.Devices.{Devices, IsToldAtOnce, Machine, NoneFailed, Tells}
@@ -23,7 +24,7 @@ use Rattle.mr_tool.specs.declared.fault.Fault.{Fault}
 use Rattle.mr_tool.specs.declared.fault.Fault.TheVariants.{Memory}
 use Rattle.mr_servers.specs.Servers.{ServersView}
 use Rattle.mr_words.specs.declared.words.Wanted.{Wanted}
-use Rattle.mr_words.specs.declared.words.Wanted.TheVariants.{Plan, Timeline, Run, Check, Draw, Upgrade, Node, Proxy, Watch, Explain}
+use Rattle.mr_words.specs.declared.words.Wanted.TheVariants.{Plan, Timeline, Run, Check, Draw, Upgrade, Node, Proxy, Watch, Canary, Explain}
 
 -- the status of a run that did what was wanted
 abbrev pub DONE : ℕ
@@ -58,6 +59,7 @@ Gives (Upgrade file) before after idle busy result = UpgradeGives (path_in file)
 Gives (Node values) before after idle busy result = NodeGives values before after idle busy result
 Gives (Proxy values) before after idle busy result = ProxyGives values before after idle busy result
 Gives (Watch values) before after idle busy result = WatchGives values idle.screen before after result × (busy ≡ idle)
+Gives (Canary values) before after idle busy result = CanaryGives values idle.screen before after result × (busy ≡ idle)
 Gives (Explain explanation) before after idle busy result = ExplainGives (told_by explanation) before after result × (busy ≡ idle)
 
 -- how a run ends once its command did: the line of a fault is told, and nothing is done after
@@ -130,6 +132,7 @@ most_reads_of (Upgrade file) = reads_without (path_in file)
 most_reads_of (Node values) = 0
 most_reads_of (Proxy values) = 0
 most_reads_of (Watch values) = 0
+most_reads_of (Canary values) = 0
 most_reads_of (Explain explanation) = 0
 
 -- the input is read no oftener than the command may that the words say

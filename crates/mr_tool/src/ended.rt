@@ -8,6 +8,6 @@ pub enum Ended {
     /// A transcript was checked, and it isn't accepted.
     NotAccepted,
     /// A service came to its end, and not every client ended without a fault; or a watch did, and a premise was seen broken or a
-    /// service was never reached.
+    /// service was never reached; or a canary did, and what was deleted came back.
     Faulted,
 }

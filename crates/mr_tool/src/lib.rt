@@ -5,6 +5,7 @@
 #![tactic(auto)]
 
 mod arguments;
+mod canary;
 mod commands;
 mod ended;
 mod fault;
@@ -25,8 +26,8 @@ pub use input::MOST_CONFIG_BYTES;
 pub use mr_printing::{PrintFault, write_plan};
 pub use mr_sockets::{SocketCarrier, serve_node, serve_proxy};
 pub use mr_words::{
-    LoopValues, MigrationWords, NodeValues, PlanValues, Planned, ProxyValues, TimelineValues,
-    Wanted, WatchValues, WordsFault, read_words,
+    CanaryValues, LoopValues, MigrationWords, NodeValues, PlanValues, Planned, ProxyValues, Span,
+    TimelineValues, Wanted, WatchValues, WordsFault, read_words,
 };
 pub use run::{DONE, FAULT, NOT_ACCEPTED, WRONG_WORDS, run_words};
 pub use sources::{HostFiles, LoadFault, MOST_LOADED, Sources};

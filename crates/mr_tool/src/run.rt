@@ -8,6 +8,7 @@ ghost use Rattle.mr_tool.specs.Run.{EndsWith, Gives, IsRunOf, Runs, RunsNothing,
 ghost use Rattle.mr_tool.specs.Sources.{SourcesView};
 ghost use Rattle.mr_words.specs.Words.{ReadsWords};
 
+use crate::canary::run_canary;
 use crate::commands::{
     run_check, run_draw, run_explain, run_plan, run_script, run_timeline, run_upgrade,
     write_version,
@@ -124,6 +125,7 @@ fn give<
         Wanted::Node(values) => run_node(alloc, values, servers, output),
         Wanted::Proxy(values) => run_proxy(alloc, values, servers, sources, output),
         Wanted::Watch(values) => run_watch(alloc, values, servers, sources, output),
+        Wanted::Canary(values) => run_canary(alloc, values, servers, sources, output),
         Wanted::Explain(explanation) => run_explain(alloc, explanation, output),
     }
 }
@@ -187,7 +189,8 @@ fn run_wanted<
 /// configuration, or the pools and the schedule that its words say, and the request; for a timeline
 /// the file, the configuration; for a run, a check or an upgrade the file, or the input where none is named, and then the script
 /// or the transcript; for a node its capacity, the seed and the socket; for a proxy the file, the configuration, the socket; for a
-/// watch the file, the configuration, the addresses; last the output.
+/// watch the file, the configuration, the addresses; for a canary the file, the configuration, the addresses, the number of its run, its
+/// prefix, the first connection; last the output.
 pub fn run_words<
     R: Net<Listener = TcpListener, Stream = TcpStream>
         + Threads

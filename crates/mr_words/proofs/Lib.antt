@@ -10,6 +10,7 @@ pub mod PlainNode
 pub mod PlainProxy
 pub mod PlainExplain
 pub mod PlainWatch
+pub mod PlainCanary
 pub mod ReadLemmas
 pub mod WordLemmas
 pub mod LoopLemmas

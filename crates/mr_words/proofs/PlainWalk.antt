@@ -100,16 +100,21 @@ option_before s name id value h named rest end is none plain more =
           ∙ (ap (λ (w : Walk). walk_fault s [] w (value ∷ rest)) is ∙ (value_step s id named value rest plain ∙ more.taken));
     }
 
+-- a word before the words
+pub word_before : (s : Shape) (word : Text) (start next : Walk) (rest : List Text) (end : Walk) → walked s.rules [] start word ≡ next
+    → turn_fault s [] start word ≡ [] → Leads s next rest end → Leads s start (word ∷ rest) end
+word_before s word start next rest end is none more =
+    let rules : List Rule = s.rules in
+    record {
+      ends = ap (λ (w : Walk). fold (walked rules []) w rest) is ∙ more.ends;
+      taken = word_step s start word rest none ∙ (ap (λ (w : Walk). walk_fault s [] w rest) is ∙ more.taken);
+    }
+
 -- a flag before the words
 pub flag_before : (s : Shape) (name : Text) (h after : Held) (rest : List Text) (end : Walk)
     → walked s.rules [] (standing h) name ≡ standing after → turn_fault s [] (standing h) name ≡ []
     → Leads s (standing after) rest end → Leads s (standing h) (name ∷ rest) end
-flag_before s name h after rest end is none more =
-    let rules : List Rule = s.rules in
-    record {
-      ends = ap (λ (w : Walk). fold (walked rules []) w rest) is ∙ more.ends;
-      taken = word_step s (standing h) name rest none ∙ (ap (λ (w : Walk). walk_fault s [] w rest) is ∙ more.taken);
-    }
+flag_before s name h after rest end is none more = word_before s name (standing h) (standing after) rest end is none more
 
 -- the words of a command that walks to an end without a fault
 pub record IsWalked (s : Shape) (words : List Text) (end : Walk) : Type 0 where

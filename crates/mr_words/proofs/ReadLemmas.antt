@@ -8,6 +8,7 @@ use Rattle.clap.specs.Words.{Text, fault_of, is_simple, subcommand_of}
 use Rattle.clap.specs.declared.error.Error.{Error}
 use Rattle.clap.specs.declared.error.kind.ErrorKind.{ErrorKind}
 use Rattle.clap.specs.declared.error.kind.ErrorKind.TheVariants.{OutOfMemory, DisplayVersion}
+use Rattle.mr_words.proofs.PlainCanary.{canary_said}
 use Rattle.mr_words.proofs.PlainExplain.{explanation_said}
 use Rattle.mr_words.proofs.PlainFile.{check_said, draw_said, run_said, upgrade_said}
 use Rattle.mr_words.proofs.PlainNode.{node_said}
@@ -23,7 +24,7 @@ use Rattle.mr_words.specs.WordSteps.{GivesCommand, IsFaultOf}
 use Rattle.mr_words.specs.declared.plan_words.Planned.{Planned}
 use Rattle.mr_words.specs.declared.plan_words.Planned.TheVariants.{InFile, InWords}
 use Rattle.mr_words.specs.declared.words.Wanted.{Wanted}
-use Rattle.mr_words.specs.declared.words.Wanted.TheVariants.{Plan, Timeline, Run, Check, Draw, Upgrade, Node, Proxy, Watch, Explain}
+use Rattle.mr_words.specs.declared.words.Wanted.TheVariants.{Plan, Timeline, Run, Check, Draw, Upgrade, Node, Proxy, Watch, Canary, Explain}
 use Rattle.mr_words.specs.declared.words.WordsFault.{WordsFault}
 use Rattle.mr_words.specs.declared.words.WordsFault.TheVariants.{Wrong, Version, Readings, Memory}
 
@@ -106,6 +107,7 @@ plainly_said words (Upgrade file) says = upgrade_said words file says
 plainly_said words (Node values) says = node_said words values says
 plainly_said words (Proxy values) says = proxy_said words values says
 plainly_said words (Watch values) says = watch_said words values says
+plainly_said words (Canary values) says = canary_said words values says
 plainly_said words (Explain explanation) says = explanation_said words explanation says
 
 -- what is read of words that plainly say a command

@@ -19,18 +19,21 @@ use Rattle.mr_pools.specs.declared.hash.NamedHash.TheVariants.{Sum, Fnv}
 use Rattle.mr_words.proofs.TableLemmas.{table_complete}
 use Rattle.mr_words.specs.Explain.{Told, explanation_of, told_by}
 use Rattle.mr_words.specs.declared.explain.Explanation.{Explanation}
-use Rattle.mr_words.specs.Words.{AgreesWith, AreLoopValues, AreNumberWords, AreReadings, FindsBadReadings, FindsCommand, Found, HasBadReadings, HasExplanation, HasLoopValues, HasNodeValues, HasOptions, HasPlan, HasPlanned, HasProxyValues, HasSixWords, HasTimeline, HasWatchValues, IsBoundOr, IsNumberIfGiven, IsNumberIn, IsNumberList, IsNumberOr, IsNumberWord, IsRoom, LacksSixWords, SamePlanned, Say, SayBadReadings, SayVersion, readings_in, usual_loop_room, usual_room, without_end}
+use Rattle.mr_words.specs.Words.{AgreesWith, AreLoopValues, AreNumberWords, AreReadings, FindsBadReadings, FindsCommand, Found, HasBadReadings, HasCanaryValues, HasExplanation, HasLoopValues, HasNodeValues, HasOptions, HasPlan, HasPlanned, HasProxyValues, HasSixWords, HasTimeline, HasWatchValues, IsBoundOr, IsNumberIfGiven, IsNumberIn, IsNumberList, IsNumberOr, IsNumberWord, IsRoom, IsSpan, LacksSixWords, SamePlanned, Say, SayBadReadings, SayVersion, has_flag, readings_in, usual_loop_room, usual_room, usual_seconds, without_end}
 use Rattle.mr_words.specs.declared.loop_words.LoopValues.{LoopValues}
 use Rattle.mr_words.specs.declared.service_words.NodeValues.{NodeValues}
 use Rattle.mr_words.specs.declared.service_words.ProxyValues.{ProxyValues}
 use Rattle.mr_words.specs.declared.watch_words.WatchValues.{WatchValues}
+use Rattle.mr_words.specs.declared.canary_words.CanaryValues.{CanaryValues}
+use Rattle.mr_words.specs.declared.canary_words.Span.{Span}
+use Rattle.mr_words.specs.declared.canary_words.Span.TheVariants.{Seconds, UntilMigrated}
 use Rattle.mr_words.specs.declared.plan_words.MigrationWords.{MigrationWords}
 use Rattle.mr_words.specs.declared.plan_words.PlanValues.{PlanValues}
 use Rattle.mr_words.specs.declared.plan_words.Planned.{Planned}
 use Rattle.mr_words.specs.declared.plan_words.Planned.TheVariants.{InFile, InWords}
 use Rattle.mr_words.specs.declared.words.TimelineValues.{TimelineValues}
 use Rattle.mr_words.specs.declared.words.Wanted.{Wanted}
-use Rattle.mr_words.specs.declared.words.Wanted.TheVariants.{Plan, Timeline, Run, Check, Draw, Upgrade, Node, Proxy, Watch, Explain}
+use Rattle.mr_words.specs.declared.words.Wanted.TheVariants.{Plan, Timeline, Run, Check, Draw, Upgrade, Node, Proxy, Watch, Canary, Explain}
 
 row_of_subcommand : {Z : Type 0} (o : Option (Box SubCommand Z)) (name : List ℕ) (rows : List Row)
     → option_map (λ (b : Box SubCommand Z). (out-SubCommand (box_value b)).name.now) o ≡ Some name
@@ -184,6 +187,24 @@ same_loops rows None (Some same) are also = let never : false ≡ true = sym are
 same_loops rows (Some values) None are also = let never : false ≡ true = sym also.0 ∙ are.0 in cc
 same_loops rows (Some values) (Some same) are also = ap (λ (v : LoopValues). Some v) (same_loop_values rows values same are.1 also.1)
 
+-- one span
+same_span : (rows : List Row) (span same : Span) → IsSpan rows span → IsSpan rows same → span ≡ same
+same_span rows (Seconds number) (Seconds also) is other_is = ap (λ (n : ℕ). Seconds n) (same_number_or _ _ number also is.1 other_is.1)
+same_span rows (Seconds number) UntilMigrated is other_is = let never : false ≡ true = sym is.0 ∙ other_is.0 in cc
+same_span rows UntilMigrated (Seconds also) is other_is = let never : false ≡ true = sym other_is.0 ∙ is.0 in cc
+same_span rows UntilMigrated UntilMigrated is other_is = refl
+
+-- rows that hold both spans hold none, nor do rows whose word is no number
+pub no_span_of_both : (rows : List Row) (first : Text) → has_flag (codes "until-migrated") rows ≡ true → Some first ≡ first_of (codes "seconds") rows
+    → (span : Span) → ¬ IsSpan rows span
+no_span_of_both rows first until given (Seconds number) is = let never : false ≡ true = sym is.0 ∙ until in cc
+no_span_of_both rows first until given UntilMigrated is = let never : Some first ≡ None = given ∙ is.1 in cc
+
+pub no_span_of_seconds : (rows : List Row) → has_flag (codes "until-migrated") rows ≡ false
+    → ((number : ℕ) → ¬ IsNumberOr usual_seconds (one_of (codes "seconds") rows) number) → (span : Span) → ¬ IsSpan rows span
+no_span_of_seconds rows without none (Seconds number) is = none number is.1
+no_span_of_seconds rows without none UntilMigrated is = let never : false ≡ true = sym without ∙ is.0 in cc
+
 same_numbers : (words : List Text) (numbers same : List ℕ) → AreNumberWords words numbers → AreNumberWords words same → numbers ≡ same
 same_numbers [] [] [] are also = refl
 same_numbers [] [] (s ∷ same) are also = absurd also
@@ -222,6 +243,7 @@ name_of (Upgrade file) = codes "upgrade"
 name_of (Node values) = codes "node"
 name_of (Proxy values) = codes "proxy"
 name_of (Watch values) = codes "watch"
+name_of (Canary values) = codes "canary"
 name_of (Explain explanation) = codes "explain"
 
 -- what was found of a command begins with its name
@@ -235,6 +257,7 @@ found_named found (Upgrade file) h = (h.0, h.1)
 found_named found (Node values) h = (h.0, h.1)
 found_named found (Proxy values) h = (h.0, h.1)
 found_named found (Watch values) h = (h.0, h.1)
+found_named found (Canary values) h = (h.0, h.1)
 found_named found (Explain explanation) h = (h.0, h.1)
 
 one_name : (found : Found) (wanted : Wanted) (name : Text) (rows : List Row) → FindsCommand found wanted → found ≡ Some (name, rows) → name_of wanted ≡ name
@@ -335,6 +358,17 @@ one_found found (Watch read) (Watch values) r p =
       r.2.json_is ∙ sym also.json_is,
       same_inside _ _ _ r.2.addresses_are also.addresses_are,
     )
+one_found found (Canary read) (Canary values) r p =
+    let also : HasCanaryValues r.0 values = subst (λ (rows : List Row). HasCanaryValues rows values) (same_rows found _ p.0 r.0 p.1 r.1) p.2 in (
+      same_inside _ _ _ r.2.config_is also.config_is,
+      same_span r.0 _ _ r.2.span_is also.span_is,
+      same_number_or _ _ _ _ r.2.clients_are also.clients_are,
+      same_number_or _ _ _ _ r.2.keys_are also.keys_are,
+      same_number_or _ _ _ _ r.2.rate_is also.rate_is,
+      r.2.prefix_is ∙ sym also.prefix_is,
+      r.2.json_is ∙ sym also.json_is,
+      same_inside _ _ _ r.2.proxies_are also.proxies_are,
+    )
 one_found found (Explain read) (Explain explanation) r p =
     let also : HasExplanation r.0 (told_by explanation) =
     subst (λ (rows : List Row). HasExplanation rows (told_by explanation)) (same_rows found _ p.0 r.0 p.1 r.1) p.2 in
@@ -424,6 +458,9 @@ proxy_is_no_timeline e = cc
 watch_is_no_timeline : ¬ (codes "watch" ≡ codes "timeline")
 watch_is_no_timeline e = cc
 
+canary_is_no_timeline : ¬ (codes "canary" ≡ codes "timeline")
+canary_is_no_timeline e = cc
+
 explain_is_no_timeline : ¬ (codes "explain" ≡ codes "timeline")
 explain_is_no_timeline e = cc
 
@@ -478,6 +515,21 @@ pub watch_not_found : (m : ArgMatches) (rows : List Row) → subcommand_rows_of 
 watch_not_found m rows is none = record {
   no_command = watch_not_said (subcommand_rows_of m) rows is none;
   no_readings = no_readings_of (subcommand_rows_of m) (codes "watch") rows is watch_is_no_timeline;
+}
+
+canary_not_said : (found : Found) (rows : List Row) → found ≡ Some (codes "canary", rows) → ((values : CanaryValues) → ¬ HasCanaryValues rows values)
+    → (wanted : Wanted) → ¬ FindsCommand found wanted
+canary_not_said found rows is none (Canary values) finds =
+    none values (subst (λ (r : List Row). HasCanaryValues r values) (same_rows found _ finds.0 rows finds.1 is) finds.2)
+canary_not_said found rows is none wanted finds =
+    texts_differ (name_of wanted) (codes "canary") refl refl (one_name found wanted (codes "canary") rows finds is)
+
+-- a canary without its values
+pub canary_not_found : (m : ArgMatches) (rows : List Row) → subcommand_rows_of m ≡ Some (codes "canary", rows) → ((values : CanaryValues) → ¬ HasCanaryValues rows values)
+    → FindsNothing (subcommand_rows_of m)
+canary_not_found m rows is none = record {
+  no_command = canary_not_said (subcommand_rows_of m) rows is none;
+  no_readings = no_readings_of (subcommand_rows_of m) (codes "canary") rows is canary_is_no_timeline;
 }
 
 explanation_not_said : (found : Found) (rows : List Row) → found ≡ Some (codes "explain", rows)

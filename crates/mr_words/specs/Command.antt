@@ -141,14 +141,18 @@ proxy_app =
     let with_most = with_rule with_loops max_clients_rule in
     with_rule with_most (flag_rule (codes "quiet"))
 
--- where services tell their metrics, of which there is one at least; help gives it one name
-abbrev pub address_rule : Rule
-address_rule = record (new_rule (codes "address")) {
+-- words of this name, of which there is one at least; help gives it one name
+abbrev pub several_rule : List ℕ → Rule
+several_rule name = record (new_rule name) {
   range = Some (record { start_inclusive = 1; end_inclusive = usize_max });
   value_names = 1;
   action = Some Append;
   required = true;
 }
+
+-- where services tell their metrics
+abbrev pub address_rule : Rule
+address_rule = several_rule (codes "address")
 
 -- the command `watch`
 abbrev pub watch_app : App
@@ -157,6 +161,27 @@ watch_app =
     let with_once = with_rule with_config (flag_rule (codes "once")) in
     let with_json = with_rule with_once (flag_rule (codes "json")) in
     with_rule with_json address_rule
+
+-- the option that says what the keys of a canary begin with, which may be left out
+abbrev pub prefix_rule : Rule
+prefix_rule = option_rule (codes "prefix") None false
+
+-- where proxies serve clients
+abbrev pub proxies_rule : Rule
+proxies_rule = several_rule (codes "proxy")
+
+-- the command `canary`: one second at least, 1 to 64 clients, 1 to 65,536 keys, 1 to 100,000 requests in a second
+abbrev pub canary_app : App
+canary_app =
+    let with_config = with_rule (new_app (codes "canary")) config_rule in
+    let with_seconds = with_rule with_config (number_between_rule (codes "seconds") 1 18446744073709551615) in
+    let with_until = with_rule with_seconds (flag_rule (codes "until-migrated")) in
+    let with_clients = with_rule with_until (number_between_rule (codes "clients") 1 64) in
+    let with_keys = with_rule with_clients (number_between_rule (codes "keys") 1 65536) in
+    let with_rate = with_rule with_keys (number_between_rule (codes "rate") 1 100000) in
+    let with_prefix = with_rule with_rate prefix_rule in
+    let with_json = with_rule with_prefix (flag_rule (codes "json")) in
+    with_rule with_json proxies_rule
 
 -- a word of its own, by its name, which has to be there
 abbrev pub word_rule : List ℕ → Option ValueParser → Rule
@@ -178,5 +203,6 @@ program_app =
     let with_node = with_subcommand with_upgrade node_app.top in
     let with_proxy = with_subcommand with_node proxy_app.top in
     let with_watch = with_subcommand with_proxy watch_app.top in
-    let whole = with_subcommand with_watch explain_app.top in
+    let with_canary = with_subcommand with_watch canary_app.top in
+    let whole = with_subcommand with_canary explain_app.top in
     record whole { top = record whole.top { has_version = true; no_binary_name = true; subcommand_required = true; arg_required_else_help = true } }

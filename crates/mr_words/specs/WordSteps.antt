@@ -4,7 +4,8 @@ use Rattle.clap.specs.Values.{kind_of}
 use Rattle.clap.specs.Words.{Row, first_of, one_of}
 use Rattle.clap.specs.declared.error.Error.{Error}
 use Rattle.clap.specs.declared.error.kind.ErrorKind.TheVariants.{OutOfMemory, DisplayVersion}
-use Rattle.mr_words.specs.Words.{AreReadings, HasTimeline, HasBadReadings, HasWatchValues, Found, FindsCommand, FindsBadReadings, IsRoom, is_forever, is_on_loops}
+use Rattle.mr_words.specs.Words.{AreReadings, HasTimeline, HasBadReadings, HasWatchValues, HasCanaryValues, Found, FindsCommand, FindsBadReadings, IsRoom, is_forever, is_on_loops}
+use Rattle.mr_words.specs.declared.canary_words.CanaryValues.{CanaryValues}
 use Rattle.mr_words.specs.declared.watch_words.WatchValues.{WatchValues}
 use Rattle.mr_words.specs.declared.words.TimelineValues.{TimelineValues}
 use Rattle.mr_words.specs.declared.words.Wanted.{Wanted}
@@ -32,6 +33,11 @@ GivesTimeline rows (Err (Wrong error)) = ⊥
 abbrev pub GivesWatch : List Row → Option WatchValues → Type 0
 GivesWatch rows (Some values) = HasWatchValues rows values
 GivesWatch rows None = (values : WatchValues) → ¬ HasWatchValues rows values
+
+-- the values of a canary in rows, or that they hold none
+abbrev pub GivesCanary : List Row → Option CanaryValues → Type 0
+GivesCanary rows (Some values) = HasCanaryValues rows values
+GivesCanary rows None = (values : CanaryValues) → ¬ HasCanaryValues rows values
 
 -- the command of what was found, or why that is none
 abbrev pub GivesCommand : Found → Result (Option Wanted) WordsFault → Type 0
@@ -79,6 +85,10 @@ pub record SaysWhyNoProxy (rows : List Row) (text : List ℕ) : Type 0 where
   pub threads : is_on_loops rows ≡ false → text ≡ why_no_node rows
   pub room : is_on_loops rows ≡ true → ((room : ℕ) → ¬ IsRoom true (one_of (codes "room") rows) room) → text ≡ no_room
   pub bounds : is_on_loops rows ≡ true → (room : ℕ) → IsRoom true (one_of (codes "room") rows) room → text ≡ why_no_node rows
+
+-- what is said where a canary is given a number of seconds beside what stands in place of it
+abbrev pub both_spans : List ℕ
+both_spans = codes "'--until-migrated' stands in place of '--seconds', and doesn't go with it"
 
 -- what is said where `plan` is given neither of its forms, or parts of both
 abbrev pub neither_form : List ℕ

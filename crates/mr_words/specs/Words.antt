@@ -10,6 +10,9 @@ use Rattle.clap.specs.declared.error.kind.ErrorKind.TheVariants.{DisplayVersion}
 use Rattle.mr_pools.specs.Hash.{name_of_hash}
 use Rattle.mr_words.specs.Command.{program_app}
 use Rattle.mr_words.specs.Explain.{Told, told_by, explanation_of}
+use Rattle.mr_words.specs.declared.canary_words.CanaryValues.{CanaryValues}
+use Rattle.mr_words.specs.declared.canary_words.Span.{Span}
+use Rattle.mr_words.specs.declared.canary_words.Span.TheVariants.{Seconds, UntilMigrated}
 use Rattle.mr_words.specs.declared.loop_words.LoopValues.{LoopValues}
 use Rattle.mr_words.specs.declared.plan_words.MigrationWords.{MigrationWords}
 use Rattle.mr_words.specs.declared.plan_words.PlanValues.{PlanValues}
@@ -20,7 +23,7 @@ use Rattle.mr_words.specs.declared.service_words.ProxyValues.{ProxyValues}
 use Rattle.mr_words.specs.declared.watch_words.WatchValues.{WatchValues}
 use Rattle.mr_words.specs.declared.words.TimelineValues.{TimelineValues}
 use Rattle.mr_words.specs.declared.words.Wanted.{Wanted}
-use Rattle.mr_words.specs.declared.words.Wanted.TheVariants.{Plan, Timeline, Run, Check, Draw, Upgrade, Node, Proxy, Watch, Explain}
+use Rattle.mr_words.specs.declared.words.Wanted.TheVariants.{Plan, Timeline, Run, Check, Draw, Upgrade, Node, Proxy, Watch, Canary, Explain}
 use Rattle.mr_words.specs.declared.words.WordsFault.{WordsFault}
 use Rattle.mr_words.specs.declared.words.WordsFault.TheVariants.{Wrong, Version, Readings, Memory}
 
@@ -245,6 +248,54 @@ pub record HasWatchValues (rows : List Row) (values : WatchValues) : Type 0 wher
   pub json_is : values.json ≡ has_flag (codes "json") rows
   pub addresses_are : all_of (codes "address") rows ≡ Some (addresses_in values)
 
+-- how many seconds a canary flies, where its words don't say it
+abbrev pub usual_seconds : ℕ
+usual_seconds = 60
+
+-- how many clients a canary has at each proxy, where its words don't say it
+abbrev pub usual_canary_clients : ℕ
+usual_canary_clients = 2
+
+-- how many keys its clients share, where its words don't say it
+abbrev pub usual_keys : ℕ
+usual_keys = 64
+
+-- how many requests it sends in a second, where its words don't say it
+abbrev pub usual_rate : ℕ
+usual_rate = 200
+
+-- what its keys begin with, where its words don't say it
+abbrev pub usual_prefix : Text
+usual_prefix = codes "migctl-canary-"
+
+-- the flag `--until-migrated` was given
+abbrev pub is_until_migrated : List Row → Bool
+is_until_migrated rows = has_flag (codes "until-migrated") rows
+
+-- how long a canary flies: until what is migrated is, where the words say that and no number of seconds, and else so many seconds
+abbrev pub IsSpan : List Row → Span → Type 0
+IsSpan rows (Seconds number) = (is_until_migrated rows ≡ false) × IsNumberOr usual_seconds (one_of (codes "seconds") rows) number
+IsSpan rows UntilMigrated = (is_until_migrated rows ≡ true) × (first_of (codes "seconds") rows ≡ None)
+
+-- what the keys of a canary begin with
+abbrev pub prefix_given : List Row → Text
+prefix_given rows = unwrap_or (first_of (codes "prefix") rows) usual_prefix
+
+-- where proxies serve clients, among the values of a canary
+abbrev pub proxies_in : CanaryValues → List Text
+proxies_in values = map (λ proxy. proxy.now) values.proxies.items
+
+-- the rows that a parse found hold the values of a canary
+pub record HasCanaryValues (rows : List Row) (values : CanaryValues) : Type 0 where
+  pub config_is : first_of (codes "config") rows ≡ Some values.config.now
+  pub span_is : IsSpan rows values.span
+  pub clients_are : IsNumberOr usual_canary_clients (one_of (codes "clients") rows) values.clients
+  pub keys_are : IsNumberOr usual_keys (one_of (codes "keys") rows) values.keys
+  pub rate_is : IsNumberOr usual_rate (one_of (codes "rate") rows) values.rate
+  pub prefix_is : values.prefix.now ≡ prefix_given rows
+  pub json_is : values.json ≡ has_flag (codes "json") rows
+  pub proxies_are : all_of (codes "proxy") rows ≡ Some (proxies_in values)
+
 -- the rows that a parse found name a refusal that is told of
 pub record HasExplanation (rows : List Row) (told : Told) : Type 0 where
   pub number : List ℕ
@@ -272,6 +323,7 @@ FindsCommand found (Upgrade file) = FindsRows (codes "upgrade") (λ rows. HasFil
 FindsCommand found (Node values) = FindsRows (codes "node") (λ rows. HasNodeValues rows values) found
 FindsCommand found (Proxy values) = FindsRows (codes "proxy") (λ rows. HasProxyValues rows values) found
 FindsCommand found (Watch values) = FindsRows (codes "watch") (λ rows. HasWatchValues rows values) found
+FindsCommand found (Canary values) = FindsRows (codes "canary") (λ rows. HasCanaryValues rows values) found
 FindsCommand found (Explain explanation) = FindsRows (codes "explain") (λ rows. HasExplanation rows (told_by explanation)) found
 
 -- a timeline was found whose readings are no list of numbers
@@ -455,6 +507,38 @@ pub record SaysWatch (words : List Text) (values : WatchValues) : Type 0 where
   pub json_is : values.json ≡ false
   pub addresses_are : addresses_in values ≡ address ∷ []
 
+-- what words of a canary say in any case: seconds are told as text, of the usual clients and keys
+pub record IsUsualCanary (values : CanaryValues) (proxy : Text) : Type 0 where
+  pub clients_are : values.clients ≡ usual_canary_clients
+  pub keys_are : values.keys ≡ usual_keys
+  pub rate_is : values.rate ≡ usual_rate
+  pub prefix_is : values.prefix.now ≡ usual_prefix
+  pub json_is : values.json ≡ false
+  pub proxies_are : proxies_in values ≡ proxy ∷ []
+
+-- the words are `canary`, the file's name and one proxy, neither of which looks like an option, and the values are the usual ones
+pub record SaysCanaryAlone (words : List Text) (values : CanaryValues) : Type 0 where
+  pub proxy : Text
+  pub words_are : words ≡ codes "canary" ∷ codes "--config" ∷ values.config.now ∷ proxy ∷ []
+  pub config_is_none : IsNoOption values.config.now
+  pub proxy_is_none : IsNoOption proxy
+  pub span_is : values.span ≡ Seconds usual_seconds
+  pub usual : IsUsualCanary values proxy
+
+-- the words are `canary`, the file's name, `--until-migrated` and one proxy, and neither the file's name nor the proxy looks like an
+-- option
+pub record SaysCanaryUntilMigrated (words : List Text) (values : CanaryValues) : Type 0 where
+  pub proxy : Text
+  pub words_are : words ≡ codes "canary" ∷ codes "--config" ∷ values.config.now ∷ codes "--until-migrated" ∷ proxy ∷ []
+  pub config_is_none : IsNoOption values.config.now
+  pub proxy_is_none : IsNoOption proxy
+  pub span_is : values.span ≡ UntilMigrated
+  pub usual : IsUsualCanary values proxy
+
+-- the words plainly are one of the two forms of a canary
+abbrev pub SaysCanary : List Text → CanaryValues → Type 0
+SaysCanary words values = SaysCanaryAlone words values ⊎ SaysCanaryUntilMigrated words values
+
 -- the words are `explain`, and the layer and the number of a refusal that is told of
 pub record SaysExplain (words : List Text) (told : Told) : Type 0 where
   pub number : Text
@@ -474,6 +558,7 @@ SaysPlainly words (Upgrade file) = SaysFile (codes "upgrade") words (path_in fil
 SaysPlainly words (Node values) = SaysNodeAlone words values ⊎ SaysNode words values ⊎ SaysNodeForever words values
 SaysPlainly words (Proxy values) = SaysProxyAlone words values ⊎ SaysProxy words values ⊎ SaysProxyForever words values
 SaysPlainly words (Watch values) = SaysWatch words values
+SaysPlainly words (Canary values) = SaysCanary words values
 SaysPlainly words (Explain explanation) = SaysExplain words (told_by explanation)
 
 -- both plan for the same: for the migrations of one file, or for one migration of the same words
@@ -492,6 +577,12 @@ abbrev pub SameWatch : WatchValues → WatchValues → Type 0
 SameWatch values read = (read.config.now ≡ values.config.now) × (read.once ≡ values.once) × (read.json ≡ values.json)
     × (addresses_in read ≡ addresses_in values)
 
+-- both canaries are of one file, for one span, of as many clients and keys, at the same proxies, and are shown in the same way
+abbrev pub SameCanary : CanaryValues → CanaryValues → Type 0
+SameCanary values read = (read.config.now ≡ values.config.now) × (read.span ≡ values.span) × (read.clients ≡ values.clients)
+    × (read.keys ≡ values.keys) × (read.rate ≡ values.rate) × (read.prefix.now ≡ values.prefix.now) × (read.json ≡ values.json)
+    × (proxies_in read ≡ proxies_in values)
+
 -- both are the same command with the same values
 abbrev pub AgreesWith : Wanted → Wanted → Type 0
 AgreesWith (Plan values) (Plan read) = SamePlanned values.planned read.planned × (read.at ≡ values.at)
@@ -508,6 +599,7 @@ AgreesWith (Proxy values) (Proxy read) = (read.config.now ≡ values.config.now)
     × (read.leg_timeout ≡ values.leg_timeout) × (read.idle_timeout ≡ values.idle_timeout)
     × (path_in read.metrics ≡ path_in values.metrics) × (read.on_loops ≡ values.on_loops)
 AgreesWith (Watch values) (Watch read) = SameWatch values read
+AgreesWith (Canary values) (Canary read) = SameCanary values read
 AgreesWith (Explain explanation) (Explain read) = told_by read ≡ told_by explanation
 AgreesWith _ _ = ⊥
 

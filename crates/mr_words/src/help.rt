@@ -145,3 +145,21 @@ pub const WATCH_NOTES: &str = notes!(
     The standard input isn't read.",
     "migctl watch --config fleet.json 127.0.0.1:9001 127.0.0.1:9002"
 );
+
+/// The notes of `canary`.
+pub const CANARY_NOTES: &str = notes!(
+    "An address is where a proxy serves clients, as 127.0.0.1:11210. A word that is no address, or has the port 0, is refused\n\
+    before anything is asked. Proxies of one configuration belong together, and nobody else may set its keys.\n\
+    At each proxy it has clients of its own, which get, set and delete keys that all of them share. A key is the prefix,\n\
+    16 hexadecimal digits that are drawn for this run, and a number. There are --keys of them, and more until each node of\n\
+    the configuration has one. At the end they are deleted; what is left then expires within an hour.\n\
+    A value came back where a get hits it that was issued after a delete was acknowledged, which was issued after the\n\
+    value's set was answered with STORED. It is told with the set, the delete and the get, and the status is 1. What\n\
+    isn't answered counts as an error of its kind, and proves nothing.\n\
+    A line is written for each second, and at the end a table of the phases, and the verdict. Hops and phases are those\n\
+    of the configuration, by the clock of this machine. On a terminal the line of a second is written in place; with\n\
+    --json each is one object, in a line of its own.\n\
+    With --until-migrated it ends once the last hop has been new-only for ten seconds.\n\
+    The standard input isn't read.",
+    "migctl canary --config fleet.json --until-migrated 127.0.0.1:11210 127.0.0.1:11220"
+);

@@ -2,6 +2,7 @@
 //! refusal, and what it means.
 #![tactic(auto)]
 
+mod canary_words;
 mod explain;
 mod explanations;
 mod help;
@@ -15,6 +16,7 @@ mod version;
 mod watch_words;
 mod words;
 
+pub use canary_words::{CanaryValues, Span};
 pub use explain::{Explanation, find_explanation};
 pub use lines::{node_line, plan_line, pool_line, schedule_line, text_line};
 pub use loop_words::LoopValues;

@@ -1,7 +1,7 @@
 //! The options of the commands, and the numbers that they give.
 ghost use Rattle.std.specs.Prelude.{◌≡◌, ℕ, None, Some, false, true, IfOk, IsOkAnd, IfSome, IfNone, codes};
 ghost use Rattle.clap.specs.Words.{AddsArg, first_of, found_of, one_of, rows_of, rule_of};
-ghost use Rattle.mr_words.specs.Command.{config_rule, flag_rule, listen_rule, metrics_rule, number_rule, number_between_rule, option_rule};
+ghost use Rattle.mr_words.specs.Command.{config_rule, flag_rule, listen_rule, metrics_rule, number_rule, number_between_rule, option_rule, several_rule};
 ghost use Rattle.mr_words.specs.Words.{IsNumberOr, has_flag, path_in};
 
 use clap::builder::ValueParser;
@@ -94,6 +94,19 @@ pub fn flag<'a>(alloc: Global, name: &'a str, help: &'a str) -> Arg<'a>
         .help(help)
 }
 
+/// Words by one name, of which there is one at least, and what help calls each.
+pub fn several<'a>(alloc: Global, name: &'a str, shown: &'a str, help: &'a str) -> Arg<'a>
+    ensures rule { rule_of result ≡ several_rule name.entry.now }
+    ensures local { result.global ≡ false }
+{
+    Arg::new(alloc, name)
+        .value_name(shown)
+        .num_args(1..)
+        .required(true)
+        .action(ArgAction::Append)
+        .help(help)
+}
+
 /// Whether a flag was given.
 pub fn is_given(matches: &ArgMatches, name: &str) -> bool
     ensures { result ≡ has_flag name.now (rows_of (found_of matches.now)) }
@@ -133,4 +146,13 @@ pub fn number_or(matches: &ArgMatches, name: &str, usual: u64) -> Option<u64>
         Ok(None) => Some(usual),
         Err(_) => None,
     }
+}
+
+/// These texts, in a list of their own.
+pub fn listed<'a>(alloc: Global, texts: &[&'a str]) -> Result<Vec<&'a str>, AllocError>
+    ensures { IfOk result (λ list. list.items ≡ texts.now) }
+{
+    let mut list = Vec::new(alloc);
+    list.extend_from_slice(texts)?;
+    Ok(list)
 }

@@ -5,8 +5,8 @@ ghost use Rattle.mr_words.specs.Command.{address_rule, watch_app};
 ghost use Rattle.mr_words.specs.WordSteps.{GivesWatch};
 
 use crate::help::WATCH_NOTES;
-use crate::options::{config_option, flag, is_given, with_option};
-use clap::{Arg, ArgAction, ArgMatches, Command};
+use crate::options::{config_option, flag, is_given, listed, several, with_option};
+use clap::{Arg, ArgMatches, Command};
 use std::alloc::{AllocError, Global};
 
 /// The values of the command `watch`.
@@ -50,12 +50,8 @@ fn addresses<'a>(alloc: Global) -> Arg<'a>
     ensures rule { rule_of result ≡ address_rule }
     ensures local { result.global ≡ false }
 {
-    Arg::new(alloc, "address")
-        .value_name("metrics address")
-        .num_args(1..)
-        .required(true)
-        .action(ArgAction::Append)
-        .help("Where a proxy or a node tells its metrics, as 127.0.0.1:9001")
+    let help = "Where a proxy or a node tells its metrics, as 127.0.0.1:9001";
+    several(alloc, "address", "metrics address", help)
 }
 
 /// The command `watch`.
@@ -75,15 +71,6 @@ pub fn watch_command<'a>(alloc: Global) -> Result<Command<'a>, AllocError>
     let watch = with_option(watch, once);
     let watch = with_option(watch, json);
     with_option(watch, addresses(alloc))
-}
-
-/// These texts, in a list of their own.
-fn listed<'a>(alloc: Global, texts: &[&'a str]) -> Result<Vec<&'a str>, AllocError>
-    ensures { IfOk result (λ list. list.items ≡ texts.now) }
-{
-    let mut list = Vec::new(alloc);
-    list.extend_from_slice(texts)?;
-    Ok(list)
 }
 
 /// The values of the command `watch`, where each of them was found.

@@ -4,8 +4,9 @@ ghost use Rattle.clap.specs.Words.{AddsSubcommand, Row, app_of, found_of, rows_o
 ghost use Rattle.mr_words.specs.Command.{file_app, word_rule, timeline_app, run_app, check_app, draw_app, upgrade_app, explain_app, program_app};
 ghost use Rattle.mr_words.specs.Explain.{told_by};
 ghost use Rattle.mr_words.specs.Words.{AgreesWith, HasExplanation, ReadsWords, SaysPlainly, SaysVersion, ReadsAs, TellsVersion};
-ghost use Rattle.mr_words.specs.WordSteps.{IsFaultOf, GivesReadings, GivesTimeline, GivesCommand, SaysWhyNoProxy, neither_form, no_such_fault, why_no_node};
+ghost use Rattle.mr_words.specs.WordSteps.{IsFaultOf, GivesReadings, GivesTimeline, GivesCommand, SaysWhyNoProxy, both_spans, neither_form, no_such_fault, why_no_node};
 
+use crate::canary_words::{CanaryValues, canary_command, canary_values};
 use crate::explain::{Explanation, find_explanation};
 use crate::help::{
     CHECK_NOTES, DRAW_NOTES, EXPLAIN_NOTES, PROGRAM_NOTES, RUN_NOTES, TIMELINE_NOTES, UPGRADE_NOTES,
@@ -79,6 +80,8 @@ pub enum Wanted<'a> {
     Proxy(ProxyValues<'a>),
     /// What is seen of a migration while it runs.
     Watch(WatchValues<'a>),
+    /// What clients of its own see at proxies, and whether what was deleted comes back.
+    Canary(CanaryValues<'a>),
     /// What a fault means.
     Explain(Explanation<'static>),
 }
@@ -98,6 +101,7 @@ impl<'a> Wanted<'a> {
             Wanted::Node(values) => Ok(Wanted::Node(*values)),
             Wanted::Proxy(values) => Ok(Wanted::Proxy(*values)),
             Wanted::Watch(values) => Ok(Wanted::Watch(values.copy()?)),
+            Wanted::Canary(values) => Ok(Wanted::Canary(values.copy()?)),
             Wanted::Explain(explanation) => Ok(Wanted::Explain(*explanation)),
         }
     }
@@ -264,6 +268,7 @@ fn program<'a>(alloc: Global) -> Result<Command<'a>, AllocError>
     let program = with_command(program, node_command(alloc));
     let program = with_command(program, proxy_command(alloc));
     let program = with_command(program, watch_command(alloc));
+    let program = with_command(program, canary_command(alloc));
     let program = with_command(program, explain_command(alloc))?;
     Ok(
         program
@@ -357,6 +362,12 @@ fn wanted_of<'a>(alloc: Global, matches: &ArgMatches<'a>) -> Result<Option<Wante
             None => Ok(None),
         };
     }
+    if let Some(found) = matches.subcommand_matches("canary") {
+        return match canary_values(alloc, found)? {
+            Some(values) => Ok(Some(Wanted::Canary(values))),
+            None => Ok(None),
+        };
+    }
     if let Some(found) = matches.subcommand_matches("explain") {
         return match explanation_in(found) {
             Some(explanation) => Ok(Some(Wanted::Explain(explanation))),
@@ -367,10 +378,11 @@ fn wanted_of<'a>(alloc: Global, matches: &ArgMatches<'a>) -> Result<Option<Wante
 }
 
 /// Why no command has these values, though the command line took each of them: `explain` names no fault, a plan is given
-/// neither of its forms or parts of both, or a service is given what doesn't go together.
+/// neither of its forms or parts of both, or a service or a canary is given what doesn't go together.
 fn refusal_of_values(matches: &ArgMatches) -> &'static str
     ensures explain { (subcommand_name_of matches.now ≡ Some (codes "explain")) → (result.now ≡ no_such_fault) }
     ensures plan { (subcommand_name_of matches.now ≡ Some (codes "plan")) → (result.now ≡ neither_form) }
+    ensures canary { (subcommand_name_of matches.now ≡ Some (codes "canary")) → (result.now ≡ both_spans) }
     ensures proxy { (rows : List Row) → (subcommand_rows_of matches.now ≡ Some (codes "proxy", rows)) → SaysWhyNoProxy rows result.now }
     ensures node { (rows : List Row) → (subcommand_rows_of matches.now ≡ Some (codes "node", rows)) → result.now ≡ why_no_node rows }
 {
@@ -379,6 +391,9 @@ fn refusal_of_values(matches: &ArgMatches) -> &'static str
     }
     if matches.subcommand_matches("plan").is_some() {
         return "'plan' takes --config and --at, or six words of which the fifth is sum or fnv1a32: 'migctl plan --help' shows both";
+    }
+    if matches.subcommand_matches("canary").is_some() {
+        return "'--until-migrated' stands in place of '--seconds', and doesn't go with it";
     }
     if let Some(found) = matches.subcommand_matches("node") {
         return why_no_node(found);

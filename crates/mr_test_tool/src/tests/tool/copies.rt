@@ -2,7 +2,7 @@
 use super::is;
 use crate::tests::must;
 use mr_test_support::{at_last, grant_memory, refuse_memory};
-use mr_tool::{TimelineValues, Wanted, WatchValues, read_words};
+use mr_tool::{CanaryValues, Span, TimelineValues, Wanted, WatchValues, read_words};
 use std::alloc::{AllocError, Global};
 use std::env::Env;
 use std::process::Abort;
@@ -16,6 +16,25 @@ const TIMELINE: &[&str] = &[
 ];
 
 const WATCH: &[&str] = &["watch", "--config", "fleet.json", "--once", "a:1", "b:2"];
+
+const CANARY: &[&str] = &[
+    "canary",
+    "--config",
+    "fleet.json",
+    "--seconds",
+    "9",
+    "--clients",
+    "3",
+    "--keys",
+    "7",
+    "--rate",
+    "11",
+    "--prefix",
+    "k",
+    "--json",
+    "a:1",
+    "b:2",
+];
 
 const CHECK: &[&str] = &["check", "transcript.json"];
 
@@ -41,6 +60,15 @@ fn expect_watch(rt: &impl Abort, values: &WatchValues) {
     is(rt, values.addresses(), ["a:1", "b:2"].as_slice());
 }
 
+/// Asserts what a canary is of.
+fn expect_canary(rt: &impl Abort, values: &CanaryValues) {
+    is(rt, values.config, "fleet.json");
+    is(rt, values.span, Span::Seconds(9));
+    is(rt, (values.clients, values.keys, values.rate), (3, 7, 11));
+    is(rt, (values.prefix, values.json), ("k", true));
+    is(rt, values.proxies(), ["a:1", "b:2"].as_slice());
+}
+
 #[test]
 fn refused_memory_copies_a_timeline_later(rt: HostRuntime) {
     match copied(&rt, rt.alloc(), TIMELINE) {
@@ -60,6 +88,18 @@ fn refused_memory_copies_a_watch_later(rt: HostRuntime) {
             let again = at_last!(&rt, values.copy(), Err(AllocError));
             expect_watch(&rt, &values);
             expect_watch(&rt, &must(&rt, again));
+        }
+        _ => rt.panic("another command"),
+    }
+}
+
+#[test]
+fn refused_memory_copies_a_canary_later(rt: HostRuntime) {
+    match copied(&rt, rt.alloc(), CANARY) {
+        Wanted::Canary(values) => {
+            let again = at_last!(&rt, values.copy(), Err(AllocError));
+            expect_canary(&rt, &values);
+            expect_canary(&rt, &must(&rt, again));
         }
         _ => rt.panic("another command"),
     }

@@ -28,5 +28,8 @@ returns-in-Proxy g c = rw c.in-Proxy.is (λ faults. c.run_proxy.ensures (g.I.Sou
 pub returns-in-Watch : goal.returns-in-Watch
 returns-in-Watch g c = rw c.in-Watch.is (λ faults. (c.run_watch.ensures (g.I.Source.told c.args.input.now) faults, refl))
 
+pub returns-in-Canary : goal.returns-in-Canary
+returns-in-Canary g c = rw c.in-Canary.is (λ faults. (c.run_canary.ensures (g.I.Source.told c.args.input.now) faults, refl))
+
 pub returns-in-Explain : goal.returns-in-Explain
 returns-in-Explain g c = rw c.in-Explain.is (λ faults. (c.run_explain.ensures (g.S.Sources.told c.args.sources.now) (g.I.Source.told c.args.input.now) faults, refl))

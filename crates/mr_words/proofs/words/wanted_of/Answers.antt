@@ -1,7 +1,7 @@
 use Rattle.std.proofs.Common.{◌∙◌, codes, refl, sym}
 use Rattle.clap.proofs.WalkLemmas.{first_value-rows}
 use Rattle.clap.specs.Words.{found_of}
-use Rattle.mr_words.proofs.WordLemmas.{explanation_not_found, node_not_found, plan_not_found, proxy_not_found, sub_row, watch_not_found}
+use Rattle.mr_words.proofs.WordLemmas.{canary_not_found, explanation_not_found, node_not_found, plan_not_found, proxy_not_found, sub_row, watch_not_found}
 use Rattle.mr_words.proofs.words.wanted_of.Goals as goal
 
 pub returns-in-None : goal.returns-in-None
@@ -63,9 +63,16 @@ returns-in-None-3 c =
     let nothing = watch_not_found c.args.matches.now _ found (rw c.in-None-3.is at c.in_ok-values-2.ensures) in
     (nothing.no_command, nothing.no_readings)
 
+pub returns-in-None-4 : goal.returns-in-None-4
+returns-in-None-4 c =
+    let found =
+    sub_row c.args.matches.now _ _ (c.in-Some-subcommand_matches-9.ensures.found.0 refl) c.in-Some-subcommand_matches-9.ensures.rows in
+    let nothing = canary_not_found c.args.matches.now _ found (rw c.in-None-4.is at c.in_ok-values-3.ensures) in
+    (nothing.no_command, nothing.no_readings)
+
 pub returns-in-None-explanation_in : goal.returns-in-None-explanation_in
 returns-in-None-explanation_in c =
     let found =
-    sub_row c.args.matches.now _ _ (c.in-Some-subcommand_matches-9.ensures.found.0 refl) c.in-Some-subcommand_matches-9.ensures.rows in
+    sub_row c.args.matches.now _ _ (c.in-Some-subcommand_matches-10.ensures.found.0 refl) c.in-Some-subcommand_matches-10.ensures.rows in
     let nothing = explanation_not_found c.args.matches.now _ found c.in-None-explanation_in.ensures.missing in
     (nothing.no_command, nothing.no_readings)

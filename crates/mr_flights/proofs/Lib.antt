@@ -1,0 +1,3 @@
+pub mod SeeingLemmas
+pub mod PlansLemmas
+pub mod FlightLemmas

@@ -1,0 +1,12 @@
+pub mod Digits
+pub mod Stamp
+pub mod Naming
+pub mod Choosing
+pub mod Heard
+pub mod Dice
+pub mod Pace
+pub mod Said
+pub mod NotebookView
+pub mod Clients
+pub mod CanaryView
+pub mod steps

@@ -1,0 +1,11 @@
+pub mod CameBack
+pub mod Json
+pub mod Laws
+pub mod Outcome
+pub mod Percentile
+pub mod Second
+pub mod Shown
+pub mod Table
+pub mod Tally
+pub mod Trouble
+pub mod Verdict
