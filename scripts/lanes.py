@@ -21,7 +21,7 @@ KEPT = ("incremental", "rlib")  # what a proof leaves in out/: the work that it 
 PROGRAM = "migctl"
 ADOPTED = "begins with what a check kept in"  # what the toolchain says of a proof that begins with kept work
 MEMORY_OF_JOB = 2_000_000_000  # bytes that each process of a proof takes
-MOST_LANES = 4  # and as many as there are processors at most; more were never tried
+MOST_LANES = 3  # more slow one another down
 MOST_JOBS = 4  # of one library; more were never tried
 AFTER = 0.1  # seconds after which is looked again at what runs
 PATIENCE = 30  # seconds in which a proof that is told to end has to
@@ -74,9 +74,10 @@ def text_of(file):
 
 
 def jobs_at_once(processors, memory):
-    """How many processes may prove at a time, where free memory holds them: one for each processor, and one more, since those of
-    one library wait for one another now and then."""
-    return max(1, min(processors + 1, memory // MEMORY_OF_JOB))
+    """How many processes may prove at a time. Those of one library wait for one another now and then, so on more than two
+    processors there are half as many again, where free memory holds them."""
+    wanted = processors + (processors // 2 if processors > 2 else 0)
+    return max(1, min(wanted, memory // MEMORY_OF_JOB))
 
 
 class Lane:
@@ -195,7 +196,7 @@ class Proof:
 
     def run(self, telling):
         """Proves all of them."""
-        count = min(MOST_LANES, self.processors, self.jobs, len(self.waiting))
+        count = min(MOST_LANES, self.jobs, len(self.waiting))
         self.lanes = [Lane(self.home / f"lane-{number}", self.sources) for number in range(count)]
         try:
             while self.waiting or self.running:
@@ -248,9 +249,9 @@ class Proof:
         return self.jobs - sum(it.jobs for it in self.running)
 
     def begin_one(self, name, lane, others):
-        """Begins a library, beside which so many others can begin: it gets all free processes but one for each of those. Several
-        take up to twice the processor time of one, so they are for the longest way, and where there is nothing else to begin."""
-        jobs = max(1, min(MOST_JOBS, self.processors, self.free_jobs() - others))
+        """Begins a library, beside which so many others can begin: it gets what their shares leave of the free processes."""
+        share = self.jobs // len(self.lanes)
+        jobs = max(1, min(share, self.free_jobs()), min(MOST_JOBS, self.processors, self.free_jobs() - others * share))
         lane.take(name, self.below[name])
         words = [TOOLCHAIN, "lib", "--jobs", str(jobs)]
         self.running.append(Running(name, words, lane.crate(name), self.home / f"{name}.log", jobs, lane))

@@ -289,7 +289,7 @@ def no_library_begins_before_those_below_it(checkout):
 
 @case
 def libraries_are_proved_side_by_side(checkout):
-    checkout.change("scripts/lanes.py", "min(processors + 1, memory // MEMORY_OF_JOB)", "6")
+    checkout.change("scripts/lanes.py", "min(wanted, memory // MEMORY_OF_JOB)", "6")
     checkout.play("seconds.mr_low", "1")
     checkout.play("seconds.mr_side", "1")
     prove(checkout)
@@ -298,20 +298,20 @@ def libraries_are_proved_side_by_side(checkout):
 
 @case
 def the_longest_way_goes_first(checkout):
-    checkout.change("scripts/lanes.py", "MOST_LANES = 4", "MOST_LANES = 1")
+    checkout.change("scripts/lanes.py", "MOST_LANES = 3", "MOST_LANES = 1")
     prove(checkout)
     order = [call.split()[1] for call in checkout.calls() if call.startswith("begin")]
     is_equal(order, ["mr_low", "mr_right", "mr_side", "mr_left", "mr_top", "migctl"], "the order")
 
 
 @case
-def one_library_has_all_processes_but_one_for_each_beside_it(checkout):
+def one_library_has_what_the_shares_of_those_beside_it_leave(checkout):
     checkout.change("scripts/lanes.py", "self.processors = processors", "self.processors = 4")
     whole = (checkout.root / "scripts/lanes.py").read_text(encoding="utf-8")
     checkout.play("seconds.mr_low", "1")
     checkout.play("seconds.mr_side", "1")
     for processes, wanted in (("4", ("3", "1", "4")), ("6", ("4", "2", "4"))):
-        checkout.write("scripts/lanes.py", whole.replace("min(processors + 1, memory // MEMORY_OF_JOB)", processes))
+        checkout.write("scripts/lanes.py", whole.replace("min(wanted, memory // MEMORY_OF_JOB)", processes))
         checkout.play("calls", "")
         for name in (*LIBRARIES, "migctl"):
             shutil.rmtree(checkout.root / "crates" / name / "out", ignore_errors=True)
