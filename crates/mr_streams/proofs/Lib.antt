@@ -10,6 +10,7 @@ mod Exchanges
 mod Delivering
 mod Serving
 mod Mirrors
+mod Owing
 mod Changing
 mod LoopMoves
 mod LoopEvents
