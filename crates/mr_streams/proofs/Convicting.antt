@@ -77,17 +77,20 @@ counted_request is op proxy (request.Get keys) = inl refl
 counted_request is op proxy (request.Set key flags exptime block noreply) =
     elim (one_or_none (is key block)) [
       | inl none ↦ inl none
-      | inr picked ↦ inr (ap one_if picked, record {
-        op = op;
-        proxy = proxy;
-        key = key;
-        flags = flags;
-        exptime = exptime;
-        block = block;
-        noreply = noreply;
-        are = refl;
-        picked = picked;
-      })
+      | inr picked ↦ inr (
+        ap one_if picked,
+        record {
+          op = op;
+          proxy = proxy;
+          key = key;
+          flags = flags;
+          exptime = exptime;
+          block = block;
+          noreply = noreply;
+          are = refl;
+          picked = picked;
+        },
+      )
     ]
 counted_request is op proxy (request.Delete key noreply) = inl refl
 counted_request is op proxy request.Quit = inl refl

@@ -1,6 +1,7 @@
 -- How many sets of some values nodes may still perform: those whose texts are on their way over connections.
-use Rattle.std.proofs.Common.{◌≡◌, ℕ, ◌+◌, ◌≤◌, Bool, true, false, List, ◌++◌, length, get_or, Option, Some}
+use Rattle.std.proofs.Common.{◌≡◌, ℕ, ◌+◌, ◌≤◌, Bool, true, false, List, ◌++◌, length, get_or, Option, Some, arith}
 use Rattle.std.specs.List.{flat_map, AllByRecursion, sum_by}
+use Rattle.std.proofs.lemmas.List.Sums.{sum_by-append}
 use Rattle.mr_text.specs.Valid.{IsValidRequest}
 use Rattle.mr_text.specs.declared.request.Request.{Request}
 use Rattle.mr_text.specs.declared.request.Request.TheVariants as request
@@ -109,3 +110,11 @@ pub record Owes (is : Picks) (first : ℕ) (s : StreamsView) : Type 0 where
   pub owed : List ℕ
   pub carried : AreCarried is (lines_of s.loops) (seats_of s.nodes) s.connections owed
   pub within : total owed + stored is s.history ≤ first + issued is s.history
+
+-- the history gains entries
+pub within_more : (is : Picks) (first before after : ℕ) (history gains : List Entry) → before + stored is history ≤ first + issued is history
+    → after + stored is gains ≤ before + issued is gains → after + stored is (history ++ gains) ≤ first + issued is (history ++ gains)
+within_more is first before after history gains old new =
+    let stores = sum_by-append (stored_at is) history gains in
+    let issues = sum_by-append (issued_at is) history gains in
+    omega arith

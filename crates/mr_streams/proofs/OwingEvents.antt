@@ -40,20 +40,12 @@ use Rattle.mr_streams.proofs.LinkEvents.{restarted_same}
 use Rattle.mr_streams.proofs.Lists.{at_map, at_mapped, at_one, at_last, at_set, at_written, at_nothing, same_or_not, written_back}
 use Rattle.mr_streams.proofs.LoopEvents.{all_same, dialed_same, broken_same, ticked_all_same}
 use Rattle.mr_streams.proofs.Mirrors.{MirrorsStreams, IsLegalInput, lines_of, seats_of}
-use Rattle.mr_streams.proofs.Owing.{Picks, Keeps, Writes, Carries, AreCarried, Owes, issued, issued_at, stored, stored_at, total}
+use Rattle.mr_streams.proofs.Owing.{Picks, Keeps, Writes, Carries, AreCarried, Owes, within_more, issued, issued_at, stored, stored_at, total}
 use Rattle.mr_streams.proofs.OwingAsks.{asks_owed, asks_legal, asks_store_none}
 use Rattle.mr_streams.proofs.OwingLinks.{AreSingle, OwesMore, writes_elsewhere, writes_kept, own_link, carries_left, carried_moved, carried_changed}
-use Rattle.mr_streams.proofs.OwingNodes.{owes_node, owes_node_place, owes_node_restart}
+use Rattle.mr_streams.proofs.OwingNodes.{keeps_before, stood_but, owes_node, owes_node_place, owes_node_restart}
 use Rattle.mr_streams.proofs.Placing.{SheetLaws}
 use Rattle.mr_streams.proofs.Refining.{StreamLaws, run_runs}
-
--- the history gains entries
-pub within_more : (is : Picks) (first before after : ℕ) (history gains : List Entry) → before + stored is history ≤ first + issued is history
-    → after + stored is gains ≤ before + issued is gains → after + stored is (history ++ gains) ≤ first + issued is (history ++ gains)
-within_more is first before after history gains old new =
-    let stores = sum_by-append (stored_at is) history gains in
-    let issues = sum_by-append (issued_at is) history gains in
-    omega arith
 
 -- a loop makes a step, by which its links end as they were after what was owed
 module _ (is : Picks) (first : ℕ) (s : StreamsView) (p : ℕ) (loop loop' : LoopView) (gains : List Entry) (visits : List (List Visit)) where
@@ -190,11 +182,11 @@ takes_out now piece old front Down new front' h up = ap (λ (x : Link). x.out) h
 -- bytes cross the proxy's end of a connection
 module _ (is : Picks) (first : ℕ) (w : WorldView) (s : StreamsView) (number : ℕ) (c : Connection) (loop new : LoopView) where
   -- the connection and its link change, and nothing else
-  owes_changed : (c' : Connection) (link' : Link) → MirrorsStreams w s → At s.connections number c → c.is_left ≡ false → At s.loops c.proxy loop
+  owes_crossed : (c' : Connection) (link' : Link) → MirrorsStreams w s → At s.connections number c → c.is_left ≡ false → At s.loops c.proxy loop
       → new.links ≡ slice_set loop.links c.link link' → (h : Owes is first s)
       → Carries is (slice_set (lines_of s.loops) c.proxy new.links) (seats_of s.nodes) (left_if_down c.proxy new c') (get_or h.owed number 0)
       → Owes is first (with_loop c.proxy new (with_connection number c' s))
-  owes_changed c' link' m there is_here home links h carries =
+  owes_crossed c' link' m there is_here home links h carries =
       let lines_there : At (lines_of s.loops) c.proxy loop.links = at_mapped (λ (x : LoopView). x.links) home in
       let lines : slice_set (lines_of s.loops) c.proxy new.links ≡ lines_of (slice_set s.loops c.proxy new) = sym (map-set (λ (l : LoopView). l.links) s.loops c.proxy new) in
       record {
@@ -236,7 +228,7 @@ module _ (is : Picks) (first : ℕ) (w : WorldView) (s : StreamsView) (number : 
           out_is = left;
         };
       } in
-      owes_changed c' link' m at is_here home links h
+      owes_crossed c' link' m at is_here home links h
       (unless_down (λ x. Carries is lines' (seats_of s.nodes) x most) c.proxy new c' (carries_left is (seats_of s.nodes) lines' lines' c' most carries) (λ _. carries))
 
   owes_reaches : (now : ℕ) (end : LinkEnd) (piece rest : List ℕ) → MirrorsStreams w s → At s.connections number c → c.is_left ≡ false → At s.loops c.proxy loop
@@ -253,30 +245,30 @@ module _ (is : Picks) (first : ℕ) (w : WorldView) (s : StreamsView) (number : 
       let same : l.link ≡ old.link = own_link (lines_of s.loops) c.proxy c.link loop.links l.link c.proxy c.link one.out lines_there there refl refl old in
       let links : new.links ≡ slice_set loop.links c.link l.link' = ap (λ (x : LoopView). x.links) l.becomes in
       let new_there : At new.links c.link l.link' = subst (λ x. At x c.link l.link') (sym links) (at_written l.link' there) in
-      owes_changed c' l.link' m at is_here home links h
+      owes_crossed c' l.link' m at is_here home links h
       (unless_down (λ x. Carries is lines' (seats_of s.nodes) x most) c.proxy new c'
       (record { legs = one.legs; out = one.out; readable = one.readable; few = one.few; texts = one.texts; here = λ e. absurd (let no : true ≡ false = e in cc) })
       (λ where'. elim where' [
-      | inl other ↦ absurd (other refl)
-      | inr up ↦ (
-          let found = up_at new.links c.link up.1 in
-          let is_new : found.0 ≡ l.link' = at_one found.1 new_there in
-          let is_up : l.link'.is_up ≡ true = ap (λ (x : Link). x.is_up) (sym is_new) ∙ found.2 in
-          record {
-            legs = one.legs;
-            out = one.out;
-            readable = one.readable;
-            few = one.few;
-            texts = one.texts;
-            here = λ _. record {
-              links = new.links;
-              link = l.link';
-              home = at_written new.links lines_there;
-              there = new_there;
-              is_up = is_up;
-              out_is = takes_out now piece l.link loop.front end l.link' l.front' l.takes is_up ∙ ap (λ (x : Link). x.out) same ∙ old.out_is;
-            };
-          })
+        | inl other ↦ absurd (other refl)
+        | inr up ↦ (
+            let found = up_at new.links c.link up.1 in
+            let is_new : found.0 ≡ l.link' = at_one found.1 new_there in
+            let is_up : l.link'.is_up ≡ true = ap (λ (x : Link). x.is_up) (sym is_new) ∙ found.2 in
+            record {
+              legs = one.legs;
+              out = one.out;
+              readable = one.readable;
+              few = one.few;
+              texts = one.texts;
+              here = λ _. record {
+                links = new.links;
+                link = l.link';
+                home = at_written new.links lines_there;
+                there = new_there;
+                is_up = is_up;
+                out_is = takes_out now piece l.link loop.front end l.link' l.front' l.takes is_up ∙ ap (λ (x : Link). x.out) same ∙ old.out_is;
+              };
+            })
       ]))
 
 owes_link : (is : Picks) (first : ℕ) (w : WorldView) (s : StreamsView) (number : ℕ) (c c' : Connection) (loop loop' : LoopView) → MirrorsStreams w s
@@ -286,36 +278,6 @@ owes_link is first w s number c c' loop loop' m there is_here home (CrossesLink.
     owes_leaves is first w s number c loop loop' piece rest m there is_here home splits step h
 owes_link is first w s number c c' loop loop' m there is_here home (CrossesLink.reaches {end = end} now piece rest splits step) h =
     owes_reaches is first w s number c loop loop' now end piece rest m there is_here home step h
-
--- a client comes to a place of a node that the connection hasn't
-keeps_but : (seats : List (List NodeClient)) (n place : ℕ) (clients : List NodeClient) (client : NodeClient) (node : ℕ) (here : Option ℕ) (kept : List ℕ) → At seats n clients
-    → (node ≡ n → here ≢ Some place) → Keeps (slice_set seats n (slice_set clients place client)) node here kept → Keeps seats node here kept
-keeps_but seats n place clients client node here kept there free k =
-    elim (at_set seats n (slice_set clients place client) k.home) [
-      | inl e ↦ elim (at_set clients place client (subst (λ x. At x k.number k.client) e.1 k.there)) [
-        | inl f ↦ absurd (free e.0 (k.is_open ∙ ap (λ x. Some x) f.0))
-        | inr f ↦ record {
-          number = k.number;
-          clients = clients;
-          client = k.client;
-          is_open = k.is_open;
-          home = subst (λ x. At seats x clients) (sym e.0) there;
-          there = f.1;
-          hears = k.hears;
-          kept_is = k.kept_is;
-        }
-      ]
-      | inr e ↦ record {
-        number = k.number;
-        clients = k.clients;
-        client = k.client;
-        is_open = k.is_open;
-        home = e.1;
-        there = k.there;
-        hears = k.hears;
-        kept_is = k.kept_is;
-      }
-    ]
 
 -- a connection is made
 owes_connects : (is : Picks) (first : ℕ) (s : StreamsView) (p link node place now : ℕ) (loop loop' : LoopView) (end : NodeEnd) → At s.loops p loop → LinkComesUp link now loop loop'
@@ -347,7 +309,8 @@ owes_connects is first s p link node place now loop loop' end home l there free 
             let one = h.carried.each i was.0 was.1 in
             let within : i < length h.owed = subst (λ n. i < n) (sym h.carried.as_many) (slice_get_within s.connections i was.0 was.1.gets) in
             let texts = λ (kept : List ℕ) (k' : Keeps seats' was.0.node was.0.place kept).
-            one.texts kept (keeps_but (seats_of s.nodes) node place end.loop.clients fresh_node_client was.0.node was.0.place kept seats_there (free i was.0 was.1) k') in
+            one.texts kept (keeps_before (seats_of s.nodes) node end.loop.clients clients' was.0.node was.0.place kept seats_there
+            (λ same other is_at client. stood_but end.loop.clients place other fresh_node_client client (λ e. free i was.0 was.1 same (is_at ∙ ap (λ x. Some x) e))) k') in
             subst (λ m. Carries is lines' seats' d m) (sym (get_or-append h.owed (0 ∷ []) 0 i within))
             (subst (λ x. Carries is lines' seats' x most) (sym was.2)
             (over_or_not (λ x. Carries is lines' seats' x most) p link was.0

@@ -33,79 +33,24 @@ use Rattle.mr_streams.specs.Entries.{stored_by, stored_in}
 use Rattle.mr_streams.specs.Flows.{text_of_leg}
 use Rattle.mr_streams.specs.Steps.{NodeDoes, gone_from, with_node, with_connection, with_entries}
 use Rattle.mr_streams.specs.StreamsView.{StreamsView, NodeEnd, Connection, node_does}
-use Rattle.mr_streams.proofs.Exchanges.{RequestLaws, SpellsAll, spells_all}
+use Rattle.mr_streams.proofs.Exchanges.{RequestLaws, SpellsAll, spells_all, first_exchange}
 use Rattle.mr_streams.proofs.Lists.{at_map, at_mapped, at_set, at_one, at_left, at_written}
 use Rattle.mr_streams.proofs.Mirrors.{MirrorsStreams, ReadsOn, lines_of, seats_of}
-use Rattle.mr_streams.proofs.Owing.{Picks, one_if, sets, sets_of_leg, stored_at, issued_at, stored, issued, Keeps, IsReadable, Carries, AreCarried, Owes, itself, total}
+use Rattle.mr_streams.proofs.NodeEvents.{takes_done, takes_all, without_node, gone_or_not}
+use Rattle.mr_streams.proofs.Owing.{Picks, one_if, sets, sets_of_leg, stored_at, issued_at, stored, issued, Keeps, IsReadable, Carries, AreCarried, Owes, itself, total, within_more}
 use Rattle.mr_streams.proofs.Spellings.{one_spelling, some_bytes}
-
--- numbers
-
-nothing_more : (n : ℕ) → n + 0 ≤ n
-nothing_more n = omega arith
-
-no_more : (n : ℕ) → n ≤ n
-no_more n = omega arith
-
-one_alone : (n : ℕ) → 0 + n ≤ n
-one_alone n = omega arith
-
-none_of_it : (n : ℕ) → 0 ≤ n
-none_of_it n = omega arith
-
--- sums whose parts are no more
-parts_within : (x a b y c d : ℕ) → x ≡ a + b → y ≡ c + d → a ≤ c → b ≤ d → x ≤ y
-parts_within x a b y c d e f g h = omega arith
-
--- what was stored isn't left
-left_within : (left gained answered all owes : ℕ) → gained ≤ answered → all ≡ answered + left → all ≤ owes → left + gained ≤ owes
-left_within left gained answered all owes e f g = omega arith
-
--- what isn't owed any more may be stored
-within_still : (owes owes' own own' before after gained asked asked' more first : ℕ) → owes' + own ≡ owes + own' → own' + gained ≤ own → after ≡ before + gained → asked' ≡ asked + more
-    → owes + before ≤ first + asked → owes' + after ≤ first + asked'
-within_still owes owes' own own' before after gained asked asked' more first e f g h k = omega arith
-
--- what is read first is the request of the first leg
-record IsFirstLeg (legs : List SentLeg) (exchange : Exchange) (after : List ℕ) : Type 0 where
-  sent : SentLeg
-  later : List SentLeg
-  told : Reply
-  legs_are : legs ≡ sent ∷ later
-  asks : exchange ≡ Asked (request_for sent.leg.command) told
-  texts : after ≡ flat_map text_of_leg later
-  readable : AllByRecursion IsReadable later
-
-no_skip : RequestLaws → (bytes x : List ℕ) → SpellsExchange bytes Unknown → RefusesRequest (UnknownCommand false) (bytes ++ x)
-no_skip laws bytes x one = (laws.skips (bytes ++ x)).0 (x, record { words = one.0; line = bytes; splits = refl; is_line = one.1; unknown = one.2 })
-
-first_leg : RequestLaws → (legs : List SentLeg) (exchange : Exchange) (spelling after : List ℕ) → SpellsExchange spelling exchange → spelling ++ after ≡ flat_map text_of_leg legs
-    → AllByRecursion IsReadable legs → IsFirstLeg legs exchange after
-first_leg laws [] (Asked request told) spelling after one e all =
-    let some : canonical_request Quit ≢ [] = λ h. cc in
-    absurd (some_bytes SpellsRequest laws.free spelling (canonical_request Quit) after request Quit one.0 (laws.reads Quit tt) some e)
-first_leg laws [] Unknown spelling after one e all =
-    absurd (laws.unfinished.not_refused (UnknownCommand false) (subst (λ b. RefusesRequest (UnknownCommand false) b) e (no_skip laws spelling after one)))
-first_leg laws (sent ∷ later) (Asked request told) spelling after one e all =
-    let is = one_spelling SpellsRequest laws.free spelling (text_of_leg sent) after (flat_map text_of_leg later) request (request_for sent.leg.command)
-    one.0 (laws.reads (request_for sent.leg.command) all.0) e in
-    record { sent = sent; later = later; told = told; legs_are = refl; asks = ap (λ r. Asked r told) is.0; texts = is.1; readable = all.1 }
-first_leg laws (sent ∷ later) Unknown spelling after one e all =
-    absurd (laws.unrefused (text_of_leg sent) (flat_map text_of_leg later) (request_for sent.leg.command) (UnknownCommand false)
-    (laws.reads (request_for sent.leg.command) all.0)
-    (subst (λ b. RefusesRequest (UnknownCommand false) b) e (no_skip laws spelling after one)))
 
 -- what is asked for a leg stores no more than its command sets
 stored_one : (is : Picks) (by : Author) (command : NodeCommand) (told : Reply) → sum_by (stored_at is) (stored_by by (Asked (request_for command) told)) ≤ sets is (request_for command)
-stored_one is by (Get key) told = none_of_it 0
-stored_one is by (Set key flags exptime block) Stored = one_alone (one_if (is key block))
-stored_one is by (Set key flags exptime block) (Items items) = none_of_it (one_if (is key block))
-stored_one is by (Set key flags exptime block) Deleted = none_of_it (one_if (is key block))
-stored_one is by (Set key flags exptime block) NotFound = none_of_it (one_if (is key block))
-stored_one is by (Set key flags exptime block) Error = none_of_it (one_if (is key block))
-stored_one is by (Set key flags exptime block) (ClientError cause) = none_of_it (one_if (is key block))
-stored_one is by (Set key flags exptime block) (ServerError cause) = none_of_it (one_if (is key block))
-stored_one is by (Delete key) told = none_of_it 0
+stored_one is by (Get key) told = omega arith
+stored_one is by (Set key flags exptime block) Stored = omega arith
+stored_one is by (Set key flags exptime block) (Items items) = omega arith
+stored_one is by (Set key flags exptime block) Deleted = omega arith
+stored_one is by (Set key flags exptime block) NotFound = omega arith
+stored_one is by (Set key flags exptime block) Error = omega arith
+stored_one is by (Set key flags exptime block) (ClientError cause) = omega arith
+stored_one is by (Set key flags exptime block) (ServerError cause) = omega arith
+stored_one is by (Delete key) told = omega arith
 
 -- what was read are the texts of the first legs, the rest those of the others, and no more is stored than the first set
 pub record AreOfLegs (is : Picks) (legs : List SentLeg) (rest : List ℕ) (gains : List Entry) : Type 0 where
@@ -120,11 +65,11 @@ pub record AreOfLegs (is : Picks) (legs : List SentLeg) (rest : List ℕ) (gains
 pub exchanges_of_legs : RequestLaws → (is : Picks) (by : Author) (exchanges : List Exchange) (legs : List SentLeg) (read rest : List ℕ) → AllByRecursion IsReadable legs
     → SpellsAll read exchanges → read ++ rest ≡ flat_map text_of_leg legs → AreOfLegs is legs rest (flat_map (stored_by by) exchanges)
 exchanges_of_legs laws is by [] legs read rest all spells e =
-    record { answered = []; left = legs; splits = refl; texts = ap (λ b. b ++ rest) (sym spells) ∙ e; readable = all; few = none_of_it 0 }
+    record { answered = []; left = legs; splits = refl; texts = ap (λ b. b ++ rest) (sym spells) ∙ e; readable = all; few = omega arith }
 exchanges_of_legs laws is by (exchange ∷ exchanges) legs read rest all spells e =
     let cut : spells.0 ++ (spells.1 ++ rest) ≡ flat_map text_of_leg legs = sym (append_assoc spells.0 spells.1 rest) ∙ ap (λ b. b ++ rest) (sym spells.3) ∙ e in
-    let one = first_leg laws legs exchange spells.0 (spells.1 ++ rest) spells.2 cut all in
-    let next = exchanges_of_legs laws is by exchanges one.later spells.1 rest one.readable spells.4 one.texts in
+    let one = first_exchange laws IsReadable (λ sent holds. holds) legs exchange spells.0 (spells.1 ++ rest) spells.2 cut all in
+    let next = exchanges_of_legs laws is by exchanges one.later spells.1 rest one.all spells.4 one.texts in
     let gained : List Entry = stored_by by exchange in
     let more : List Entry = flat_map (stored_by by) exchanges in
     let few : sum_by (stored_at is) gained ≤ sets_of_leg is one.sent =
@@ -135,13 +80,15 @@ exchanges_of_legs laws is by (exchange ∷ exchanges) legs read rest all spells 
       splits = one.legs_are ∙ ap (λ l. one.sent ∷ l) next.splits;
       texts = next.texts;
       readable = next.readable;
-      few = parts_within (sum_by (stored_at is) (gained ++ more)) (sum_by (stored_at is) gained) (sum_by (stored_at is) more)
-          (sum_by (sets_of_leg is) (one.sent ∷ next.answered)) (sets_of_leg is one.sent) (sum_by (sets_of_leg is) next.answered)
-          (sum_by-append (stored_at is) gained more) (sum_by-cons (sets_of_leg is) one.sent next.answered) few next.few;
+      few = (
+          let stores = sum_by-append (stored_at is) gained more in
+          let sets = sum_by-cons (sets_of_leg is) one.sent next.answered in
+          let later = next.few in
+          omega arith);
     }
 
 -- the clients of a node change, but what stands at this place stood there before
-keeps_before : (seats : List (List NodeClient)) (n : ℕ) (clients clients' : List NodeClient) (node : ℕ) (place : Option ℕ) (kept : List ℕ) → At seats n clients
+pub keeps_before : (seats : List (List NodeClient)) (n : ℕ) (clients clients' : List NodeClient) (node : ℕ) (place : Option ℕ) (kept : List ℕ) → At seats n clients
     → (node ≡ n → (number : ℕ) → place ≡ Some number → (client : NodeClient) → At clients' number client → At clients number client)
     → Keeps (slice_set seats n clients') node place kept → Keeps seats node place kept
 keeps_before seats n clients clients' node place kept there back k =
@@ -168,7 +115,7 @@ keeps_before seats n clients clients' node place kept there back k =
       }
     ]
 
-stood_but : (clients : List NodeClient) (place other : ℕ) (client' client : NodeClient) → other ≢ place → At (slice_set clients place client') other client → At clients other client
+pub stood_but : (clients : List NodeClient) (place other : ℕ) (client' client : NodeClient) → other ≢ place → At (slice_set clients place client') other client → At clients other client
 stood_but clients place other client' client ne h = elim (at_set clients place client' h) [ inl e ↦ absurd (ne e.0) | inr e ↦ e.1 ]
 
 -- what is on its way over a connection whose node keeps no more of it than before
@@ -177,10 +124,7 @@ carries_still : (is : Picks) (lines : List (List Link)) (seats seats' : List (Li
 carries_still is lines seats seats' d most back h =
     record { legs = h.legs; out = h.out; readable = h.readable; few = h.few; texts = λ kept k. h.texts kept (back kept k); here = h.here }
 
--- the node's end of a connection is gone
-abbrev without_node : Connection → Connection
-without_node c = record c { place = None; forth = [] }
-
+-- a connection whose node's end is gone
 carries_nothing : (is : Picks) (lines : List (List Link)) (seats seats' : List (List NodeClient)) (c : Connection) (most : ℕ) → Carries is lines seats c most → Carries is lines seats' (without_node c) most
 carries_nothing is lines seats seats' c most h = record {
   legs = h.legs;
@@ -207,10 +151,10 @@ module _ (is : Picks) (w : WorldView) (s : StreamsView) (number place : ℕ) (c 
   abbrev seats_then : List (List NodeClient)
   seats_then = slice_set (seats_of s.nodes) c.node (slice_set end.loop.clients place client')
 
-  carried_changed : (owed : List ℕ) (most : ℕ) → MirrorsStreams w s → At s.connections number c → c.place ≡ Some place → At s.nodes c.node end → number < length owed
+  carried_at_node : (owed : List ℕ) (most : ℕ) → MirrorsStreams w s → At s.connections number c → c.place ≡ Some place → At s.nodes c.node end → number < length owed
       → AreCarried is (lines_of s.loops) (seats_of s.nodes) s.connections owed → Carries is (lines_of s.loops) seats_then c' most
       → AreCarried is (lines_of s.loops) seats_then (slice_set s.connections number c') (slice_set owed number most)
-  carried_changed owed most m there is_open home within a new = record {
+  carried_at_node owed most m there is_open home within a new = record {
     as_many = length-set owed number most ∙ a.as_many ∙ sym (length-set s.connections number c');
     each = λ i d k. elim (at_set s.connections number c' k) [
       | inl e ↦ subst (λ x. Carries is (lines_of s.loops) seats_then x (get_or (slice_set owed number most) i 0)) (sym e.1)
@@ -239,10 +183,8 @@ module _ (is : Picks) (w : WorldView) (s : StreamsView) (number place : ℕ) (c 
       record {
         owed = owed';
         carried = subst (λ x. AreCarried is (lines_of s.loops) x (slice_set s.connections number c') owed') (sym seats)
-            (carried_changed o.owed most m there is_open home within o.carried new);
-        within = within_still (total o.owed) (total owed') (get_or o.owed number 0) most (stored is s.history) (stored is (s.history ++ gains)) (stored is gains)
-            (issued is s.history) (issued is (s.history ++ gains)) (issued is gains) first
-            (sum_by-set itself o.owed number most 0 within) few (sum_by-append (stored_at is) s.history gains) (sum_by-append (issued_at is) s.history gains) o.within;
+            (carried_at_node o.owed most m there is_open home within o.carried new);
+        within = within_more is first (total o.owed) (total owed') s.history gains o.within (let sum = sum_by-set itself o.owed number most 0 within in omega arith);
       }
 
 -- a client of a connection that hears
@@ -292,7 +234,7 @@ leaves_owing is first w s number place c end loop' piece m there is_open home l 
           (h.texts l.was.inbox.reader.kept (keeps_was s place c end l.was is_open home was_there own.0)));
       here = h.here;
     } in
-    owes_changed is w s number place c c' end client' first loop' [] most o m there is_open home (ap (λ (x : NodeView CacheView). x.clients) l.becomes) new (nothing_more most)
+    owes_changed is w s number place c c' end client' first loop' [] most o m there is_open home (ap (λ (x : NodeView CacheView). x.clients) l.becomes) new (omega arith)
 
 -- a node serves what came over a connection, of which this is still on its way then
 module _ (laws : RequestLaws) (is : Picks) (first : ℕ) (w : WorldView) (s : StreamsView) (number place now : ℕ) (c : Connection) (forth' : List ℕ) (end : NodeEnd) (was : NodeClient) (fed : Inbox) (after : Seat CacheView) (by : Author) where
@@ -322,7 +264,7 @@ module _ (laws : RequestLaws) (is : Picks) (first : ℕ) (w : WorldView) (s : St
             absurd (let no : true ≡ false = sym deaf ∙ own.0 in cc));
         here = h.here;
       } in
-      owes_changed is w s number place c now_forth end after.client first (with_seat place after end.loop) [] most o m there is_open home refl new (nothing_more most)
+      owes_changed is w s number place c now_forth end after.client first (with_seat place after end.loop) [] most o m there is_open home refl new (omega arith)
 
   -- what is stored are sets of the legs whose texts were read
   some_owing : MirrorsStreams w s → At s.connections number c → c.place ≡ Some place → At s.nodes c.node end → At end.loop.clients place was → fed.is_done ≡ was.inbox.is_done
@@ -346,7 +288,7 @@ module _ (laws : RequestLaws) (is : Picks) (first : ℕ) (w : WorldView) (s : St
         legs = e.left;
         out = h.out;
         readable = e.readable;
-        few = no_more most;
+        few = omega arith;
         texts = λ kept k. (let own = own_client (seats_of s.nodes) c.node place end.loop.clients was after.client c.place kept seats_there was_there is_open k in
             elim some.leaves [
               | inl stays ↦ ap (λ x. x ++ later) (sym own.1 ∙ stays.1.stands) ∙ e.texts
@@ -355,7 +297,7 @@ module _ (laws : RequestLaws) (is : Picks) (first : ℕ) (w : WorldView) (s : St
         here = h.here;
       } in
       owes_changed is w s number place c now_forth end after.client first (with_seat place after end.loop) gains most o m there is_open home refl new
-      (left_within most (stored is gains) (sum_by (sets_of_leg is) e.answered) (sum_by (sets_of_leg is) h.legs) (get_or o.owed number 0) e.few all h.few)
+      (let few = e.few in let owed = h.few in omega arith)
 
   served_owing : MirrorsStreams w s → At s.connections number c → c.place ≡ Some place → At s.nodes c.node end → At end.loop.clients place was → fed.is_done ≡ was.inbox.is_done
       → ((out : List ℕ) → ReadsOn was c → was.inbox.reader.kept ++ (c.forth ++ out) ≡ fed.reader.kept ++ (forth' ++ out))
@@ -363,32 +305,6 @@ module _ (laws : RequestLaws) (is : Picks) (first : ℕ) (w : WorldView) (s : St
       → Owes is first (with_entries (stored_in by serves) (with_node c.node end (with_seat place after end.loop) (with_connection number now_forth s)))
   served_owing m there is_open home was_there same_done texts (inl some) o = some_owing m there is_open home was_there same_done texts some o
   served_owing m there is_open home was_there same_done texts (inr over) o = over_owing m there is_open home was_there over o
-
-nothing_first : (xs ys : List ℕ) → xs ++ ys ≡ [] → xs ≡ []
-nothing_first [] ys e = refl
-nothing_first (x ∷ xs) ys e = absurd (let no : x ∷ (xs ++ ys) ≡ [] = e in cc)
-
-takes_done : (piece : List ℕ) (old new : Inbox) → TakesPiece piece old new → new.is_done ≡ old.is_done
-takes_done piece old new (inl takes) = ap (λ (i : Inbox). i.is_done) takes.3
-takes_done piece old new (inr takes) = ap (λ (i : Inbox). i.is_done) takes.2
-
-or_cases : (a b : Bool) → IsTrue (a || b) → (a ≡ true) ⊎ (b ≡ true)
-or_cases true b h = inl refl
-or_cases false b h = inr h
-
--- nothing of the piece is lost to a client that reads on
-takes_all : (piece rest : List ℕ) (was : NodeClient) (fed : Inbox) (c : Connection) → TakesPiece piece was.inbox fed → c.forth ≡ piece ++ rest → ReadsOn was c
-    → fed.reader.kept ≡ was.inbox.reader.kept ++ piece
-takes_all piece rest was fed c (inl takes) splits r = takes.0.stands
-takes_all piece rest was fed c (inr takes) splits r =
-    let none : piece ≡ [] = elim takes.0 [
-      | inl over ↦ elim (or_cases was.inbox.reader.closed was.inbox.reader.ended over) [
-        | inl closed ↦ absurd (let no : false ≡ true = sym r.not_closed ∙ closed in cc)
-        | inr ended ↦ nothing_first piece rest (sym splits ∙ (r.ended ended).1)
-      ]
-      | inr empty ↦ empty
-    ] in
-    takes.1.stands ∙ sym (append-nil was.inbox.reader.kept) ∙ ap (λ x. was.inbox.reader.kept ++ x) (sym none)
 
 -- bytes reach a node
 reaches_owing : RequestLaws → (is : Picks) (first : ℕ) (w : WorldView) (s : StreamsView) (number place now : ℕ) (c : Connection) (end : NodeEnd) (loop' : NodeView CacheView) (pause : NodePause) (by : Author) (piece rest : List ℕ)
@@ -399,7 +315,7 @@ reaches_owing laws is first w s number place now c end loop' pause by piece rest
     (served_owing laws is first w s number place now c rest end l.was l.fed l.after by m there is_open home (record { gets = l.there })
     (takes_done piece l.was.inbox l.fed l.takes)
     (λ out r. ap (λ x. l.was.inbox.reader.kept ++ x) (ap (λ x. x ++ out) splits ∙ append_assoc piece rest out)
-    ∙ sym (append_assoc l.was.inbox.reader.kept piece (rest ++ out)) ∙ ap (λ x. x ++ (rest ++ out)) (sym (takes_all piece rest l.was l.fed c l.takes splits r)))
+    ∙ sym (append_assoc l.was.inbox.reader.kept piece (rest ++ out)) ∙ ap (λ x. x ++ (rest ++ out)) (sym (takes_all piece rest l.was l.fed c l.takes splits r).0))
     l.serves.serves o)
 
 -- a node reads that a connection ends
@@ -419,7 +335,7 @@ goes_owing is first w s number place c end m there is_open home o =
     let most : ℕ = get_or o.owed number 0 in
     let seats' : List (List NodeClient) = slice_set (seats_of s.nodes) c.node (slice_set end.loop.clients place fresh_node_client) in
     owes_changed is w s number place c (without_node c) end fresh_node_client first (after_node_leaving place end.loop) [] most o m there is_open home refl
-    (carries_nothing is (lines_of s.loops) (seats_of s.nodes) seats' c most (o.carried.each number c there)) (nothing_more most)
+    (carries_nothing is (lines_of s.loops) (seats_of s.nodes) seats' c most (o.carried.each number c there)) (omega arith)
 
 -- whatever happens at the node's end of a connection: what is owed, and what was stored, is no more than was issued
 pub owes_node : RequestLaws → (is : Picks) (first : ℕ) (w : WorldView) (s : StreamsView) (number place : ℕ) (c c' : Connection) (end : NodeEnd) (loop' : NodeView CacheView) (gains : List Entry)
@@ -456,13 +372,6 @@ owes_node_place is first w s number end m home o =
           (o.carried.each i d k);
     } in
     record { owed = o.owed; carried = subst (λ x. AreCarried is (lines_of s.loops) x s.connections o.owed) (sym seats) carried; within = o.within }
-
-gone_if : (b : Bool) (P : Connection → Type 0) (c : Connection) → (b ≡ true → P (without_node c)) → (b ≡ false → P c) → P (if b then without_node c else c)
-gone_if true P c gone stays = gone refl
-gone_if false P c gone stays = stays refl
-
-gone_or_not : (P : Connection → Type 0) (n : ℕ) (c : Connection) → (c.node ≡ n → P (without_node c)) → (c.node ≢ n → P c) → P (gone_from n c)
-gone_or_not P n c gone stays = gone_if (c.node == n) P c (λ e. gone (eqb-true c.node n e)) (λ e. stays (eqb-false c.node n e))
 
 -- a node restarts
 pub owes_node_restart : (is : Picks) (first : ℕ) (s : StreamsView) (number : ℕ) (end : NodeEnd) → At s.nodes number end → Owes is first s
