@@ -3,7 +3,7 @@ use Rattle.std.proofs.Common.{◌≡◌, ℕ, zero, suc, ◌+◌, ◌<◌, ◌�
 use Rattle.std.specs.List.{position_or_len, sum_by}
 use Rattle.std.specs.Option.{option_and_then}
 use Rattle.std.specs.Prelude.{nat_lt, unwrap_or}
-use Rattle.std.proofs.lemmas.Bool.{cases_order}
+use Rattle.std.proofs.Math.Seq.{take-append_seam}
 use Rattle.std.proofs.lemmas.List.{append-nil, take-append-le}
 use Rattle.std.proofs.lemmas.List.Sums.{sum_by-append, sum_by_push, sum_by-take-le}
 use Rattle.std.proofs.lemmas.Option.{get_or_from_slice_get, slice_get-get_or, slice_get_read, slice_get_within}
@@ -20,6 +20,7 @@ use Rattle.mr_history.specs.declared.entry.Author.TheVariants.{By}
 use Rattle.mr_history.specs.declared.entry.Entry.{Entry}
 use Rattle.mr_history.specs.declared.entry.Entry.TheVariants as entry
 use Rattle.mr_history.specs.declared.op_id.OpId.{OpId}
+use Rattle.mr_history.proofs.TestLemmas.{same_op}
 use Rattle.mr_join.specs.Join.{badness_of, joined_reply, reply_by, reply_by_worst, worse_of, worst_of}
 use Rattle.mr_join.specs.declared.leg_reply.LegReply.{LegReply}
 use Rattle.mr_join.specs.declared.leg_reply.LegReply.TheVariants as leg
@@ -41,6 +42,8 @@ use Rattle.mr_proxy.specs.declared.sheet.LegSheet.{LegSheet}
 use Rattle.mr_proxy.specs.declared.slot.Slot.{Slot}
 use Rattle.mr_proxy.specs.declared.taken.Taken.{Taken}
 use Rattle.mr_proxy.specs.declared.taken.Taken.TheVariants as taken
+use Rattle.mr_proxy.proofs.SheetLemmas.{only}
+use Rattle.mr_proxy.proofs.SoundLemmas.{IsNoting, noting_in}
 use Rattle.mr_world.specs.Facts.{CameBack, IsFaithfulWorld, IsTold, IsUnderWay}
 use Rattle.mr_world.specs.Headline.{IsPlan}
 use Rattle.mr_world.specs.Lists.{Has}
@@ -54,6 +57,8 @@ use Rattle.mr_world.specs.declared.message.Delivery.{Delivery}
 use Rattle.mr_world.specs.declared.message.Message.{Message}
 use Rattle.mr_world.specs.declared.note.Note.{Note}
 use Rattle.mr_world.specs.declared.setup.ProxySetup.{ProxySetup}
+use Rattle.mr_world.proofs.FactLemmas.{answered_after, issued_place}
+use Rattle.mr_world.proofs.Lists.{at_before, at_within, has_head, has_left, has_right, test_holds}
 use Rattle.mr_streams.specs.Fleet.{FleetEvent, FleetRun}
 use Rattle.mr_streams.specs.Headline.{HasText, PremisesHold, Starts}
 use Rattle.mr_streams.specs.Refines.{RefinesWorld, Tells}
@@ -62,7 +67,7 @@ use Rattle.mr_streams.specs.StreamsView.{StreamsView}
 use Rattle.mr_streams.proofs.Lists.{at_last, at_left, at_map, at_new, at_nothing, at_one, at_set}
 use Rattle.mr_streams.proofs.Origins.{IsAsked}
 use Rattle.mr_streams.proofs.Owing.{Picks, issued, issued_at, one_if, stored, stored_at}
-use Rattle.mr_streams.proofs.Safety.{begun_world, world_begins}
+use Rattle.mr_streams.proofs.Safety.{begun_world, thin_from, world_begins}
 use Rattle.mr_streams.proofs.Thinning.{thin, thin_run, thin_world}
 
 -- what is stored stays so
@@ -74,79 +79,17 @@ stored_left is history more =
 still_more : (is : Picks) (first : ℕ) (history more : List Entry) → first + 1 ≤ stored is history → first + 1 ≤ stored is (history ++ more)
 still_more is first history more above = let grows = stored_left is history more in omega arith
 
--- lists that grow
-
-within : {X : Type 0} {xs : List X} {i : ℕ} {x : X} → At xs i x → i < length xs
-within {xs = xs} {i = i} {x = x} h = slice_get_within xs i x h.gets
-
+-- what is cut off a history that grew
 take_left : (history more : List Entry) {place : ℕ} {e : Entry} → At history place e → take place (history ++ more) ≡ take place history
-take_left history more {place = place} h = let below = within h in take-append-le place history more (omega arith)
-
-take_whole : (history more : List Entry) → take (length history) (history ++ more) ≡ history
-take_whole [] more = refl
-take_whole (e ∷ history) more = ap (λ l. e ∷ l) (take_whole history more)
-
-got_before : {X : Type 0} (xs ys : List X) (i : ℕ) (x : X) → slice_get (xs ++ ys) i ≡ Some x → i < length xs → slice_get xs i ≡ Some x
-got_before [] ys i x e below = absurd (omega arith)
-got_before (z ∷ xs) ys zero x e below = e
-got_before (z ∷ xs) ys (suc i) x e below = got_before xs ys i x e (omega arith)
-
--- below the end of what was there, a list that grew has what was there
-at_before : {X : Type 0} (xs ys : List X) {i : ℕ} {x : X} → At (xs ++ ys) i x → i < length xs → At xs i x
-at_before xs ys {i = i} {x = x} h below = record { gets = got_before xs ys i x h.gets below }
-
-got_taken : (n : ℕ) (history : List Entry) (i : ℕ) (x : Entry) → slice_get (take n history) i ≡ Some x → (i < n) × (slice_get history i ≡ Some x)
-got_taken zero history i x e = cc
-got_taken (suc n) [] i x e = cc
-got_taken (suc n) (y ∷ history) zero x e = (omega arith, e)
-got_taken (suc n) (y ∷ history) (suc i) x e = let h = got_taken n history i x e in (let below = h.0 in omega arith, h.1)
-
-got_take : (n : ℕ) (history : List Entry) (i : ℕ) (x : Entry) → i < n → slice_get history i ≡ Some x → slice_get (take n history) i ≡ Some x
-got_take zero history i x below e = absurd (omega arith)
-got_take (suc n) [] i x below e = e
-got_take (suc n) (y ∷ history) zero x below e = e
-got_take (suc n) (y ∷ history) (suc i) x below e = got_take n history i x (omega arith) e
-
-got_one : {X : Type 0} (y : X) (i : ℕ) (x : X) → slice_get (y ∷ []) i ≡ Some x → x ≡ y
-got_one y zero x e = cc
-got_one y (suc i) x e = cc
-
-contains_one : {X : Type 0} (y x : X) → Contains (y ∷ []) x → x ≡ y
-contains_one y x c = got_one y c.0 x (slice_get_read (y ∷ []) (length (y ∷ [])) c.0 x refl c.1 (sym c.2))
+take_left history more {place = place} h = let below = at_within h in take-append-le place history more (omega arith)
 
 -- a history in order: an op is issued once, and answered after that
-
-issued_left : {history : List Entry} {op : OpId} {q : Request} {i : ℕ} (more : List Entry) → IsIssued history op q i → IsIssued (history ++ more) op q i
-issued_left more h = record { proxy = h.proxy; there = at_left more h.there }
-
-issue_before : {history : List Entry} {op : OpId} {p q : Request} {i j : ℕ} → IsWellFormed history → IsIssued history op p i → IsIssued history op q j → i < j → ⊥
-issue_before {history = history} {op = op} {p = p} {q = q} {i = i} {j = j} formed a b below =
-    (formed.fits j (entry.Issued op b.proxy q) b.there).1
-    (record { place = i; request = p; issued = record { proxy = a.proxy; there = record { gets = got_take j history i (entry.Issued op a.proxy p) below a.there.gets } } })
-
-issued_place : {history : List Entry} {op : OpId} {p q : Request} {i j : ℕ} → IsWellFormed history → IsIssued history op p i → IsIssued history op q j → i ≡ j
-issued_place {i = i} {j = j} formed a b =
-    elim (cases_order i j) [
-      | inl same ↦ same
-      | inr apart ↦ elim apart [ inl below ↦ absurd (issue_before formed a b below) | inr below ↦ absurd (issue_before formed b a below) ]
-    ]
-
-same_request : {op : OpId} {x y : ℕ} {p q : Request} → entry.Issued op x p ≡ entry.Issued op y q → p ≡ q
-same_request e = cc
 
 issued_once : {history : List Entry} {op : OpId} {p q : Request} {i j : ℕ} → IsWellFormed history → IsIssued history op p i → IsIssued history op q j → p ≡ q
 issued_once {history = history} {op = op} {p = p} {q = q} {i = i} {j = j} formed a b =
     let same = issued_place formed a b in
-    same_request (at_one (subst (λ k. At history k (entry.Issued op a.proxy p)) same a.there) b.there)
-
-answered_after : {history : List Entry} {op : OpId} {reply : Reply} {q : Request} {i j : ℕ} → IsWellFormed history → At history j (entry.Answered op reply) → IsIssued history op q i → i < j
-answered_after {history = history} {op = op} {reply = reply} {q = q} {i = i} {j = j} formed at issue =
-    let was = (formed.fits j (entry.Answered op reply) at).0 in
-    let there = got_taken j history was.place (entry.Issued op was.issued.proxy was.request) was.issued.there.gets in
-    let first : IsIssued history op was.request was.place = record { proxy = was.issued.proxy; there = record { gets = there.1 } } in
-    let same = issued_place formed issue first in
-    let below = there.0 in
-    omega arith
+    let one = at_one (subst (λ k. At history k (entry.Issued op a.proxy p)) same a.there) b.there in
+    cc
 
 -- each set of such a value that was answered with STORED was stored before that: so often were such values stored at the beginning
 abbrev pub AnsweredSets : Picks → ℕ → List Entry → Type 0
@@ -175,12 +118,12 @@ answered_more : (is : Picks) (first : ℕ) (history : List Entry) (e : Entry) �
 answered_more is first history e formed old new = λ op key flags exptime block noreply issue done picks asked at. elim (at_last history e at) [
   | inl was ↦ (
       let earlier : issue < done = answered_after formed at asked in
-      let below : done < length history = within was in
+      let below : done < length history = at_within was in
       let before : IsIssued history op (request.Set key flags exptime block noreply) issue =
       record { proxy = asked.proxy; there = at_before history (e ∷ []) asked.there (omega arith) } in
       subst (λ l. first + 1 ≤ stored is l) (sym (take_left history (e ∷ []) was)) (old op key flags exptime block noreply issue done picks before was))
   | inr last ↦ (
-      let whole : take done (history ++ e ∷ []) ≡ history = ap (λ n. take n (history ++ e ∷ [])) last.0 ∙ take_whole history (e ∷ []) in
+      let whole : take done (history ++ e ∷ []) ≡ history = ap (λ n. take n (history ++ e ∷ [])) last.0 ∙ take-append_seam history (e ∷ []) in
       subst (λ l. first + 1 ≤ stored is l) (sym whole) (new op key flags exptime block noreply issue picks last.1 asked))
 ]
 
@@ -215,7 +158,7 @@ answered_unless is first history answer false formed asked kept old =
     answered_more is first history (entry.Answered answer.op (reply_of answer)) formed old (λ op key flags exptime block noreply issue picks same its. (
     let both = same_answer same in
     let more : List Entry = entry.Answered answer.op (reply_of answer) ∷ [] in
-    let own : IsIssued (history ++ more) op answer.request asked.issue = subst (λ o. IsIssued (history ++ more) o answer.request asked.issue) (sym both.0) (issued_left more asked.issued) in
+    let own : IsIssued (history ++ more) op answer.request asked.issue = subst (λ o. IsIssued (history ++ more) o answer.request asked.issue) (sym both.0) (record { proxy = asked.issued.proxy; there = at_left more asked.issued.there }) in
     kept key flags exptime block noreply picks (issued_once formed own its) (sym both.1)))
 
 answered_answer : (is : Picks) (first : ℕ) (history : List Entry) (answer : AnswerView) → IsWellFormed (history ++ answered answer) → IsAsked history answer.op answer.request
@@ -289,31 +232,10 @@ kept_by is first sent replies history x given_up formed told delivered asked bac
     let issue : IsIssued history x.op its.request its.place = subst (λ o. IsIssued history o its.request its.place) own its.issued in
     let same : its.request ≡ request.Set key flags exptime block noreply = issued_once formed issue asked.issued ∙ set in
     let does : message.sheet.command ≡ command.Set key flags exptime block =
-    contains_one (command.Set key flags exptime block) message.sheet.command (subst (λ q. Contains (commands_of q) message.sheet.command) same its.command) in
+    only (command.Set key flags exptime block) message.sheet.command (subst (λ q. Contains (commands_of q) message.sheet.command) same its.command) in
     delivered message key flags exptime block leg.Stored came does picks)
 
 -- a request that takes a reply
-
-both_true : (a b : Bool) → (a && b) ≡ true → (a ≡ true) × (b ≡ true)
-both_true true b e = (refl, e)
-both_true false b e = absurd (let never : false ≡ true = e in cc)
-
-same_op : (a b : OpId) → is_same_op a b ≡ true → a ≡ b
-same_op a b e =
-    let outer = both_true ((a.proxy == b.proxy) && (a.incarnation == b.incarnation)) (a.number == b.number) e in
-    let inner = both_true (a.proxy == b.proxy) (a.incarnation == b.incarnation) outer.0 in
-    ap (λ x. record a { proxy = x }) (eqb-true a.proxy b.proxy inner.0)
-    ∙ ap (λ x. record { proxy = b.proxy; incarnation = x; number = a.number }) (eqb-true a.incarnation b.incarnation inner.1)
-    ∙ ap (λ x. record { proxy = b.proxy; incarnation = b.incarnation; number = x }) (eqb-true a.number b.number outer.1)
-
-test_holds : {X : Type 0} (test : X → Bool) (xs : List X) (x : X) → slice_get xs (position_or_len test xs) ≡ Some x → test x ≡ true
-test_holds test [] x e = cc
-test_holds test (y ∷ xs) x e =
-    elim (test y) as (λ b. test y ≡ b → slice_get (y ∷ xs) (cond (not b) (1 + position_or_len test xs) 0) ≡ Some x → test x ≡ true) [
-      | true ↦ λ passes there. (let same : y ≡ x = cc in subst (λ z. test z ≡ true) same passes)
-      | false ↦ λ fails there. test_holds test xs x (let next : 1 + position_or_len test xs ≡ suc (position_or_len test xs) = omega arith in
-          subst (λ (k : ℕ). slice_get (y ∷ xs) k ≡ Some x) next there)
-    ] refl e
 
 -- the request with the reply noted
 record TookReply (p : ProxyView) (id : LegId) (reply : LegReply) (x : PendingView) : Type 0 where
@@ -321,30 +243,18 @@ record TookReply (p : ProxyView) (id : LegId) (reply : LegReply) (x : PendingVie
   index : ℕ
   there : At p.outstanding index pending
   named : pending.op ≡ id.op
-  slot : Slot
-  noted : x ≡ record pending { slots = slice_set pending.slots id.place (record { sheet = slot.sheet; reply = Some reply }) }
+  noting : IsNoting pending x id.place reply
 
-took_if : (p : ProxyView) (id : LegId) (reply : LegReply) (x pending : PendingView) (at : ℕ) (slot : Slot) (b : Bool) → At p.outstanding at pending → pending.op ≡ id.op
-    → (if b then Some (record pending { slots = slice_set pending.slots id.place (record { sheet = slot.sheet; reply = Some reply }) }) else None) ≡ Some x → TookReply p id reply x
-took_if p id reply x pending at slot true there named e =
-    let same : record pending { slots = slice_set pending.slots id.place (record { sheet = slot.sheet; reply = Some reply }) } ≡ x = cc in
-    record { pending = pending; index = at; there = there; named = named; slot = slot; noted = sym same }
-took_if p id reply x pending at slot false there named e = absurd (let never : None ≡ Some x = e in cc)
-
-took_slot : (p : ProxyView) (id : LegId) (reply : LegReply) (x pending : PendingView) (at : ℕ) (o : Option Slot) → At p.outstanding at pending → pending.op ≡ id.op
-    → with_reply_in pending id.place reply o ≡ Some x → TookReply p id reply x
-took_slot p id reply x pending at None there named e = absurd (let never : None ≡ Some x = e in cc)
-took_slot p id reply x pending at (Some slot) there named e = took_if p id reply x pending at slot (is_awaiting slot reply) there named e
-
-took_in : (p : ProxyView) (id : LegId) (reply : LegReply) (x : PendingView) (o : Option PendingView) → pending_with p.outstanding id.op ≡ o
+took_reply : (p : ProxyView) (id : LegId) (reply : LegReply) (x : PendingView) (o : Option PendingView) → pending_with p.outstanding id.op ≡ o
     → option_and_then (λ pending. with_reply pending id.place reply) o ≡ Some x → TookReply p id reply x
-took_in p id reply x None got e = absurd (let never : None ≡ Some x = e in cc)
-took_in p id reply x (Some pending) got e =
-    let passes = test_holds (λ (y : PendingView). is_same_op y.op id.op) p.outstanding pending got in
-    took_slot p id reply x pending (place_of_op p.outstanding id.op) (slice_get pending.slots id.place) (record { gets = got }) (same_op pending.op id.op passes) e
-
-took_reply : (p : ProxyView) (id : LegId) (reply : LegReply) (x : PendingView) → noted_by p id reply ≡ Some x → TookReply p id reply x
-took_reply p id reply x e = took_in p id reply x (pending_with p.outstanding id.op) refl e
+took_reply p id reply x None got e = absurd (let never : None ≡ Some x = e in cc)
+took_reply p id reply x (Some pending) got e = record {
+  pending = pending;
+  index = place_of_op p.outstanding id.op;
+  there = record { gets = got };
+  named = same_op pending.op id.op (test_holds (λ (y : PendingView). is_same_op y.op id.op) p.outstanding pending got);
+  noting = noting_in pending x id.place reply (slice_get pending.slots id.place) refl e;
+}
 
 -- the answer is that of the request that took the reply
 answer_if : (noted : PendingView) (answer : AnswerView) (b : Bool) → (if b then taken.Answered (answer_of noted false) else taken.Waiting) ≡ taken.Answered answer
@@ -355,7 +265,7 @@ answer_if noted answer false e = absurd (let never : taken.Waiting ≡ taken.Ans
 answer_settled : (p : ProxyView) (id : LegId) (reply : LegReply) (answer : AnswerView) (o : Option PendingView) → noted_by p id reply ≡ o → taken_by reply o ≡ taken.Answered answer
     → (x : PendingView) × TookReply p id reply x × (answer ≡ answer_of x false)
 answer_settled p id reply answer None is e = absurd (let never : taken.Stranger reply ≡ taken.Answered answer = e in cc)
-answer_settled p id reply answer (Some noted) is e = (noted, took_reply p id reply noted is, answer_if noted answer (is_complete noted) e)
+answer_settled p id reply answer (Some noted) is e = (noted, took_reply p id reply noted (pending_with p.outstanding id.op) refl is, answer_if noted answer (is_complete noted) e)
 
 given_answer : (p : ProxyView) (at : ℕ) (answer : AnswerView) (o : Option PendingView) → slice_get p.outstanding at ≡ o → given_up_in o ≡ Some answer
     → (x : PendingView) × At p.outstanding at x × (answer ≡ answer_of x true)
@@ -367,8 +277,8 @@ took_back : (p : ProxyView) (sent : List Message) (replies : List Delivery) (his
     → (took : TookReply p m.sheet.id reply x) → IsUnderWay sent replies history took.pending → CameBack sent replies m reply → ComesBack sent replies x
 took_back p sent replies history m reply x took way came =
     let e : PendingView = took.pending in
-    let noted : Slot = record { sheet = took.slot.sheet; reply = Some reply } in
-    subst (λ (y : PendingView). ComesBack sent replies y) (sym took.noted) (λ slot has is. elim (at_set e.slots m.sheet.id.place noted has.there) [
+    let noted : Slot = record { sheet = took.noting.slot.sheet; reply = Some reply } in
+    subst (λ (y : PendingView). ComesBack sent replies y) (sym took.noting.is) (λ slot has is. elim (at_set e.slots m.sheet.id.place noted has.there) [
       | inl new ↦ (
           let both : Some reply ≡ Some leg.Stored = ap (λ (s : Slot). s.reply) (sym new.1) ∙ is in
           let same : reply ≡ leg.Stored = cc in
@@ -460,7 +370,7 @@ took_kept is first p sent replies history m reply (taken.Answered answer) e form
     let (x, took, equal) = answer_settled p m.sheet.id reply answer (noted_by p m.sheet.id reply) refl e in
     let way = ways took.index took.pending took.there in
     let asked : IsAsked history x.op x.request =
-    subst (λ (y : PendingView). IsAsked history y.op y.request) (sym took.noted) (way_asked sent replies history took.pending way) in
+    subst (λ (y : PendingView). IsAsked history y.op y.request) (sym took.noting.is) (way_asked sent replies history took.pending way) in
     kept_answer is first sent replies history x answer false equal formed formed' told asked (took_back p sent replies history m reply x took way came) k
 took_kept is first p sent replies history m reply (taken.Stranger back) e formed formed' told ways came k = answered_none is first history k.answers
 
@@ -596,19 +506,13 @@ issued_told is told heard (Tells.answers {told = t} {heard = h} op reply tells h
 issued_told is told heard (Tells.errs {told = t} {heard = h} op cause tells) =
     issued_told is t h tells ∙ sym (counted_none (issued_at is) h (entry.Answered op (ServerError cause)) refl)
 
-has_left : {X : Type 0} {xs : List X} (ys : List X) {x : X} → Has xs x → Has (xs ++ ys) x
-has_left ys h = record { place = h.place; there = at_left ys h.there }
-
-has_new : {X : Type 0} (xs : List X) (y : X) → Has (xs ++ y ∷ []) y
-has_new xs y = record { place = length xs; there = at_new xs y }
-
 -- what is issued in the other is issued in it
 pub issue_told : (told heard : List Entry) → Tells told heard → (op : OpId) (proxy : ℕ) (q : Request) (place : ℕ) → At heard place (entry.Issued op proxy q)
     → Has told (entry.Issued op proxy q)
 issue_told told heard (Tells.begins history) op proxy q place at = record { place = place; there = at }
 issue_told told heard (Tells.issues {told = t} {heard = h} o n r tells) op proxy q place at = elim (at_last h (entry.Issued o n r) at) [
   | inl was ↦ has_left (entry.Issued o n r ∷ []) (issue_told t h tells op proxy q place was)
-  | inr new ↦ subst (λ e. Has (t ++ entry.Issued o n r ∷ []) e) (sym new.1) (has_new t (entry.Issued o n r))
+  | inr new ↦ subst (λ e. Has (t ++ entry.Issued o n r ∷ []) e) (sym new.1) (has_right t (has_head (entry.Issued o n r) []))
 ]
 issue_told told heard (Tells.stores {told = t} {heard = h} by other key flags block tells) op proxy q place at = elim (at_last h (entry.Stored other key flags block) at) [
   | inl was ↦ has_left (entry.Stored by key flags block ∷ []) (issue_told t h tells op proxy q place was)
@@ -657,7 +561,7 @@ before_last : (is : Picks) (told heard : List Entry) (op o : OpId) (reply : Repl
     → entry.Answered op StoredReply ≡ entry.Answered o reply → IsBefore is told (heard ++ entry.Answered o reply ∷ []) op done
 before_last is told heard op o reply done tells has last same =
     let more : List Entry = entry.Answered o reply ∷ [] in
-    let whole : take done (heard ++ more) ≡ heard = ap (λ n. take n (heard ++ more)) last ∙ take_whole heard more in
+    let whole : take done (heard ++ more) ≡ heard = ap (λ n. take n (heard ++ more)) last ∙ take-append_seam heard more in
     let below : stored is (take has.place told) ≤ stored is told = sum_by-take-le (stored_at is) told has.place in
     let equal = stored_told is told heard tells in
     record {
@@ -711,17 +615,12 @@ told_sets is first told heard tells all = λ op key flags exptime block noreply 
     answer_told is told heard op (first + 1) tells
     (λ place there. all op key flags exptime block noreply from.place place picks (record { proxy = asked.proxy; there = from.there }) there) done at)
 
--- a fleet in which legs fail
-
-thin_fresh : (number : ℕ) (proxies : List ProxySetup) → map thin (proxies_from number proxies) ≡ proxies_from number proxies
-thin_fresh number [] = refl
-thin_fresh number (proxy ∷ proxies) = ap (λ l. fresh_proxy number 0 proxy.routing proxy.schedule proxy.room ∷ l) (thin_fresh (number + 1) proxies)
-
+-- in a fleet in which legs fail
 fleet_sets : WorldLaws → (is : Picks) (setup : SetupView) (start last : WorldView) (events : List FleetEvent) → All (λ (proxy : ProxySetup). IsPlan proxy.routing proxy.schedule) setup.proxies
     → Begins setup start → FleetRun start events last → AnsweredSets is (stored is start.history) last.history
 fleet_sets laws is setup start last events plans begins run =
     let beside = thin_run events start last start.history (λ number delivery there. absurd (at_nothing (subst (λ r. At r number delivery) begins.replies there))) (Tells.begins start.history) run in
-    let proxies : map thin start.proxies ≡ start.proxies = ap (λ p. map thin p) begins.proxies ∙ thin_fresh 0 setup.proxies ∙ sym begins.proxies in
+    let proxies : map thin start.proxies ≡ start.proxies = ap (λ p. map thin p) begins.proxies ∙ thin_from 0 setup.proxies ∙ sym begins.proxies in
     let whole : thin_world start start.history ≡ start = ap (λ p. record start { proxies = p }) proxies in
     told_sets is (stored is start.history) beside.later last.history beside.tells
     (world_sets laws is setup start (thin_world last beside.later) beside.events plans begins (subst (λ w. WorldRun w beside.events (thin_world last beside.later)) whole beside.run))

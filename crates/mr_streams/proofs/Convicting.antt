@@ -1,9 +1,12 @@
 -- Nothing stores a set's value once the set was answered with STORED, where each value is that of one set.
-use Rattle.std.proofs.Common.{◌≡◌, ℕ, zero, suc, ◌+◌, ◌≤◌, ◌<◌, ◌&&◌, ◌⊎◌, inl, inr, Bool, true, false, ℤ, All, List, [], ◌∷◌, refl, sym, ap, ◌∙◌, subst, arith}
+use Rattle.std.proofs.Common.{◌≡◌, ℕ, zero, suc, ◌+◌, ◌≤◌, ◌<◌, ◌&&◌, ◌⊎◌, inl, inr, Bool, true, false, ℤ, All, get_or, List, [], ◌∷◌, refl, sym, ap, ◌∙◌, subst, arith}
 use Rattle.std.specs.Prelude.{take, bytes_eq}
 use Rattle.std.specs.List.{sum_by}
 use Rattle.std.proofs.lemmas.Bool.{cases_lt}
-use Rattle.std.proofs.lemmas.List.Sums.{sum_by-cons}
+use Rattle.std.proofs.lemmas.List.{take-take}
+use Rattle.std.proofs.lemmas.List.Sums.{sum_by-cons, sum_by-take-le, sum_by_more_le}
+use Rattle.std.proofs.lemmas.Option.{get_or_from_slice_get}
+use Rattle.mr_text.proofs.Keys.{and_true}
 use Rattle.mr_text.proofs.Texts.{text_true, true_text}
 use Rattle.mr_text.specs.declared.reply.Reply.TheVariants as replies
 use Rattle.mr_text.specs.declared.request.Request.{Request}
@@ -16,6 +19,7 @@ use Rattle.mr_history.specs.declared.entry.Entry.{Entry}
 use Rattle.mr_history.specs.declared.entry.Entry.TheVariants as entry
 use Rattle.mr_history.specs.declared.op_id.OpId.{OpId}
 use Rattle.mr_canary.specs.Views.{Names, ArePerformedOnce}
+use Rattle.mr_world.proofs.Lists.{at_within}
 use Rattle.mr_world.specs.Headline.{IsPlan}
 use Rattle.mr_world.specs.Setup.{SetupView}
 use Rattle.mr_world.specs.WorldView.{WorldView}
@@ -33,27 +37,12 @@ use Rattle.mr_streams.proofs.Safety.{begun_world, world_begins}
 use Rattle.mr_streams.proofs.Starting.{starts_mirrored}
 
 -- the sum up to a place, and what stands there or behind it
-term_within : {X : Type 0} (f : X → ℕ) (xs : List X) (place : ℕ) (x : X) → At xs place x → f x ≤ sum_by f xs
-term_within f [] place x there = (let e = there.gets in cc)
-term_within f (y ∷ xs) zero x there =
-    let e = there.gets in
-    let same : y ≡ x = cc in
-    let sum = sum_by-cons f y xs in
-    let is : f y ≡ f x = ap f same in
-    omega arith
-term_within f (y ∷ xs) (suc place) x there =
-    let sum = sum_by-cons f y xs in
-    let later = term_within f xs place x (record { gets = there.gets }) in
-    omega arith
-
 term_behind : {X : Type 0} (f : X → ℕ) (xs : List X) (cut place : ℕ) (x : X) → At xs place x → cut ≤ place → sum_by f (take cut xs) + f x ≤ sum_by f xs
-term_behind f [] cut place x there after = (let e = there.gets in cc)
-term_behind f (y ∷ xs) zero place x there after = (let all = term_within f (y ∷ xs) place x there in omega arith)
-term_behind f (y ∷ xs) (suc cut) zero x there after = absurd (let l : suc cut ≤ 0 = after in omega arith)
-term_behind f (y ∷ xs) (suc cut) (suc place) x there after =
-    let sum = sum_by-cons f y xs in
-    let front = sum_by-cons f y (take cut xs) in
-    let later = term_behind f xs cut place x (record { gets = there.gets }) (omega arith) in
+term_behind f xs cut place x there after =
+    let all = sum_by_more_le f xs place x (at_within there) in
+    let one : f (get_or xs place x) ≡ f x = ap f (get_or_from_slice_get xs place x x there.gets) in
+    let front = sum_by-take-le f (take place xs) cut in
+    let same : sum_by f (take cut (take place xs)) ≡ sum_by f (take cut xs) = ap (λ l. sum_by f l) (take-take cut place xs after) in
     omega arith
 
 one_or_none : (b : Bool) → (one_if b ≡ 0) ⊎ (b ≡ true)
@@ -132,10 +121,6 @@ one_counted is (it ∷ history) single =
           omega arith)
     ]
 
-both_true : (a b : Bool) → (a && b) ≡ true → (a ≡ true) × (b ≡ true)
-both_true true b e = (refl, e)
-both_true false b e = absurd (let no : false ≡ true = e in cc)
-
 -- the value of a key
 abbrev pub value_of : Names → ℕ → ℕ → Picks
 value_of names key value = λ k b. bytes_eq k (names.key key) && bytes_eq b (names.block key value)
@@ -147,7 +132,7 @@ picks_value names key value =
 
 counted_sets : (names : Names) (history : List Entry) (key value place : ℕ) (it : Entry) → At history place it → IsCounted (value_of names key value) it → SetsTo names history key value place
 counted_sets names history key value place it there c =
-    let both = both_true (bytes_eq c.key (names.key key)) (bytes_eq c.block (names.block key value)) c.picked in
+    let both = and_true (bytes_eq c.key (names.key key)) (bytes_eq c.block (names.block key value)) c.picked in
     let key_is : c.key ≡ names.key key = text_true c.key (names.key key) both.0 in
     let block_is : c.block ≡ names.block key value = text_true c.block (names.block key value) both.1 in
     record {

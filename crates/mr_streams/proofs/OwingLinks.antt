@@ -1,6 +1,7 @@
 -- What is owed stays so while links change, and grows by a leg that goes over one.
 use Rattle.std.proofs.Common.{◌≡◌, ◌≢◌, ℕ, zero, suc, ◌+◌, ◌≤◌, ◌<◌, ◌⊎◌, inl, inr, Bool, true, false, List, [], ◌∷◌, ◌++◌, length, map, get_or, slice_get, slice_set, Option, Some, None, if◌then◌else◌, refl, sym, ap, ◌∙◌, subst, append_assoc, arith}
 use Rattle.std.specs.List.{flat_map, AllByRecursion, sum_by}
+use Rattle.std.proofs.lemmas.Bool.{cases_Bool}
 use Rattle.std.proofs.lemmas.Grind.{flat_map-append}
 use Rattle.std.proofs.lemmas.List.{append-nil, length-map, length-set, get_or-set_same, get_or-set_other, set-set}
 use Rattle.std.proofs.lemmas.List.Sums.{sum_by-set, sum_by_push, sum_by-cons}
@@ -77,13 +78,9 @@ own_link lines p number links link proxy place out there link_there same same_li
 abbrev pub IsOver : ℕ → ℕ → Connection → Type 0
 IsOver p number c = (c.is_left ≡ false) × (c.proxy ≡ p) × (c.link ≡ number)
 
-left_or_here : (b : Bool) → (b ≡ true) ⊎ (b ≡ false)
-left_or_here true = inl refl
-left_or_here false = inr refl
-
 over_or_else : (p number : ℕ) (c : Connection) → IsOver p number c ⊎ (IsOver p number c → ⊥)
 over_or_else p number c =
-    elim (left_or_here c.is_left) [
+    elim (cases_Bool c.is_left) [
       | inl left ↦ inr (λ h. (let no : true ≡ false = sym left ∙ h.0 in cc))
       | inr here ↦ elim (same_or_not c.proxy p) [
         | inl same ↦ elim (same_or_not c.link number) [ inl link ↦ inl (here, same, link) | inr other ↦ inr (λ h. other h.2) ]

@@ -19,7 +19,7 @@ use Rattle.mr_streams.proofs.Lists.{at_nothing}
 use Rattle.mr_streams.proofs.Telling.{told_safe}
 use Rattle.mr_streams.proofs.Thinning.{thin, thin_world, thin_run}
 
-thin_from : (number : ℕ) (proxies : List ProxySetup) → map thin (proxies_from number proxies) ≡ proxies_from number proxies
+pub thin_from : (number : ℕ) (proxies : List ProxySetup) → map thin (proxies_from number proxies) ≡ proxies_from number proxies
 thin_from number [] = refl
 thin_from number (proxy ∷ proxies) = ap (λ l. fresh_proxy number 0 proxy.routing proxy.schedule proxy.room ∷ l) (thin_from (number + 1) proxies)
 
