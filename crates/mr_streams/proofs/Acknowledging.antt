@@ -1,12 +1,12 @@
 -- A set that was answered with STORED was stored before: beyond what was held at the beginning a node stored its value.
-use Rattle.std.proofs.Common.{◌≡◌, ℕ, zero, suc, ◌+◌, ◌<◌, ◌≤◌, ◌==◌, ◌&&◌, ◌⊎◌, inl, inr, Bool, true, false, not, cond, All, List, [], ◌∷◌, ◌++◌, length, map, take, fold, get_or, slice_get, slice_set, ℤ, Contains, Option, Some, None, if◌then◌else◌, refl, sym, ap, ◌∙◌, subst, arith, eqb-true}
-use Rattle.std.specs.List.{position_or_len, sum_by}
+use Rattle.std.proofs.Common.{◌≡◌, ℕ, zero, suc, ◌+◌, ◌<◌, ◌≤◌, ◌⊎◌, inl, inr, Bool, true, false, All, List, [], ◌∷◌, ◌++◌, length, map, take, fold, get_or, slice_get, ℤ, Contains, Option, Some, None, if◌then◌else◌, refl, sym, ap, ◌∙◌, subst, arith}
+use Rattle.std.specs.List.{sum_by}
 use Rattle.std.specs.Option.{option_and_then}
 use Rattle.std.specs.Prelude.{nat_lt, unwrap_or}
 use Rattle.std.proofs.Math.Seq.{take-append_seam}
 use Rattle.std.proofs.lemmas.List.{append-nil, take-append-le}
 use Rattle.std.proofs.lemmas.List.Sums.{sum_by-append, sum_by_push, sum_by-take-le}
-use Rattle.std.proofs.lemmas.Option.{get_or_from_slice_get, slice_get-get_or, slice_get_read, slice_get_within}
+use Rattle.std.proofs.lemmas.Option.{get_or_from_slice_get, slice_get-get_or, slice_get_within}
 use Rattle.mr_clock.specs.Readings.{Tick}
 use Rattle.mr_text.specs.declared.cause.Cause.TheVariants.{LegLost}
 use Rattle.mr_text.specs.declared.reply.Reply.{Reply}
@@ -31,10 +31,10 @@ use Rattle.mr_node.specs.declared.command.NodeCommand.{NodeCommand}
 use Rattle.mr_node.specs.declared.command.NodeCommand.TheVariants as command
 use Rattle.mr_proxy.specs.Answer.{AnswerView, answer_of, reply_of}
 use Rattle.mr_proxy.specs.Issue.{next_op, sheets_of}
-use Rattle.mr_proxy.specs.Pending.{PendingView, is_complete, with_reply, with_reply_in}
+use Rattle.mr_proxy.specs.Pending.{PendingView, is_complete, with_reply}
 use Rattle.mr_proxy.specs.ProxyView.{ProxyView, fresh_proxy}
 use Rattle.mr_proxy.specs.Sheets.{HaveAsManyHops, commands_of}
-use Rattle.mr_proxy.specs.Slots.{is_awaiting, reply_of_slot}
+use Rattle.mr_proxy.specs.Slots.{reply_of_slot}
 use Rattle.mr_proxy.specs.Sound.{IsSound}
 use Rattle.mr_proxy.specs.Transitions.{given_up_in, noted_by, pending_with, place_of_op, taken_by, taken_of}
 use Rattle.mr_proxy.specs.declared.sheet.LegId.{LegId}
@@ -64,7 +64,7 @@ use Rattle.mr_streams.specs.Headline.{HasText, PremisesHold, Starts}
 use Rattle.mr_streams.specs.Refines.{RefinesWorld, Tells}
 use Rattle.mr_streams.specs.Steps.{StreamsRun}
 use Rattle.mr_streams.specs.StreamsView.{StreamsView}
-use Rattle.mr_streams.proofs.Lists.{at_last, at_left, at_map, at_new, at_nothing, at_one, at_set}
+use Rattle.mr_streams.proofs.Lists.{at_last, at_left, at_map, at_nothing, at_one, at_set}
 use Rattle.mr_streams.proofs.Origins.{IsAsked}
 use Rattle.mr_streams.proofs.Owing.{Picks, issued, issued_at, one_if, stored, stored_at}
 use Rattle.mr_streams.proofs.Safety.{begun_world, thin_from, world_begins}

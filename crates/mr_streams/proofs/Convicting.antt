@@ -1,5 +1,5 @@
 -- Nothing stores a set's value once the set was answered with STORED, where each value is that of one set.
-use Rattle.std.proofs.Common.{◌≡◌, ℕ, zero, suc, ◌+◌, ◌≤◌, ◌<◌, ◌&&◌, ◌⊎◌, inl, inr, Bool, true, false, ℤ, All, get_or, List, [], ◌∷◌, refl, sym, ap, ◌∙◌, subst, arith}
+use Rattle.std.proofs.Common.{◌≡◌, ℕ, suc, ◌+◌, ◌≤◌, ◌&&◌, ◌⊎◌, inl, inr, Bool, true, false, ℤ, All, get_or, List, [], ◌∷◌, refl, ap, ◌∙◌, subst, arith}
 use Rattle.std.specs.Prelude.{take, bytes_eq}
 use Rattle.std.specs.List.{sum_by}
 use Rattle.std.proofs.lemmas.Bool.{cases_lt}
@@ -14,7 +14,6 @@ use Rattle.mr_text.specs.declared.request.Request.TheVariants as request
 use Rattle.mr_clock.specs.Readings.{Tick}
 use Rattle.mr_history.specs.History.{IsIssued}
 use Rattle.mr_history.specs.Places.{At}
-use Rattle.mr_history.specs.declared.entry.Author.{Author}
 use Rattle.mr_history.specs.declared.entry.Entry.{Entry}
 use Rattle.mr_history.specs.declared.entry.Entry.TheVariants as entry
 use Rattle.mr_history.specs.declared.op_id.OpId.{OpId}

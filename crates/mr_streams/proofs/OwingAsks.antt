@@ -1,20 +1,18 @@
 -- What a client asks is owed to nodes: at most one leg of each set that is issued.
-use Rattle.std.proofs.Common.{◌≡◌, ℕ, zero, suc, ◌+◌, ◌≤◌, ◌<◌, ◌==◌, inl, inr, Bool, true, false, List, [], ◌∷◌, ◌++◌, length, map, slice_get, slice_set, Option, Some, if◌then◌else◌, refl, sym, ap, ◌∙◌, subst, arith}
-use Rattle.std.specs.Prelude.{slice_index_or, Contains}
+use Rattle.std.proofs.Common.{◌≡◌, ℕ, zero, suc, ◌≤◌, ◌<◌, ◌==◌, inl, inr, Bool, true, false, List, [], ◌∷◌, length, map, slice_set, Some, if◌then◌else◌, refl, sym, ap, ◌∙◌, subst, arith}
+use Rattle.std.specs.Prelude.{slice_index_or}
 use Rattle.std.specs.List.{AllByRecursion, sum_by}
 use Rattle.std.proofs.lemmas.List.{set-set}
 use Rattle.std.proofs.lemmas.List.Sums.{sum_by-append, sum_by-cons}
 use Rattle.mr_text.specs.declared.request.Request.{Request}
 use Rattle.mr_text.specs.declared.request.Request.TheVariants as request
 use Rattle.mr_history.specs.Places.{At}
-use Rattle.mr_history.specs.declared.entry.Entry.{Entry}
 use Rattle.mr_history.specs.declared.entry.Entry.TheVariants as entry
 use Rattle.mr_node.specs.declared.command.NodeCommand.{NodeCommand}
-use Rattle.mr_node.specs.declared.command.NodeCommand.TheVariants.{Get, Set, Delete}
+use Rattle.mr_node.specs.declared.command.NodeCommand.TheVariants.{Get, Delete}
 use Rattle.mr_proxy.specs.Issue.{next_op, sheets_of, used_reading}
 use Rattle.mr_proxy.specs.NodeRequests.{request_for}
 use Rattle.mr_proxy.specs.ProxyView.{ProxyView}
-use Rattle.mr_proxy.specs.Sheets.{commands_of}
 use Rattle.mr_proxy.specs.declared.sheet.LegSheet.{LegSheet}
 use Rattle.mr_loop.specs.Asking.{Asking, DoesAll, IsDoneFor}
 use Rattle.mr_loop.specs.Events.{FrontView}
@@ -31,7 +29,7 @@ use Rattle.mr_streams.proofs.Asking.{all_from, begun_next, issued_new}
 use Rattle.mr_streams.proofs.Legal.{came_legal, came_held}
 use Rattle.mr_streams.proofs.Lists.{at_written}
 use Rattle.mr_streams.proofs.Mirrors.{IsLegal, IsLegalInput}
-use Rattle.mr_streams.proofs.Owing.{Picks, IsReadable, AreCarried, sets, sets_of_sheet, issued, issued_at, stored, stored_at, total}
+use Rattle.mr_streams.proofs.Owing.{Picks, IsReadable, AreCarried, sets, sets_of_sheet, issued, issued_at, stored, stored_at}
 use Rattle.mr_streams.proofs.OwingLinks.{AreSingle, OwesMore, legs_go}
 use Rattle.mr_streams.proofs.Placing.{SheetLaws}
 

@@ -1,6 +1,5 @@
 -- Whatever happens to streams: what nodes may still store beyond what was stored is no more than was issued.
-use Rattle.std.proofs.Common.{◌≡◌, ◌≢◌, ℕ, ◌+◌, ◌≤◌, ◌<◌, inl, inr, Bool, true, false, List, [], ◌∷◌, ◌++◌, length, map, get_or, slice_get, slice_set, drop, Option, Some, None, if◌then◌else◌, refl, sym, ap, ◌∙◌, subst, append_assoc, arith}
-use Rattle.std.specs.List.{sum_by}
+use Rattle.std.proofs.Common.{◌≡◌, ◌≢◌, ℕ, ◌+◌, ◌≤◌, ◌<◌, inl, inr, Bool, true, false, List, [], ◌∷◌, ◌++◌, length, map, get_or, slice_get, slice_set, drop, Some, None, if◌then◌else◌, refl, sym, ap, ◌∙◌, subst, append_assoc, arith}
 use Rattle.std.proofs.Math.ListN.{get_or-append}
 use Rattle.std.proofs.lemmas.List.{append-nil, drop_at, length-map, length-append, map-set, set-set}
 use Rattle.std.proofs.lemmas.List.Sums.{sum_by-append, sum_by-cons}
@@ -11,9 +10,8 @@ use Rattle.mr_history.specs.declared.entry.Entry.{Entry}
 use Rattle.mr_history.specs.declared.entry.Entry.TheVariants as entry
 use Rattle.mr_node.specs.Output.{is_silent}
 use Rattle.mr_proxy.specs.Answer.{AnswerView, reply_of}
-use Rattle.mr_loop.specs.Asking.{AsksOn}
 use Rattle.mr_loop.specs.Events.{FrontView}
-use Rattle.mr_loop.specs.Links.{up_link, is_up_at}
+use Rattle.mr_loop.specs.Links.{up_link}
 use Rattle.mr_loop.specs.LoopView.{LoopView, ClientBytes, ClientEnds, LinkBytes, LinkWrote, LinkComesUp, asker_of, link_output_in}
 use Rattle.mr_loop.specs.Returning.{TakesBytes, Breaks}
 use Rattle.mr_loop.specs.declared.asker.Asker.{Asker}
@@ -26,7 +24,6 @@ use Rattle.mr_loop.specs.declared.node.client.NodeClient.{NodeClient}
 use Rattle.mr_loop.specs.declared.turns.Turn.{Turn}
 use Rattle.mr_loop.specs.declared.turns.Turn.TheVariants.{Waits, Answered, Says}
 use Rattle.mr_loop.specs.node.NodeView.{after_node_coming, fresh_node_client}
-use Rattle.mr_world.specs.Steps.{answered}
 use Rattle.mr_world.specs.WorldView.{WorldView}
 use Rattle.mr_streams.specs.Entries.{issued_in, told_by, told_in}
 use Rattle.mr_streams.specs.Headline.{Starts}
@@ -40,9 +37,9 @@ use Rattle.mr_streams.proofs.LinkEvents.{restarted_same}
 use Rattle.mr_streams.proofs.Lists.{at_map, at_mapped, at_one, at_last, at_set, at_written, at_nothing, same_or_not, written_back}
 use Rattle.mr_streams.proofs.LoopEvents.{all_same, dialed_same, broken_same, ticked_all_same}
 use Rattle.mr_streams.proofs.Mirrors.{MirrorsStreams, IsLegalInput, lines_of, seats_of}
-use Rattle.mr_streams.proofs.Owing.{Picks, Keeps, Writes, Carries, AreCarried, Owes, within_more, issued, issued_at, stored, stored_at, total}
+use Rattle.mr_streams.proofs.Owing.{Picks, Keeps, Carries, AreCarried, Owes, within_more, issued, stored, stored_at, total}
 use Rattle.mr_streams.proofs.OwingAsks.{asks_owed, asks_legal, asks_store_none}
-use Rattle.mr_streams.proofs.OwingLinks.{AreSingle, OwesMore, writes_elsewhere, writes_kept, own_link, carries_left, carried_moved, carried_changed}
+use Rattle.mr_streams.proofs.OwingLinks.{writes_elsewhere, writes_kept, own_link, carries_left, carried_moved, carried_changed}
 use Rattle.mr_streams.proofs.OwingNodes.{keeps_before, stood_but, owes_node, owes_node_place, owes_node_restart}
 use Rattle.mr_streams.proofs.Placing.{SheetLaws}
 use Rattle.mr_streams.proofs.Refining.{StreamLaws, run_runs}

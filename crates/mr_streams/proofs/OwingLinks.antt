@@ -10,7 +10,7 @@ use Rattle.mr_history.specs.Places.{At}
 use Rattle.mr_pools.specs.Routing.{RoutingView}
 use Rattle.mr_proxy.specs.declared.sheet.LegSheet.{LegSheet}
 use Rattle.mr_loop.specs.Counts.{leg_unsent}
-use Rattle.mr_loop.specs.Links.{all_sent, after_sending, sent_over, sent_over_in, sent_by, with_leg, link_of, is_up_at}
+use Rattle.mr_loop.specs.Links.{all_sent, sent_over, sent_over_in, sent_by, with_leg, link_of, is_up_at}
 use Rattle.mr_loop.specs.LoopView.{LoopView}
 use Rattle.mr_loop.specs.declared.asker.Asker.{Asker}
 use Rattle.mr_loop.specs.declared.link.Link.{Link}
@@ -22,7 +22,7 @@ use Rattle.mr_streams.specs.StreamsView.{Connection}
 use Rattle.mr_streams.proofs.Changing.{IsSameLink, unless_down, up_at}
 use Rattle.mr_streams.proofs.Lists.{at_map, at_one, at_written, at_elsewhere, at_nothing, at_set, same_or_not, written_back}
 use Rattle.mr_streams.proofs.LinkEvents.{elsewhere_same}
-use Rattle.mr_streams.proofs.Owing.{Picks, Keeps, Writes, IsReadable, Carries, AreCarried, sets_of_leg, sets_of_sheet, total, itself}
+use Rattle.mr_streams.proofs.Owing.{Picks, Writes, IsReadable, Carries, AreCarried, sets_of_leg, sets_of_sheet, total, itself}
 
 -- the links of another proxy change
 pub writes_elsewhere : (lines : List (List Link)) (p : ℕ) (links' : List Link) (proxy number : ℕ) (out : List ℕ) → proxy ≢ p

@@ -1,26 +1,20 @@
 -- What happens on the node's side of connections: no more is stored than isn't owed any more.
-use Rattle.std.proofs.Common.{◌≡◌, ◌≢◌, ℕ, ◌+◌, ◌<◌, ◌≤◌, ◌==◌, ◌⊎◌, inl, inr, Bool, true, false, ◌||◌, IsTrue, List, [], ◌∷◌, ◌++◌, length, map, slice_set, drop, get_or, Option, Some, None, if◌then◌else◌, refl, sym, ap, ◌∙◌, subst, append_assoc, arith, eqb-true}
+use Rattle.std.proofs.Common.{◌≡◌, ◌≢◌, ℕ, ◌+◌, ◌<◌, ◌≤◌, ◌⊎◌, inl, inr, true, false, List, [], ◌∷◌, ◌++◌, length, map, slice_set, drop, get_or, Option, Some, None, refl, sym, ap, ◌∙◌, subst, append_assoc, arith}
 use Rattle.std.specs.List.{flat_map, AllByRecursion, sum_by}
-use Rattle.std.proofs.lemmas.Bool.{eqb-false}
-use Rattle.std.proofs.lemmas.List.{append-nil, map-set, length-map, length-set, get_or-set_same, get_or-set_other}
+use Rattle.std.proofs.lemmas.List.{map-set, length-map, length-set, get_or-set_same, get_or-set_other}
 use Rattle.std.proofs.lemmas.List.Sums.{sum_by-cons, sum_by-append, sum_by-set}
 use Rattle.std.proofs.lemmas.Option.{slice_get_within}
-use Rattle.mr_text.specs.Canonical.{canonical_request}
-use Rattle.mr_text.specs.Requests.{SpellsRequest, RefusesRequest}
-use Rattle.mr_text.specs.declared.error.TextError.TheVariants.{UnknownCommand}
 use Rattle.mr_text.specs.declared.reply.Reply.{Reply}
 use Rattle.mr_text.specs.declared.reply.Reply.TheVariants.{Items, Stored, Deleted, NotFound, Error, ClientError, ServerError}
-use Rattle.mr_text.specs.declared.request.Request.TheVariants.{Quit}
 use Rattle.mr_history.specs.Places.{At}
 use Rattle.mr_history.specs.declared.entry.Author.{Author}
 use Rattle.mr_history.specs.declared.entry.Entry.{Entry}
-use Rattle.mr_node.specs.Output.{Exchange, SpellsExchange}
-use Rattle.mr_node.specs.Output.Exchange.{Asked, Unknown}
+use Rattle.mr_node.specs.Output.{Exchange}
+use Rattle.mr_node.specs.Output.Exchange.{Asked}
 use Rattle.mr_node.specs.Recency.{CacheView}
 use Rattle.mr_node.specs.declared.command.NodeCommand.{NodeCommand}
 use Rattle.mr_node.specs.declared.command.NodeCommand.TheVariants.{Get, Set, Delete}
 use Rattle.mr_proxy.specs.NodeRequests.{request_for}
-use Rattle.mr_loop.specs.LoopView.{TakesPiece}
 use Rattle.mr_loop.specs.declared.inbox.Inbox.{Inbox}
 use Rattle.mr_loop.specs.declared.link.Link.{Link}
 use Rattle.mr_loop.specs.declared.node.client.NodeClient.{NodeClient}
@@ -37,8 +31,7 @@ use Rattle.mr_streams.proofs.Exchanges.{RequestLaws, SpellsAll, spells_all, firs
 use Rattle.mr_streams.proofs.Lists.{at_map, at_mapped, at_set, at_one, at_left, at_written}
 use Rattle.mr_streams.proofs.Mirrors.{MirrorsStreams, ReadsOn, lines_of, seats_of}
 use Rattle.mr_streams.proofs.NodeEvents.{takes_done, takes_all, without_node, gone_or_not}
-use Rattle.mr_streams.proofs.Owing.{Picks, one_if, sets, sets_of_leg, stored_at, issued_at, stored, issued, Keeps, IsReadable, Carries, AreCarried, Owes, itself, total, within_more}
-use Rattle.mr_streams.proofs.Spellings.{one_spelling, some_bytes}
+use Rattle.mr_streams.proofs.Owing.{Picks, sets, sets_of_leg, stored_at, stored, Keeps, IsReadable, Carries, AreCarried, Owes, itself, total, within_more}
 
 -- what is asked for a leg stores no more than its command sets
 stored_one : (is : Picks) (by : Author) (command : NodeCommand) (told : Reply) → sum_by (stored_at is) (stored_by by (Asked (request_for command) told)) ≤ sets is (request_for command)

@@ -1,6 +1,5 @@
 -- A history that is told of by a safe one is safe.
 use Rattle.std.proofs.Common.{◌≡◌, ◌≢◌, ℕ, ◌<◌, ◌==◌, inl, inr, Bool, true, false, List, [], ◌∷◌, ◌++◌, length, if◌then◌else◌, refl, sym, subst, arith, eq-eqb, ne_eqb}
-use Rattle.std.proofs.lemmas.Option.{slice_get_within}
 use Rattle.mr_text.specs.declared.cause.Cause.{Cause}
 use Rattle.mr_text.specs.declared.reply.Reply.{Reply}
 use Rattle.mr_text.specs.declared.reply.Reply.TheVariants.{Items, Stored as StoredReply, Deleted, NotFound, Error, ClientError, ServerError}
