@@ -450,20 +450,13 @@ begins_kept is setup start begins = record {
       absurd (let never : entry.Answered op StoredReply ≡ held_entry from.0 = from.2 in cc));
 }
 
+-- in the world, a set that was answered with STORED was stored before its answer, beyond what was held at the beginning
 world_sets : WorldLaws → (is : Picks) (setup : SetupView) (start last : WorldView) (events : List Event) → All (λ (proxy : ProxySetup). IsPlan proxy.routing proxy.schedule) setup.proxies
     → Begins setup start → WorldRun start events last → AnsweredSets is (stored is start.history) last.history
 world_sets laws is setup start last events plans begins run =
     let kept = run_kept laws is (stored is start.history) events start last run (laws.setups_begin_tracked setup start begins (begins_sound laws setup start plans begins))
     (laws.setups_begin_faithful setup start begins) (begins_kept is setup start begins) in
     kept.answers
-
--- in the world, a set that was answered with STORED was stored before its answer, beyond what was held at the beginning
-pub world_set_stored : WorldLaws → (is : Picks) (setup : SetupView) (start last : WorldView) (events : List Event)
-    → All (λ (proxy : ProxySetup). IsPlan proxy.routing proxy.schedule) setup.proxies → Begins setup start → WorldRun start events last
-    → (op : OpId) (key : List ℕ) (flags : ℕ) (exptime : ℤ) (block : List ℕ) (noreply : Bool) (issue place : ℕ) → is key block ≡ true
-    → IsIssued last.history op (request.Set key flags exptime block noreply) issue → At last.history place (entry.Answered op StoredReply)
-    → stored is start.history + 1 ≤ stored is (take place last.history)
-world_set_stored laws is setup start last events plans begins run = world_sets laws is setup start last events plans begins run
 
 -- what a history tells of another
 
