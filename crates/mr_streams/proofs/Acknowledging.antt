@@ -66,7 +66,7 @@ use Rattle.mr_streams.specs.Steps.{StreamsRun}
 use Rattle.mr_streams.specs.StreamsView.{StreamsView}
 use Rattle.mr_streams.proofs.Lists.{at_last, at_left, at_map, at_nothing, at_one, at_set}
 use Rattle.mr_streams.proofs.Origins.{IsAsked}
-use Rattle.mr_streams.proofs.Owing.{Picks, issued, issued_at, one_if, stored, stored_at}
+use Rattle.mr_streams.proofs.Owing.{Picks, one_if, stored, stored_at}
 use Rattle.mr_streams.proofs.Safety.{begun_world, thin_from, world_begins}
 use Rattle.mr_streams.proofs.Thinning.{thin, thin_run, thin_world}
 
@@ -483,21 +483,6 @@ stored_told is told heard (Tells.answers {told = t} {heard = h} op reply tells h
     stored_told is t h tells ∙ sym (counted_none (stored_at is) h (entry.Answered op reply) refl)
 stored_told is told heard (Tells.errs {told = t} {heard = h} op cause tells) =
     stored_told is t h tells ∙ sym (counted_none (stored_at is) h (entry.Answered op (ServerError cause)) refl)
-
--- and that a set of such a value is issued
-pub issued_told : (is : Picks) (told heard : List Entry) → Tells told heard → issued is told ≡ issued is heard
-issued_told is told heard (Tells.begins history) = refl
-issued_told is told heard (Tells.issues {told = t} {heard = h} op proxy q tells) =
-    counted_both (issued_at is) t h (entry.Issued op proxy q) (entry.Issued op proxy q) refl (issued_told is t h tells)
-issued_told is told heard (Tells.stores {told = t} {heard = h} by other key flags block tells) =
-    counted_both (issued_at is) t h (entry.Stored by key flags block) (entry.Stored other key flags block) refl (issued_told is t h tells)
-issued_told is told heard (Tells.removes {told = t} {heard = h} op side key tells) = counted_none (issued_at is) t (entry.Removed op side key) refl ∙ issued_told is t h tells
-issued_told is told heard (Tells.removed {told = t} {heard = h} op side key tells) = issued_told is t h tells ∙ sym (counted_none (issued_at is) h (entry.Removed op side key) refl)
-issued_told is told heard (Tells.knows {told = t} {heard = h} op reply tells) = counted_none (issued_at is) t (entry.Answered op reply) refl ∙ issued_told is t h tells
-issued_told is told heard (Tells.answers {told = t} {heard = h} op reply tells has) =
-    issued_told is t h tells ∙ sym (counted_none (issued_at is) h (entry.Answered op reply) refl)
-issued_told is told heard (Tells.errs {told = t} {heard = h} op cause tells) =
-    issued_told is t h tells ∙ sym (counted_none (issued_at is) h (entry.Answered op (ServerError cause)) refl)
 
 -- what is issued in the other is issued in it
 pub issue_told : (told heard : List Entry) → Tells told heard → (op : OpId) (proxy : ℕ) (q : Request) (place : ℕ) → At heard place (entry.Issued op proxy q)
