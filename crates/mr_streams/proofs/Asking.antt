@@ -159,7 +159,8 @@ issue_streams w t p reading l front' links' asked m home clock legs accepted cor
           known (m.legal p l home) told_both own (λ i c k. record { old = c; there = k; like = same_like c }) flows;
     }
 
-all_from : {X : Type 0} (P : X → Type 0) (xs : List X) → ((i : ℕ) (x : X) → slice_get xs i ≡ Some x → P x) → AllByRecursion P xs
+-- what is known of each
+pub all_from : {X : Type 0} (P : X → Type 0) (xs : List X) → ((i : ℕ) (x : X) → slice_get xs i ≡ Some x → P x) → AllByRecursion P xs
 all_from P [] h = tt
 all_from P (x ∷ xs) h = (h 0 x refl, all_from P xs (λ i y e. h (suc i) y e))
 

@@ -62,7 +62,7 @@ module _ (laws : SheetLaws) (w : WorldView) (s : StreamsView) (p place : ℕ) (l
       ∙ ap (λ x. record s { loops = x; connections = map (left_if_down p same) s.connections; history = s.history ++ gains }) (sym (set-set s.loops p l1 same)))
       (runs_behind w [] [] s1 (with_loop p same s1) first.run is)
 
-takes_held : (piece : List ℕ) (old new : Inbox) → TakesPiece piece old new → new.held ≡ old.held
+pub takes_held : (piece : List ℕ) (old new : Inbox) → TakesPiece piece old new → new.held ≡ old.held
 takes_held piece old new (inl takes) = ap (λ (i : Inbox). i.held) takes.3
 takes_held piece old new (inr takes) = ap (λ (i : Inbox). i.held) takes.2
 

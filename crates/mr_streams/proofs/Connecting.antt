@@ -50,7 +50,7 @@ not_both a b x y e same other =
     cc
 
 -- a connection over that link is left, and any other stays
-over_or_not : (P : Connection → Type 0) (p link : ℕ) (c : Connection) → P (record c { is_left = true }) → ((c.proxy ≡ p → c.link ≢ link) → P c) → P (left_over p link c)
+pub over_or_not : (P : Connection → Type 0) (p link : ℕ) (c : Connection) → P (record c { is_left = true }) → ((c.proxy ≡ p → c.link ≢ link) → P c) → P (left_over p link c)
 over_or_not P p link c gone stays = over_if ((c.proxy == p) && (c.link == link)) P c (λ e. gone) (λ e. stays (not_both c.proxy c.link p link e))
 
 left_like : (c : Connection) → IsLike c (record c { is_left = true })

@@ -280,18 +280,18 @@ serve_all laws by [] messages deliveries w number reading name old new going byt
 }
 serve_all laws by (exchange ∷ exchanges) messages deliveries w number reading name old new going bytes more heard ws wr there kept asks spells requests =
     let cut = subst (λ b. AreRequests messages number going b) (ap (λ b. b ++ more) spells.3 ∙ append_assoc spells.0 spells.1 more) requests in
-    let is = first_exchange laws messages number going exchange spells.0 (spells.1 ++ more) spells.2 cut in
+    let is = first_exchange laws (IsGoing messages number) (λ sent holds. holds.valid) going exchange spells.0 (spells.1 ++ more) spells.2 cut.texts cut.sent in
     let command : NodeCommand = is.sent.leg.command in
     let once = asked_so reading old asks.0 exchange command is.told is.asks asks.1 in
-    let done = performed_for command old asks.0 reading once.0 is.told is.going.valid kept once.1 once.2 in
+    let done = performed_for command old asks.0 reading once.0 is.told is.holds.valid kept once.1 once.2 in
     let gained : List Entry = stored_by by exchange in
     let later : List Entry = flat_map (stored_by by) exchanges in
-    let first = serve_one by messages deliveries w number reading name old asks.0 is.sent is.told heard gained ws wr there is.going done.performs
+    let first = serve_one by messages deliveries w number reading name old asks.0 is.sent is.told heard gained ws wr there is.holds done.performs
     (ap (λ x. stored_by by x) is.asks) in
     let so = first.so in
     let there' : At so.world.nodes number (holding name asks.0) = subst (λ n. At n number (holding name asks.0)) (sym so.nodes) (at_written (holding name asks.0) there) in
     let next = serve_all laws by exchanges messages (deliveries ++ so.more) so.world number reading name asks.0 new is.later spells.1 more (heard ++ gained)
-    (so.sent ∙ ws) (so.replies ∙ ap (λ r. r ++ so.more) wr) there' done.kept asks.2 spells.4 is.requests in
+    (so.sent ∙ ws) (so.replies ∙ ap (λ r. r ++ so.more) wr) there' done.kept asks.2 spells.4 (record { texts = is.texts; sent = is.all }) in
     let told : text_of_exchange exchange ≡ canonical_reply is.told = ap text_of_exchange is.asks ∙ text_told command is.told in
     let all = append_assoc deliveries so.more next.so.more in
     record {

@@ -1,10 +1,10 @@
 -- What becomes due to the client of a place by events of its loop.
-use Rattle.std.proofs.Common.{◌≡◌, ℕ, ◌==◌, ◌&&◌, inl, inr, Bool, true, false, List, [], ◌∷◌, ◌++◌, length, map, slice_get, slice_set, get_or, position, Option, Some, None, if◌then◌else◌, refl, sym, ap, ◌∙◌, subst, append_assoc, eqb-true, eq-eqb, ne_eqb}
+use Rattle.std.proofs.Common.{◌≡◌, ℕ, ◌==◌, inl, inr, Bool, true, false, List, [], ◌∷◌, ◌++◌, length, map, slice_get, slice_set, get_or, position, Option, Some, None, if◌then◌else◌, refl, sym, ap, ◌∙◌, subst, append_assoc, eq-eqb, ne_eqb}
 use Rattle.std.proofs.lemmas.List.{append-nil, map-append, map-set, length-set}
 use Rattle.std.proofs.lemmas.List.Quantifiers.{position-Some}
 use Rattle.std.proofs.lemmas.Option.{slice_get-get_or}
 use Rattle.mr_text.specs.declared.reply.Reply.{Reply}
-use Rattle.mr_history.specs.OpIds.{is_same_op}
+use Rattle.mr_history.proofs.TestLemmas.{same_op}
 use Rattle.mr_history.specs.Places.{At}
 use Rattle.mr_history.specs.declared.entry.Entry.{Entry}
 use Rattle.mr_history.specs.declared.op_id.OpId.{OpId}
@@ -28,20 +28,8 @@ use Rattle.mr_loop.specs.declared.turns.Turn.TheVariants.{Waits, Answered, Says}
 use Rattle.mr_streams.proofs.Lists.{at_set, at_mapped, written_back, same_or_not}
 use Rattle.mr_streams.proofs.Origins.{HasOrigins, EventIsAsked, AreAsked, all_happen}
 
-and_both : (a b : Bool) → (a && b) ≡ true → (a ≡ true) × (b ≡ true)
-and_both true b e = (refl, e)
-and_both false b e = absurd (let never : false ≡ true = e in cc)
-
-same_ops : (a b : OpId) → is_same_op a b ≡ true → a ≡ b
-same_ops a b e =
-    let first = and_both ((a.proxy == b.proxy) && (a.incarnation == b.incarnation)) (a.number == b.number) e in
-    let second = and_both (a.proxy == b.proxy) (a.incarnation == b.incarnation) first.0 in
-    ap (λ x. record a { proxy = x }) (eqb-true a.proxy b.proxy second.0)
-    ∙ ap (λ x. record { proxy = b.proxy; incarnation = x; number = a.number }) (eqb-true a.incarnation b.incarnation second.1)
-    ∙ ap (λ x. record { proxy = b.proxy; incarnation = b.incarnation; number = x }) (eqb-true a.number b.number first.1)
-
 turn_due : (op : OpId) (turn : Turn) → is_turn_of op turn ≡ true → due_of_turn turn ≡ Due.Op op
-turn_due op (Waits own) e = ap (λ o. Due.Op o) (same_ops own op e)
+turn_due op (Waits own) e = ap (λ o. Due.Op o) (same_op own op e)
 turn_due op (Answered answer) e = absurd (let never : false ≡ true = e in cc)
 turn_due op (Says reply) e = absurd (let never : false ≡ true = e in cc)
 

@@ -22,8 +22,7 @@ use Rattle.mr_node.specs.declared.ended.Ended.TheVariants as how
 use Rattle.mr_proxy.specs.NodeRequests.{request_for}
 use Rattle.mr_loop.specs.declared.sent_legs.SentLeg.{SentLeg}
 use Rattle.mr_loop.specs.node.Serving.{AsksOnce, AsksInOrder, EndsThere}
-use Rattle.mr_world.specs.declared.message.Message.{Message}
-use Rattle.mr_streams.specs.Flows.{IsError, IsGoing, AreRequests, text_of_leg}
+use Rattle.mr_streams.specs.Flows.{IsError, text_of_leg}
 use Rattle.mr_streams.specs.StreamsView.{node_does}
 use Rattle.mr_streams.proofs.Spellings.{ArePrefixFree, one_spelling, some_bytes}
 
@@ -67,46 +66,37 @@ spells_all bytes exchanges ReadsExchanges.begins = refl
 spells_all bytes exchanges (ReadsExchanges.reads {bytes = front} {exchanges = before} spelling exchange earlier one) =
     spells_behind front spelling before exchange (spells_all front before earlier) one
 
--- what is read first is the request of the first leg
-pub record IsFirst (messages : List Message) (node : ℕ) (legs : List SentLeg) (exchange : Exchange) (after : List ℕ) : Type 0 where
+-- what is read first is the request of the first leg, where this holds for each leg
+pub record IsFirst (Holds : SentLeg → Type 0) (legs : List SentLeg) (exchange : Exchange) (after : List ℕ) : Type 0 where
   pub sent : SentLeg
   pub later : List SentLeg
   pub told : Reply
   pub legs_are : legs ≡ sent ∷ later
   pub asks : exchange ≡ Asked (request_for sent.leg.command) told
-  pub going : IsGoing messages node sent
-  pub requests : AreRequests messages node later after
+  pub texts : after ≡ flat_map text_of_leg later
+  pub holds : Holds sent
+  pub all : AllByRecursion Holds later
 
 no_skip : RequestLaws → (bytes x : List ℕ) → SpellsExchange bytes Unknown → RefusesRequest (UnknownCommand false) (bytes ++ x)
 no_skip laws bytes x one = (laws.skips (bytes ++ x)).0 (x, record { words = one.0; line = bytes; splits = refl; is_line = one.1; unknown = one.2 })
 
-first_by : RequestLaws → (messages : List Message) (node : ℕ) (legs : List SentLeg) (exchange : Exchange) (spelling after : List ℕ)
-    → SpellsExchange spelling exchange → spelling ++ after ≡ flat_map text_of_leg legs → AllByRecursion (IsGoing messages node) legs → IsFirst messages node legs exchange after
-first_by laws messages node [] (Asked request told) spelling after one e all =
+-- so it is where each leg has a text that can be read
+pub first_exchange : RequestLaws → (Holds : SentLeg → Type 0) → ((sent : SentLeg) → Holds sent → IsValidRequest (request_for sent.leg.command))
+    → (legs : List SentLeg) (exchange : Exchange) (spelling after : List ℕ)
+    → SpellsExchange spelling exchange → spelling ++ after ≡ flat_map text_of_leg legs → AllByRecursion Holds legs → IsFirst Holds legs exchange after
+first_exchange laws Holds valid [] (Asked request told) spelling after one e all =
     let some : canonical_request Quit ≢ [] = λ h. cc in
     absurd (some_bytes SpellsRequest laws.free spelling (canonical_request Quit) after request Quit one.0 (laws.reads Quit tt) some e)
-first_by laws messages node [] Unknown spelling after one e all =
+first_exchange laws Holds valid [] Unknown spelling after one e all =
     absurd (laws.unfinished.not_refused (UnknownCommand false) (subst (λ b. RefusesRequest (UnknownCommand false) b) e (no_skip laws spelling after one)))
-first_by laws messages node (sent ∷ later) (Asked request told) spelling after one e all =
+first_exchange laws Holds valid (sent ∷ later) (Asked request told) spelling after one e all =
     let is = one_spelling SpellsRequest laws.free spelling (text_of_leg sent) after (flat_map text_of_leg later) request (request_for sent.leg.command)
-    one.0 (laws.reads (request_for sent.leg.command) all.0.valid) e in
-    record {
-      sent = sent;
-      later = later;
-      told = told;
-      legs_are = refl;
-      asks = ap (λ r. Asked r told) is.0;
-      going = all.0;
-      requests = record { texts = is.1; sent = all.1 };
-    }
-first_by laws messages node (sent ∷ later) Unknown spelling after one e all =
+    one.0 (laws.reads (request_for sent.leg.command) (valid sent all.0)) e in
+    record { sent = sent; later = later; told = told; legs_are = refl; asks = ap (λ r. Asked r told) is.0; texts = is.1; holds = all.0; all = all.1 }
+first_exchange laws Holds valid (sent ∷ later) Unknown spelling after one e all =
     absurd (laws.unrefused (text_of_leg sent) (flat_map text_of_leg later) (request_for sent.leg.command) (UnknownCommand false)
-    (laws.reads (request_for sent.leg.command) all.0.valid)
+    (laws.reads (request_for sent.leg.command) (valid sent all.0))
     (subst (λ b. RefusesRequest (UnknownCommand false) b) e (no_skip laws spelling after one)))
-
-pub first_exchange : RequestLaws → (messages : List Message) (node : ℕ) (legs : List SentLeg) (exchange : Exchange) (spelling after : List ℕ)
-    → SpellsExchange spelling exchange → AreRequests messages node legs (spelling ++ after) → IsFirst messages node legs exchange after
-first_exchange laws messages node legs exchange spelling after one requests = first_by laws messages node legs exchange spelling after one requests.texts requests.sent
 
 -- what is written for the request of a leg
 pub text_told : (command : NodeCommand) (told : Reply) → text_of_exchange (Asked (request_for command) told) ≡ canonical_reply told

@@ -8,7 +8,7 @@ use Rattle.mr_history.specs.Places.{At}
 use Rattle.mr_history.specs.declared.entry.Entry.{Entry}
 use Rattle.mr_loop.specs.Asking.{Asking, AsksOn, DoesAll}
 use Rattle.mr_loop.specs.Events.{FrontView}
-use Rattle.mr_loop.specs.LoopView.{LoopView, ClientBytes, asker_of}
+use Rattle.mr_loop.specs.LoopView.{LoopView, asker_of}
 use Rattle.mr_loop.specs.Runs.{Due, due_of_turn, due}
 use Rattle.mr_loop.specs.Ticking.{ticks}
 use Rattle.mr_loop.specs.Turns.{fresh_client}
@@ -18,11 +18,9 @@ use Rattle.mr_loop.specs.declared.client.Client.{Client}
 use Rattle.mr_counting.specs.declared.client_counts.ClientCounts.{ClientCounts}
 use Rattle.mr_loop.specs.declared.inbox.Inbox.{Inbox}
 use Rattle.mr_loop.specs.declared.link.Link.{Link}
-use Rattle.mr_world.specs.Setup.{SetupView}
 use Rattle.mr_streams.specs.Entries.{issued_by, issued_in}
-use Rattle.mr_streams.specs.Headline.{Starts}
 use Rattle.mr_streams.specs.Issuing.{IsIssuedBy, BecomesDue, RequestsAreIssuedAsTheyCome, all_due}
-use Rattle.mr_streams.specs.Steps.{ProxyDoes, StreamsStep, StreamsRun}
+use Rattle.mr_streams.specs.Steps.{ProxyDoes, StreamsStep}
 use Rattle.mr_streams.specs.StreamsView.{StreamsView, Visit, fresh_visit}
 use Rattle.mr_streams.proofs.Dues.{Grew, GrewAt, StaysDue, all_grew, grew_none, grew_on, quiet_stays, quiet_ticks, stays_breaks, stays_to}
 use Rattle.mr_streams.proofs.Hearing.{done_due}

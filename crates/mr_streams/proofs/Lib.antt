@@ -10,6 +10,7 @@ mod Exchanges
 mod Delivering
 mod Serving
 mod Mirrors
+mod Owing
 mod Changing
 mod LoopMoves
 mod LoopEvents
@@ -28,6 +29,7 @@ mod Firsts
 mod Failing
 mod Thinning
 mod Safety
+mod Acknowledging
 mod Origins
 mod Dues
 mod Reading
@@ -36,3 +38,8 @@ mod HearingEvents
 mod Flushing
 mod Beginning
 mod Issuing
+mod OwingLinks
+mod OwingAsks
+mod OwingNodes
+mod OwingEvents
+mod Convicting

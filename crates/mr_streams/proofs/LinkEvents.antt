@@ -49,6 +49,11 @@ elsewhere_same links node place link' other = λ old new h k was is.
           (ap (λ (x : Link). x.legs) (sym one), ap (λ (x : Link). x.reader.kept) (sym one), ap (λ (x : Link). x.out) (sym one)))
     ]
 
+-- no link is up once a proxy restarts
+pub restarted_same : (loop : LoopView) (place : ℕ) → IsSameLink loop.links (fresh_loop (after_restart loop.front.core) loop.limits).links place
+restarted_same loop place = λ link new a b was up.
+    absurd (let no : false ≡ true = ap (λ (x : Link). x.is_up) (sym (at_replicate (nodes_of (after_restart loop.front.core).routing) (down_link no_link_counts) b)) ∙ up in cc)
+
 -- a proxy restarts
 pub restarted : (w : WorldView) (s : StreamsView) (p : ℕ) (loop : LoopView) → MirrorsStreams w s → At s.loops p loop → loop.front.core.incarnation ≢ 2 ^ 64 - 1
     → RunsTo w [] (with_loop p (fresh_loop (after_restart loop.front.core) loop.limits) s)
@@ -66,7 +71,7 @@ restarted w s p loop m home not_last =
     (λ i c k. (let old = at_map (left_if_down p explicit) s.connections k in
     subst (λ x. FlowsOf w.sent w.replies (slice_set (lines_of s.loops) p explicit.links) (seats_of s.nodes) x) (sym old.2)
     (moved_flow w.sent w.replies (lines_of s.loops) (seats_of s.nodes) p loop explicit old.0 (at_mapped (λ (l : LoopView). l.links) home) (m.mirrors.flows i old.0 old.1)
-    (λ here same. λ link new a b was up. absurd (let no : false ≡ true = ap (λ (x : Link). x.is_up) (sym (at_replicate (nodes_of core.routing) down b)) ∙ up in cc))))) in
+    (λ here same. restarted_same loop old.0.link)))) in
     record {
       world = world;
       happened = FleetEvent.Happens (event.ProxyRestart p) ∷ [];

@@ -1,5 +1,5 @@
 -- What happens to a proxy's loop beside its clients: a dial, a break, a tick, a restart, a place, and what a client hears.
-use Rattle.std.proofs.Common.{◌≡◌, ◌≢◌, ℕ, suc, inl, inr, Bool, true, false, List, [], ◌∷◌, ◌++◌, slice_get, slice_set, drop, Option, Some, None, if◌then◌else◌, refl, sym, ap, ◌∙◌, subst}
+use Rattle.std.proofs.Common.{◌≡◌, ◌≢◌, ℕ, suc, inl, inr, Bool, true, false, List, [], ◌∷◌, ◌++◌, map, slice_get, slice_set, drop, Option, Some, None, if◌then◌else◌, refl, sym, ap, ◌∙◌, subst}
 use Rattle.mr_history.specs.Places.{At}
 use Rattle.mr_history.specs.declared.entry.Entry.{Entry}
 use Rattle.mr_loop.specs.Counts.{dial_counted}
@@ -64,6 +64,12 @@ front_same w number front front' there same known = record {
 to_loop : (w : WorldView) (s : StreamsView) (p : ℕ) (loop' explicit : LoopView) → loop' ≡ explicit → RunsTo w [] (with_loop p explicit s) → RunsTo w [] (with_loop p loop' s)
 to_loop w s p loop' explicit f h = runs_in w [] (with_loop p explicit s) (with_loop p loop' s) (ap (λ x. with_loop p x s) f) h
 
+-- a dial leaves the links as they were
+pub dialed_same : (link : ℕ) (loop loop' : LoopView) → LinkDialed link loop loop' → (place : ℕ) → IsSameLink loop.links loop'.links place
+dialed_same link loop loop' l place =
+    subst (λ x. IsSameLink loop.links x place) (sym (ap (λ (x : LoopView). x.links) l.becomes))
+    (others_same loop.links link place l.link (record l.link { counts = dial_counted l.link.counts }) (record { gets = l.there }) (λ was is. (refl, refl, refl)))
+
 pub dialed : (w : WorldView) (s : StreamsView) (p link : ℕ) (loop loop' : LoopView) → MirrorsStreams w s → At s.loops p loop → LinkDialed link loop loop' → RunsTo w [] (with_loop p loop' s)
 dialed w s p link loop loop' m home l =
     let there : At loop.links link l.link = record { gets = l.there } in
@@ -73,6 +79,13 @@ dialed w s p link loop loop' m home l =
     (moves_quietly w s p loop explicit m home (front_stays w p loop.front (core_there w s p loop m home)) (m.legal p loop home)
     (own_set p loop.links link new (own_links w s p loop m home) (own_links w s p loop m home link l.link there))
     (λ place. others_same loop.links link place l.link new there (λ was is. (refl, refl, refl))))
+
+-- so does a link that breaks, but for itself
+pub broken_same : (link now : ℕ) (loop loop' : LoopView) → LinkBreaks link now loop loop' → (place : ℕ) → IsSameLink loop.links loop'.links place
+broken_same link now loop loop' l place =
+    let down : l.link'.is_up ≡ false = ap (λ (x : Link). x.is_up) l.breaks.down in
+    subst (λ x. IsSameLink loop.links x place) (sym (ap (λ (x : LoopView). x.links) l.becomes))
+    (others_same loop.links link place l.link l.link' (record { gets = l.there }) (λ was is. absurd (let no : false ≡ true = sym down ∙ is in cc)))
 
 pub broken : (w : WorldView) (s : StreamsView) (p link now : ℕ) (loop loop' : LoopView) → MirrorsStreams w s → At s.loops p loop → LinkBreaks link now loop loop' → RunsTo w [] (with_loop p loop' s)
 broken w s p link now loop loop' m home l =
@@ -125,6 +138,15 @@ ticked_same : (late : Bool) (bound now : ℕ) (link down : Link) → down.is_up 
 ticked_same true bound now link down is up = absurd (let no : false ≡ true = sym is ∙ up in cc)
 ticked_same false bound now link down is up = refl
 
+-- links that stay up at a tick are as they were
+pub ticked_all_same : (bound now : ℕ) (links : List Link) (place : ℕ) → IsSameLink links (map (ticked bound now) links) place
+ticked_all_same bound now links place = λ old new a k was is.
+    let from = at_map (ticked bound now) links k in
+    let one : from.0 ≡ old = at_one from.1 a in
+    let up : (ticked bound now from.0).is_up ≡ true = ap (λ (x : Link). x.is_up) (sym from.2) ∙ is in
+    let same : new ≡ old = from.2 ∙ ticked_same (is_late bound now from.0) bound now from.0 (down_link (after_break now from.0)) refl up ∙ one in
+    (ap (λ (x : Link). x.legs) same, ap (λ (x : Link). x.reader.kept) same, ap (λ (x : Link). x.out) same)
+
 ticked_own : (late : Bool) (p : ℕ) (link down : Link) → down.legs ≡ [] → AreOf p link.legs → AreOf p (if late then down else link).legs
 ticked_own true p link down none own = subst (λ x. AreOf p x) (sym none) tt
 ticked_own false p link down none own = own
@@ -136,12 +158,7 @@ tick w s p now loop m home =
     moves_quietly w s p loop (after_tick now loop) m home (tick_run bound now loop.links w p loop.front (core_there w s p loop m home) own) (m.legal p loop home)
     (λ place link k. (let old = at_map (ticked bound now) loop.links k in
     subst (λ (x : Link). AreOf p x.legs) (sym old.2) (ticked_own (is_late bound now old.0) p old.0 (down_link (after_break now old.0)) refl (own place old.0 old.1))))
-    (λ place old new a k was is. (
-    let from = at_map (ticked bound now) loop.links k in
-    let one : from.0 ≡ old = at_one from.1 a in
-    let up : (ticked bound now from.0).is_up ≡ true = ap (λ (x : Link). x.is_up) (sym from.2) ∙ is in
-    let same : new ≡ old = from.2 ∙ ticked_same (is_late bound now from.0) bound now from.0 (down_link (after_break now from.0)) refl up ∙ one in
-    (ap (λ (x : Link). x.legs) same, ap (λ (x : Link). x.reader.kept) same, ap (λ (x : Link). x.out) same)))
+    (ticked_all_same bound now loop.links)
 
 legal_set : (inboxes : List Inbox) (place : ℕ) → AreLegal inboxes → AreLegal (slice_set inboxes place fresh_inbox)
 legal_set inboxes place legal = λ n inbox h. elim (at_set inboxes place fresh_inbox h) [

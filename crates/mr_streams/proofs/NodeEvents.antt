@@ -1,6 +1,6 @@
 -- What happens on the node's side of connections, and to clocks.
-use Rattle.std.proofs.Common.{◌≡◌, ◌≢◌, ℕ, ◌<◌, ◌==◌, ◌⊎◌, inl, inr, Bool, true, false, ◌||◌, IsTrue, List, [], ◌∷◌, ◌++◌, map, slice_get, slice_set, drop, length, Some, None, if◌then◌else◌, refl, sym, ap, ◌∙◌, subst, append_assoc, eqb-true}
-use Rattle.std.proofs.lemmas.Bool.{eqb-false}
+use Rattle.std.proofs.Common.{◌≡◌, ◌≢◌, ℕ, ◌<◌, ◌==◌, ◌⊎◌, inl, inr, Bool, true, false, List, [], ◌∷◌, ◌++◌, map, slice_get, slice_set, drop, length, Some, None, if◌then◌else◌, refl, sym, ap, ◌∙◌, subst, append_assoc, eqb-true}
+use Rattle.std.proofs.lemmas.Bool.{eqb-false, or_cases}
 use Rattle.std.proofs.lemmas.List.{append-nil, drop_at, map-set, length-map}
 use Rattle.mr_clock.specs.Readings.{Tick, readings_after}
 use Rattle.mr_history.specs.Places.{At}
@@ -35,7 +35,7 @@ use Rattle.mr_streams.proofs.Exchanges.{RequestLaws}
 use Rattle.mr_streams.proofs.Lists.{at_map, at_mapped, at_set, at_one, at_left, at_written, at_elsewhere, same_or_not, written_back}
 use Rattle.mr_streams.proofs.LoopMoves.{flows_in, runs_in, no_gains}
 use Rattle.mr_streams.proofs.Mirrors.{Mirrors, MirrorsStreams, FlowsOf, IsOpen, ReadsOn, RunsTo, lines_of, seats_of, flows_on_seats, flows_still}
-use Rattle.mr_streams.proofs.Serving.{served}
+use Rattle.mr_streams.proofs.Serving.{empty_both, served}
 
 -- streams with another node and other connections
 abbrev pub with_node_parts : StreamsView → ℕ → NodeEnd → NodeView CacheView → List Connection → List Entry → StreamsView
@@ -368,20 +368,12 @@ module _ (laws : RequestLaws) (w : WorldView) (s : StreamsView) (number place no
             (λ j x a. flows_later w.sent w.sent w.replies deliveries so.more (lines_of s.loops) (seats_of s.nodes) x refl refl (m.mirrors.flows j x a)) flow i d k));
       }
 
-empty_both : (xs ys : List ℕ) → xs ++ ys ≡ [] → (xs ≡ []) × (ys ≡ [])
-empty_both [] ys e = (refl, e)
-empty_both (x ∷ xs) ys e = absurd (let no : x ∷ (xs ++ ys) ≡ [] = e in cc)
-
-takes_done : (piece : List ℕ) (old new : Inbox) → TakesPiece piece old new → new.is_done ≡ old.is_done
+pub takes_done : (piece : List ℕ) (old new : Inbox) → TakesPiece piece old new → new.is_done ≡ old.is_done
 takes_done piece old new (inl takes) = ap (λ (i : Inbox). i.is_done) takes.3
 takes_done piece old new (inr takes) = ap (λ (i : Inbox). i.is_done) takes.2
 
-or_cases : (a b : Bool) → IsTrue (a || b) → (a ≡ true) ⊎ (b ≡ true)
-or_cases true b h = inl refl
-or_cases false b h = inr h
-
 -- nothing of the piece is lost to a client that reads on
-takes_all : (piece rest : List ℕ) (was : NodeClient) (fed : Inbox) (c : Connection) → TakesPiece piece was.inbox fed → c.forth ≡ piece ++ rest → ReadsOn was c
+pub takes_all : (piece rest : List ℕ) (was : NodeClient) (fed : Inbox) (c : Connection) → TakesPiece piece was.inbox fed → c.forth ≡ piece ++ rest → ReadsOn was c
     → (fed.reader.kept ≡ was.inbox.reader.kept ++ piece) × (fed.reader.ended ≡ was.inbox.reader.ended)
 takes_all piece rest was fed c (inl takes) splits r = (takes.0.stands, takes.0.is_ended ∙ sym takes.2)
 takes_all piece rest was fed c (inr takes) splits r =
@@ -432,7 +424,7 @@ gains_place w s n end m home =
     (λ same place is client there. at_left (fresh_node_client ∷ []) there) (m.mirrors.flows i c k))
 
 -- the node's end of a connection is gone
-abbrev without_node : Connection → Connection
+abbrev pub without_node : Connection → Connection
 without_node c = record c { place = None; forth = [] }
 
 without_flow : (messages : List Message) (deliveries : List Delivery) (lines : List (List Link)) (seats seats' : List (List NodeClient)) (c : Connection)
@@ -490,7 +482,7 @@ gone_if : (b : Bool) (P : Connection → Type 0) (n : ℕ) (c : Connection) → 
 gone_if true P n c gone stays = gone refl
 gone_if false P n c gone stays = stays refl
 
-gone_or_not : (P : Connection → Type 0) (n : ℕ) (c : Connection) → (c.node ≡ n → P (without_node c)) → (c.node ≢ n → P c) → P (gone_from n c)
+pub gone_or_not : (P : Connection → Type 0) (n : ℕ) (c : Connection) → (c.node ≡ n → P (without_node c)) → (c.node ≢ n → P c) → P (gone_from n c)
 gone_or_not P n c gone stays = gone_if (c.node == n) P n c (λ e. gone (eqb-true c.node n e)) (λ e. stays (eqb-false c.node n e))
 
 pub restarts_node : (w : WorldView) (s : StreamsView) (n : ℕ) (end : NodeEnd) → MirrorsStreams w s → At s.nodes n end

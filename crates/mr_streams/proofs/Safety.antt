@@ -19,7 +19,7 @@ use Rattle.mr_streams.proofs.Lists.{at_nothing}
 use Rattle.mr_streams.proofs.Telling.{told_safe}
 use Rattle.mr_streams.proofs.Thinning.{thin, thin_world, thin_run}
 
-thin_from : (number : ℕ) (proxies : List ProxySetup) → map thin (proxies_from number proxies) ≡ proxies_from number proxies
+pub thin_from : (number : ℕ) (proxies : List ProxySetup) → map thin (proxies_from number proxies) ≡ proxies_from number proxies
 thin_from number [] = refl
 thin_from number (proxy ∷ proxies) = ap (λ l. fresh_proxy number 0 proxy.routing proxy.schedule proxy.room ∷ l) (thin_from (number + 1) proxies)
 
@@ -43,7 +43,7 @@ fleet_safe headline setup start last events plans begins run same new_empty forw
     told_safe is.later last.history is.tells safe
 
 -- the world of a setup of which two premises hold
-begun_world : SetupView → WorldView
+pub begun_world : SetupView → WorldView
 begun_world setup = record {
   readings = readings_at_first (map (λ (proxy : ProxySetup). proxy.reading) setup.proxies);
   proxies = proxies_from 0 setup.proxies;
@@ -54,7 +54,7 @@ begun_world setup = record {
   terms = record { same = true; new_empty = true; least = least_interval_of setup.proxies };
 }
 
-world_begins : (setup : SetupView) → AllAlike setup.proxies → IsNewPoolEmpty setup → Begins setup (begun_world setup)
+pub world_begins : (setup : SetupView) → AllAlike setup.proxies → IsNewPoolEmpty setup → Begins setup (begun_world setup)
 unfolding begun_world
 world_begins setup same new_empty = record {
   readings = refl;

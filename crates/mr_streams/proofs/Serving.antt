@@ -22,9 +22,9 @@ use Rattle.mr_streams.specs.StreamsView.{node_does}
 use Rattle.mr_streams.proofs.Delivering.{ServedAll, serve_all, serves_nothing, replies_still, replies_both}
 use Rattle.mr_streams.proofs.Exchanges.{RequestLaws, IsLastWord, asks_all, spells_all, last_word}
 
-nothing_in_front : (xs ys : List ℕ) → xs ++ ys ≡ [] → xs ≡ []
-nothing_in_front [] ys e = refl
-nothing_in_front (x ∷ xs) ys e = absurd (let no : x ∷ (xs ++ ys) ≡ [] = e in cc)
+pub empty_both : (xs ys : List ℕ) → xs ++ ys ≡ [] → (xs ≡ []) × (ys ≡ [])
+empty_both [] ys e = (refl, e)
+empty_both (x ∷ xs) ys e = absurd (let no : x ∷ (xs ++ ys) ≡ [] = e in cc)
 
 -- the leg whose request stands first in bytes that are there
 record HasFirst (legs : List SentLeg) : Type 0 where
@@ -33,7 +33,7 @@ record HasFirst (legs : List SentLeg) : Type 0 where
   are : legs ≡ sent ∷ later
 
 first_of_some : (messages : List Message) (node : ℕ) (legs : List SentLeg) (rest later : List ℕ) → AreRequests messages node legs (rest ++ later) → rest ≢ [] → HasFirst legs
-first_of_some messages node [] rest later requests some = absurd (some (nothing_in_front rest later requests.texts))
+first_of_some messages node [] rest later requests some = absurd (some (empty_both rest later requests.texts).0)
 first_of_some messages node (sent ∷ legs) rest later requests some = record { sent = sent; later = legs; are = refl }
 
 one_reply : (messages : List Message) (deliveries : List Delivery) (sent : SentLeg) (reply : Reply) → WasAnswered messages deliveries sent reply → IsValidReply reply

@@ -1,6 +1,5 @@
 -- A history that is told of by a safe one is safe.
 use Rattle.std.proofs.Common.{◌≡◌, ◌≢◌, ℕ, ◌<◌, ◌==◌, inl, inr, Bool, true, false, List, [], ◌∷◌, ◌++◌, length, if◌then◌else◌, refl, sym, subst, arith, eq-eqb, ne_eqb}
-use Rattle.std.proofs.lemmas.Option.{slice_get_within}
 use Rattle.mr_text.specs.declared.cause.Cause.{Cause}
 use Rattle.mr_text.specs.declared.reply.Reply.{Reply}
 use Rattle.mr_text.specs.declared.reply.Reply.TheVariants.{Items, Stored as StoredReply, Deleted, NotFound, Error, ClientError, ServerError}
@@ -13,6 +12,7 @@ use Rattle.mr_history.specs.declared.entry.Entry.TheVariants.{Issued, Stored, Re
 use Rattle.mr_history.specs.declared.op_id.OpId.{OpId}
 use Rattle.mr_join.specs.Join.{Acknowledges}
 use Rattle.mr_phases.specs.declared.side.Side.{Side}
+use Rattle.mr_world.proofs.Lists.{at_within}
 use Rattle.mr_streams.specs.Flows.{IsError}
 use Rattle.mr_streams.specs.Refines.{Tells}
 use Rattle.mr_streams.proofs.Lists.{at_last, at_left, at_new}
@@ -40,9 +40,6 @@ record Follows (told heard : List Entry) : Type 0 where
   in_order : (answer issue : ℕ) → IsReply heard answer → IsIssue heard issue → answer < issue → to answer < to issue
   stored : (place : ℕ) (by : Author) (key : List ℕ) (flags : ℕ) (block : List ℕ) → At told place (Stored by key flags block)
       → (key_place : ℕ) × StoredThere heard to place key_place key flags block
-
-within : {X : Type 0} {xs : List X} {i : ℕ} {x : X} → At xs i x → i < length xs
-within {xs = xs} {i = i} {x = x} h = slice_get_within xs i x h.gets
 
 acknowledges_fine : (reply : Reply) → Acknowledges reply → IsError reply → ⊥
 acknowledges_fine (Items items) h e = e
@@ -122,21 +119,21 @@ follows_issue told heard op proxy request f =
     record {
       to = to;
       issued = λ place o n r h. elim (at_last heard new h) [
-        | inl was ↦ subst (λ k. At (told ++ new ∷ []) k (Issued o n r)) (sym (old place (within was))) (at_left (new ∷ []) (f.issued place o n r was))
+        | inl was ↦ subst (λ k. At (told ++ new ∷ []) k (Issued o n r)) (sym (old place (at_within was))) (at_left (new ∷ []) (f.issued place o n r was))
         | inr is ↦ subst (λ x. At (told ++ new ∷ []) (to place) x) (sym is.1)
             (subst (λ k. At (told ++ new ∷ []) k new) (sym (extended_new f.to last (length told) place is.0)) (at_new told new))
       ];
       answered = λ place o r h fine. elim (at_last heard new h) [
-        | inl was ↦ subst (λ k. At (told ++ new ∷ []) k (Answered o r)) (sym (old place (within was))) (at_left (new ∷ []) (f.answered place o r was fine))
+        | inl was ↦ subst (λ k. At (told ++ new ∷ []) k (Answered o r)) (sym (old place (at_within was))) (at_left (new ∷ []) (f.answered place o r was fine))
         | inr is ↦ absurd (let no : Answered o r ≡ Issued op proxy request = is.1 in cc)
       ];
       in_order = λ answer issue a i l. elim (at_last heard new a.2) [
         | inl was ↦ (
-            let a_old : to answer ≡ f.to answer = old answer (within was) in
-            let a_below : f.to answer < length told = within (f.answered answer a.0 a.1 was a.3) in
+            let a_old : to answer ≡ f.to answer = old answer (at_within was) in
+            let a_below : f.to answer < length told = at_within (f.answered answer a.0 a.1 was a.3) in
             elim (at_last heard new i.3) [
               | inl was_issue ↦ (
-                  let i_old : to issue ≡ f.to issue = old issue (within was_issue) in
+                  let i_old : to issue ≡ f.to issue = old issue (at_within was_issue) in
                   let order = f.in_order answer issue (a.0, a.1, was, a.3) (i.0, i.1, i.2, was_issue) l in
                   omega arith)
               | inr is ↦ (let i_new : to issue ≡ length told = extended_new f.to last (length told) issue is.0 in omega arith)
@@ -146,20 +143,20 @@ follows_issue told heard op proxy request f =
       stored = λ place by key flags block h. elim (at_last told new h) [
         | inl was ↦ (
             let s = f.stored place by key flags block was in
-            let below : s.0 < last = within s.1.there in (
+            let below : s.0 < last = at_within s.1.there in (
               s.0,
               record {
                 by = s.1.by;
                 there = at_left (new ∷ []) s.1.there;
                 before = λ answer a l. elim (at_last heard new a.2) [
-                  | inl was_answer ↦ s.1.before answer (a.0, a.1, was_answer, a.3) (let a_old : to answer ≡ f.to answer = old answer (within was_answer) in omega arith)
+                  | inl was_answer ↦ s.1.before answer (a.0, a.1, was_answer, a.3) (let a_old : to answer ≡ f.to answer = old answer (at_within was_answer) in omega arith)
                   | inr is ↦ absurd (let no : Answered a.0 a.1 ≡ Issued op proxy request = is.1 in cc)
                 ];
                 after = λ issue i l. elim (at_last heard new i.3) [
-                  | inl was_issue ↦ s.1.after issue (i.0, i.1, i.2, was_issue) (let i_old : to issue ≡ f.to issue = old issue (within was_issue) in omega arith)
+                  | inl was_issue ↦ s.1.after issue (i.0, i.1, i.2, was_issue) (let i_old : to issue ≡ f.to issue = old issue (at_within was_issue) in omega arith)
                   | inr is ↦ absurd (
                       let i_new : to issue ≡ length told = extended_new f.to last (length told) issue is.0 in
-                      let place_below : place < length told = within was in
+                      let place_below : place < length told = at_within was in
                       omega arith)
                 ];
               },
@@ -221,11 +218,11 @@ follows_stored told heard by other key flags block f =
                 by = other;
                 there = there;
                 before = λ answer a l. elim (at_last heard heard_new a.2) [
-                  | inl was_answer ↦ absurd (let below : f.to answer < length told = within (f.answered answer a.0 a.1 was_answer a.3) in let last = is.0 in omega arith)
+                  | inl was_answer ↦ absurd (let below : f.to answer < length told = at_within (f.answered answer a.0 a.1 was_answer a.3) in let last = is.0 in omega arith)
                   | inr wrong ↦ absurd (let never : Answered a.0 a.1 ≡ Stored other key flags block = wrong.1 in cc)
                 ];
                 after = λ issue i l. elim (at_last heard heard_new i.3) [
-                  | inl was_issue ↦ within was_issue
+                  | inl was_issue ↦ at_within was_issue
                   | inr wrong ↦ absurd (let never : Issued i.0 i.1 i.2 ≡ Stored other key flags block = wrong.1 in cc)
                 ];
               },
@@ -256,20 +253,20 @@ follows_answer told heard op reply from there f =
     record {
       to = to;
       issued = λ place o n r h. elim (at_last heard new h) [
-        | inl was ↦ subst (λ k. At told k (Issued o n r)) (sym (old place (within was))) (f.issued place o n r was)
+        | inl was ↦ subst (λ k. At told k (Issued o n r)) (sym (old place (at_within was))) (f.issued place o n r was)
         | inr is ↦ absurd (let no : Issued o n r ≡ Answered op reply = is.1 in cc)
       ];
       answered = λ place o r h fine. elim (at_last heard new h) [
-        | inl was ↦ subst (λ k. At told k (Answered o r)) (sym (old place (within was))) (f.answered place o r was fine)
+        | inl was ↦ subst (λ k. At told k (Answered o r)) (sym (old place (at_within was))) (f.answered place o r was fine)
         | inr is ↦ subst (λ x. At told (to place) x) (sym is.1) (subst (λ k. At told k new) (sym (extended_new f.to last from place is.0)) there)
       ];
       in_order = λ answer issue a i l. elim (at_last heard new i.3) [
         | inl was_issue ↦ (
-            let i_below : issue < last = within was_issue in
+            let i_below : issue < last = at_within was_issue in
             let i_old : to issue ≡ f.to issue = old issue i_below in
             elim (at_last heard new a.2) [
               | inl was ↦ (
-                  let a_old : to answer ≡ f.to answer = old answer (within was) in
+                  let a_old : to answer ≡ f.to answer = old answer (at_within was) in
                   let order = f.in_order answer issue (a.0, a.1, was, a.3) (i.0, i.1, i.2, was_issue) l in
                   omega arith)
               | inr is ↦ absurd (let late = is.0 in omega arith)
@@ -278,17 +275,17 @@ follows_answer told heard op reply from there f =
       ];
       stored = λ place b k g d h. (
           let s = f.stored place b k g d h in
-          let below : s.0 < last = within s.1.there in (
+          let below : s.0 < last = at_within s.1.there in (
             s.0,
             record {
               by = s.1.by;
               there = at_left (new ∷ []) s.1.there;
               before = λ answer a l. elim (at_last heard new a.2) [
-                | inl was_answer ↦ s.1.before answer (a.0, a.1, was_answer, a.3) (let a_old : to answer ≡ f.to answer = old answer (within was_answer) in omega arith)
+                | inl was_answer ↦ s.1.before answer (a.0, a.1, was_answer, a.3) (let a_old : to answer ≡ f.to answer = old answer (at_within was_answer) in omega arith)
                 | inr is ↦ (let late = is.0 in omega arith)
               ];
               after = λ issue i l. elim (at_last heard new i.3) [
-                | inl was_issue ↦ s.1.after issue (i.0, i.1, i.2, was_issue) (let i_old : to issue ≡ f.to issue = old issue (within was_issue) in omega arith)
+                | inl was_issue ↦ s.1.after issue (i.0, i.1, i.2, was_issue) (let i_old : to issue ≡ f.to issue = old issue (at_within was_issue) in omega arith)
                 | inr is ↦ absurd (let no : Issued i.0 i.1 i.2 ≡ Answered op reply = is.1 in cc)
               ];
             },

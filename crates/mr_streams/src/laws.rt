@@ -1,6 +1,6 @@
 //! What holds of a fleet as streams of bytes.
 ghost use Rattle.mr_streams.specs.Beginning.{SetupsStart};
-ghost use Rattle.mr_streams.specs.Canary.{NoCanaryConvicts};
+ghost use Rattle.mr_streams.specs.Canary.{NoCanaryConvicts, SetsArePerformedOnce};
 ghost use Rattle.mr_streams.specs.Flushing.{FlushesPutTexts};
 ghost use Rattle.mr_streams.specs.Halves.{BytesAreSafe, ClientsAreServed};
 ghost use Rattle.mr_streams.specs.Headline.{HeadlineOverBytes};
@@ -11,13 +11,16 @@ ghost use Rattle.mr_streams.specs.Refines.{RefinesWorld};
 
 use mr_canary::laws::no_false_alarm;
 use mr_phases::laws::hop_within;
-use mr_proxy::laws::sheets_say;
+use mr_proxy::laws::{fresh_is_sound, sheets_say};
 use mr_text::laws::{
     canonical_reply_is_read, canonical_request_is_read, no_request_is_refused,
     nothing_is_unfinished, replies_are_prefix_free, requests_are_prefix_free,
     skipped_lines_are_refused,
 };
 use mr_world::headline::headline;
+use mr_world::laws::{
+    setups_begin_faithful, setups_begin_tracked, steps_keep_faithful, steps_keep_tracked,
+};
 
 /// Whatever bytes come over a link, in whatever pieces: each reply is that of its leg, and what the core makes of them is some
 /// events of the world, in which a leg may fail.
@@ -95,12 +98,35 @@ pub fn headline_over_bytes()
     clients_are_served();
 }
 
+/// Each leg of a set is performed at most once, before the set is answered. Whatever happens to streams while the four premises hold: where
+/// each value is that of one set, no node stores it any more once that set was answered with STORED.
+pub fn sets_are_performed_once()
+    ensures { SetsArePerformedOnce }
+{
+    streams_refine_the_world();
+    replies_are_prefix_free();
+    canonical_reply_is_read();
+    requests_are_prefix_free();
+    canonical_request_is_read();
+    no_request_is_refused();
+    skipped_lines_are_refused();
+    nothing_is_unfinished();
+    sheets_say();
+    hop_within();
+    fresh_is_sound();
+    setups_begin_tracked();
+    setups_begin_faithful();
+    steps_keep_tracked();
+    steps_keep_faithful();
+}
+
 /// A canary's conviction is no false alarm. Whatever happens to streams while the four premises hold: where each value is that of one set,
-/// which no node performs once it was answered with STORED, no hit convicts in what clients note of what they were told.
+/// no hit convicts in what clients note of what they were told.
 pub fn no_canary_convicts()
     ensures { NoCanaryConvicts }
 {
     bytes_are_safe();
+    sets_are_performed_once();
     no_false_alarm();
 }
 
