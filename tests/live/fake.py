@@ -45,9 +45,9 @@ class Link:
 class FakeNode:
     """A node that serves each connection by a function of its link, in a thread of its own."""
 
-    def __init__(self, talk, host="127.0.0.1", port=0):
+    def __init__(self, talk, host="127.0.0.1", port=0, listener=None):
         self.talk = talk
-        self.listener = socket.create_server((host, port), backlog=128)
+        self.listener = listener or socket.create_server((host, port), backlog=128)
         self.address = "%s:%d" % (host, self.listener.getsockname()[1])
         self.links = []
         threading.Thread(target=self.accept, daemon=True).start()
@@ -110,6 +110,14 @@ class FullQueue:
             self.sockets.append(waiting)
             waiting.setblocking(False)
             waiting.connect_ex(name)
+
+    def serve(self, talk):
+        """From now on it is a node there that serves each connection by a function of its link."""
+        listener, *waiting = self.sockets
+        self.sockets = []
+        for it in waiting:
+            it.close()
+        return FakeNode(talk, listener=listener)
 
     def close(self):
         """Keeps the address no longer."""

@@ -14,7 +14,7 @@ from cases.silence import check_took
 from cases.watching import INTERVAL, PHASES, Watched, found, watch
 from children import CHILDREN
 from client import DELETED, ERROR, MISS, NOT_FOUND, PATIENCE, STORED, hits
-from fake import FakeNode
+from fake import FakeNode, FullQueue
 from fleet import Fleet
 from moments import within
 from placing import place_of
@@ -424,6 +424,21 @@ def a_canary_waits_for_a_proxy_to_come():
         begun = time.monotonic()
         check("what it says", (1, [], b"migctl: net %s\n" % places[0].encode()), canary(fleet, config, *places))
         check_took("it ended", begun, 4.9, 12)
+
+
+@case(waits=True)
+def a_canary_dials_anew_where_a_dial_has_no_answer():
+    """Five seconds after it dialled: so it doesn't wait as long as the system would, whose pauses grow."""
+    with Fleet() as fleet:
+        memory, full = Memory(), fleet.keep(FullQueue())
+        here, = fakes(fleet, memory, 1)
+        words = ["canary", "--config", unasked(fleet), "--seconds", "11", full.address, here]
+        child = fleet.start_command(*words, stdin=subprocess.DEVNULL)
+        time.sleep(7.5)
+        fleet.keep(full.serve(memory.serve))
+        flight = Flight(child.communicate(timeout=PATIENCE)[0].decode().splitlines())
+        check("its status, and errors", (0, {}), (child.returncode, flight.errors()))
+        check_true("that it asked the one that answered no dial at first", memory.at(full.address))
 
 
 def asked_beside(fleet, memory, talk, *words):
