@@ -432,9 +432,9 @@ def a_canary_dials_anew_where_a_dial_has_no_answer():
     with Fleet() as fleet:
         memory, full = Memory(), fleet.keep(FullQueue())
         here, = fakes(fleet, memory, 1)
-        words = ["canary", "--config", unasked(fleet), "--seconds", "11", full.address, here]
+        words = ["canary", "--config", unasked(fleet), "--seconds", "14", full.address, here]
         child = fleet.start_command(*words, stdin=subprocess.DEVNULL)
-        time.sleep(7.5)
+        time.sleep(12.3)  # the system would try again behind the end
         fleet.keep(full.serve(memory.serve))
         flight = Flight(child.communicate(timeout=PATIENCE)[0].decode().splitlines())
         check("its status, and errors", (0, {}), (child.returncode, flight.errors()))
