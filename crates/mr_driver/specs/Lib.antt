@@ -1,5 +1,6 @@
 -- What the driver's pure helpers answer.
 pub mod Flow
+pub mod Going
 pub mod Hearing
 pub mod Loads
 pub mod Machines

@@ -77,7 +77,8 @@ impl<'a, R: Net + Clock, E: Hears, M: Drop> Engine<'a, R, E, M> {
         timing: Timing,
         machine: M,
     ) -> Engine<'a, R, E, M>
-        ensures { result.now ≡ 0 }
+        ensures now { result.now ≡ 0 }
+        ensures machine { result.machine ≡ machine }
     {
         Engine {
             rt,
@@ -96,7 +97,9 @@ impl<'a, R: Net + Clock, E: Hears, M: Drop> Engine<'a, R, E, M> {
     }
 
     /// It is as late as the clock says, and never earlier than it was. Whether the clock said anything.
-    pub(crate) fn move_on(&mut self) -> bool {
+    pub(crate) fn move_on(&mut self) -> bool
+        ensures { self.new.machine ≡ self.old.machine }
+    {
         match self.clocks.microseconds() {
             Some(now) => {
                 self.now = self.now.max(now);
@@ -116,7 +119,9 @@ impl<'a, R: Net + Clock, E: Hears, M: Drop> Engine<'a, R, E, M> {
         pace: &mut Pace,
         events: &mut Events,
         waits: Waits,
-    ) -> io::Result<()> {
+    ) -> io::Result<()>
+        ensures { self.new.machine ≡ self.old.machine }
+    {
         let has_more = waits.is_busy || events.iter().len() >= EVENTS;
         self.poll.poll(events, waits.patience(self.now))?;
         let _ = self.move_on();

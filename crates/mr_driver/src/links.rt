@@ -1,5 +1,8 @@
 //! The links of a machine, on sockets.
+#![tactic(auto, using(crate::proofs::GoingLemmas::stays, crate::proofs::GoingLemmas::once, crate::proofs::GoingLemmas::through))]
+
 ghost use Rattle.std.specs.Prelude.{◌≡◌, ◌+◌, ◌<◌, ◌≤◌, length};
+ghost use Rattle.mr_driver.specs.Going.{GoesOn};
 
 use crate::engine::Engine;
 use crate::flow::Signs;
@@ -63,7 +66,9 @@ impl Links {
         machine: &mut M,
         number: usize,
         now: u64,
-    ) -> io::Result<()> {
+    ) -> io::Result<()>
+        ensures { GoesOn M.link_steps machine.old machine.new }
+    {
         let Some(link) = self.links.get_mut(number) else {
             return Ok(());
         };
@@ -80,7 +85,9 @@ impl Links {
         rt: &R,
         registry: &Registry,
         machine: &mut M,
-    ) {
+    )
+        ensures { GoesOn M.link_steps machine.old machine.new }
+    {
         for number in 0..self.links.len() {
             let _ = self.dial(rt, registry, machine, number, 0);
         }
@@ -130,7 +137,9 @@ impl Links {
         engine: &mut Engine<'_, R, E, M>,
         number: usize,
         trouble: LinkTrouble,
-    ) {
+    )
+        ensures { GoesOn M.link_steps engine.old.machine engine.new.machine }
+    {
         if number < engine.machine.links() {
             engine.machine.on_link_broken(number, engine.now);
         }
@@ -142,7 +151,9 @@ impl Links {
         &mut self,
         engine: &mut Engine<'_, R, E, M>,
         number: usize,
-    ) {
+    )
+        ensures { GoesOn M.link_steps engine.old.machine engine.new.machine }
+    {
         let Some(link) = self.links.get_mut(number) else {
             return;
         };
@@ -175,7 +186,9 @@ impl Links {
         engine: &mut Engine<'_, R, E, M>,
         number: usize,
         input: &mut [u8],
-    ) {
+    )
+        ensures { GoesOn M.link_steps engine.old.machine engine.new.machine }
+    {
         let Some(link) = self.links.get_mut(number) else {
             return;
         };
@@ -202,7 +215,9 @@ impl Links {
         engine: &mut Engine<'_, R, E, M>,
         number: usize,
         bytes: &[u8],
-    ) {
+    )
+        ensures { GoesOn M.link_steps engine.old.machine engine.new.machine }
+    {
         if !bytes.is_empty() && number < engine.machine.links() {
             let end = engine.machine.on_link_bytes(number, engine.now, bytes);
             if let Some(trouble) = trouble_of(end) {
@@ -218,7 +233,9 @@ impl Links {
         &mut self,
         engine: &mut Engine<'_, R, E, M>,
         number: usize,
-    ) {
+    )
+        ensures { GoesOn M.link_steps engine.old.machine engine.new.machine }
+    {
         let Some(link) = self.links.get_mut(number) else {
             return;
         };
@@ -245,7 +262,9 @@ impl Links {
         &mut self,
         engine: &mut Engine<'_, R, E, M>,
         number: usize,
-    ) {
+    )
+        ensures { GoesOn M.link_steps engine.old.machine engine.new.machine }
+    {
         let is_due = match self.links.get(number) {
             Some(link) => link.is_due(engine.now),
             None => false,
@@ -273,7 +292,9 @@ impl Links {
         &mut self,
         engine: &mut Engine<'_, R, E, M>,
         number: usize,
-    ) {
+    )
+        ensures { GoesOn M.link_steps engine.old.machine engine.new.machine }
+    {
         let Some(link) = self.links.get(number) else {
             return;
         };
@@ -323,7 +344,9 @@ impl Links {
         engine: &mut Engine<'_, R, E, M>,
         number: usize,
         signs: Signs,
-    ) {
+    )
+        ensures { GoesOn M.link_steps engine.old.machine engine.new.machine }
+    {
         let Some(link) = self.links.get_mut(number) else {
             return;
         };
@@ -339,7 +362,9 @@ impl Links {
         &mut self,
         engine: &mut Engine<'_, R, E, M>,
         input: &mut [u8],
-    ) {
+    )
+        ensures { GoesOn M.link_steps engine.old.machine engine.new.machine }
+    {
         for _ in 0..self.ready.len() {
             if let Some(number) = self.ready.pop_front() {
                 self.read(engine, number, input);
@@ -351,7 +376,9 @@ impl Links {
     pub(crate) fn tick_all<R: Net + Clock, E: Hears, M: Linked>(
         &mut self,
         engine: &mut Engine<'_, R, E, M>,
-    ) {
+    )
+        ensures { GoesOn M.link_steps engine.old.machine engine.new.machine }
+    {
         let now = engine.now;
         engine.machine.on_tick(now);
         self.is_timed = false;
@@ -364,7 +391,9 @@ impl Links {
     pub(crate) fn write_all<R: Net + Clock, E: Hears, M: Linked>(
         &mut self,
         engine: &mut Engine<'_, R, E, M>,
-    ) {
+    )
+        ensures { GoesOn M.link_steps engine.old.machine engine.new.machine }
+    {
         for number in 0..self.links.len() {
             self.write(engine, number);
         }

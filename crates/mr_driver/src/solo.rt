@@ -1,5 +1,9 @@
 //! A loop of links alone, which its caller's own thread drives.
+#![tactic(auto, using(crate::proofs::GoingLemmas::stays, crate::proofs::GoingLemmas::once, crate::proofs::GoingLemmas::through))]
+
 ghost use Rattle.std.specs.Prelude.{◌≡◌, ◌≤◌, OnOk, IfOk};
+ghost use Rattle.std.specs.Borrow.{sem};
+ghost use Rattle.mr_driver.specs.Going.{GoesOn};
 
 use crate::engine::{Engine, Timing, room_of_turns};
 use crate::flow::signs_of;
@@ -54,7 +58,9 @@ impl<'a, R: Net + Clock, M: Linked> LinkLoop<'a, R, M> {
     }
 
     /// Something happened.
-    fn note(&mut self, event: &Event) {
+    fn note(&mut self, event: &Event)
+        ensures { GoesOn M.link_steps self.old.engine.machine self.new.engine.machine }
+    {
         if let Origin::Link(number) = origin_of(self.links.count(), event.token().0) {
             self.links.note(&mut self.engine, number, signs_of(event));
         }
@@ -62,7 +68,9 @@ impl<'a, R: Net + Clock, M: Linked> LinkLoop<'a, R, M> {
 
     /// Waits for what happens, until a moment at the latest, and notes it. What the caller did since the last turn took time too: the
     /// wait is shorter by that, and late where that was long.
-    fn wait(&mut self, events: &mut Events, moment: u64) -> io::Result<()> {
+    fn wait(&mut self, events: &mut Events, moment: u64) -> io::Result<()>
+        ensures { GoesOn M.link_steps self.old.engine.machine self.new.engine.machine }
+    {
         let waits = self.waits().by(moment);
         if !self.engine.move_on() {
             return Err(io::Error::from(io::ErrorKind::Other));
@@ -75,7 +83,9 @@ impl<'a, R: Net + Clock, M: Linked> LinkLoop<'a, R, M> {
     }
 
     /// Waits, until a moment at the latest, and does what follows from what has happened. What came counts before the time does.
-    fn turn(&mut self, events: &mut Events, input: &mut [u8], moment: u64) -> io::Result<()> {
+    fn turn(&mut self, events: &mut Events, input: &mut [u8], moment: u64) -> io::Result<()>
+        ensures { GoesOn M.link_steps self.old.engine.machine self.new.engine.machine }
+    {
         self.wait(events, moment)?;
         self.links.read_all(&mut self.engine, input);
         if self
@@ -115,6 +125,8 @@ impl<'a, R: Net + Clock, M: Linked> Model for Solo<'a, R, M> {
 }
 
 impl<'a, R: Net + Clock, M: Linked> Solo<'a, R, M> {
+    ghost use Rattle.mr_driver.specs.Solo.{LendsMachine};
+
     /// A loop of a machine, each link of which is dialled: the nodes are those of its links, in their order, by their addresses. One
     /// without an address is never dialled. A node may leave a dial unanswered for so many milliseconds, or as long as it likes where
     /// these are 0; one that does, that can't be reached, or to which a link broke, is dialled again after a pause (`next_pause`). The
@@ -127,7 +139,8 @@ impl<'a, R: Net + Clock, M: Linked> Solo<'a, R, M> {
         dial_millis: u64,
         watch: &'a ClockWatch,
     ) -> io::Result<Solo<'a, R, M>>
-        ensures { IfOk result (λ s. s.now ≡ 0) }
+        ensures now { IfOk result (λ s. s.now ≡ 0) }
+        ensures machine { IfOk result (λ s. GoesOn M.link_steps machine s.machine) }
     {
         let poll = Poll::new(rt)?;
         let (events, input) = room_of_turns(alloc)?;
@@ -155,7 +168,8 @@ impl<'a, R: Net + Clock, M: Linked> Solo<'a, R, M> {
     pub fn drive_until(&mut self, micros: u64) -> io::Result<()>
     where
         R: Wait,
-        ensures { OnOk result (micros ≤ self.new.now) }
+        ensures moment { OnOk result (micros ≤ self.new.now) }
+        ensures machine { GoesOn M.link_steps self.old.machine self.new.machine }
     {
         let rt = self.turns.engine.rt;
         for _ in rt.forever() {
@@ -184,7 +198,8 @@ impl<'a, R: Net + Clock, M: Linked> Solo<'a, R, M> {
 
     /// The machine, which may be changed between turns. What it wants to send then goes with the next one.
     pub fn machine_mut(&mut self) -> &mut M
-        ensures { result.now ≡ self.old.machine }
+        ensures* lends { sem 𝓛 (LendsMachine R.row M.row self.entry result) }
+        ensures machine { result.now ≡ self.old.machine }
     {
         &mut self.turns.engine.machine
     }

@@ -4,7 +4,9 @@ use Rattle.std.specs.Prelude.{⊤}
 use Rattle.mr_counting.specs.Counting.{one_more}
 use Rattle.mr_configs.specs.Config.{ConfigView}
 use Rattle.mr_flights.specs.Faults.{fault_of_opening}
-use Rattle.mr_flights.specs.Flight.{AreAll, FliesConfig, FliesOut, FliesSeconds, HasFlown, HasShown, StopsBetween, WritesEnding, all_shown, is_over, most_of, scene_by, verdict_of}
+use Rattle.mr_driver.specs.Going.{GoesOn}
+use Rattle.mr_flights.specs.Flight.{AreAll, FliesConfig, FliesOut, FliesSeconds, HasBegun, HasCleaned, HasFlown, HasShown, StopsBetween, WritesEnding, all_shown, is_over, most_of, scene_by, verdict_of}
+use Rattle.mr_flights.specs.Flock.{CanaryStep}
 use Rattle.mr_flights.specs.Log.{LogView, Sights, fresh_log, is_migrated, log_of, with_second}
 use Rattle.mr_flights.specs.Scene.{SceneView}
 use Rattle.mr_flights.specs.Seeing.{HasSeen, IsSight, WritesSecond}
@@ -14,7 +16,7 @@ use Rattle.mr_flights.specs.declared.fault.FlightFault.{FlightFault}
 use Rattle.mr_flights.specs.declared.fault.FlightFault.TheVariants.{Memory, Write, NoNumber, BadPrefix, Net}
 use Rattle.mr_flights.specs.declared.showing.Manner.{Manner}
 use Rattle.mr_phases.specs.Schedule.{Hop}
-use Rattle.mr_probes.specs.CanaryView.{CanaryView}
+use Rattle.mr_probes.specs.CanaryView.{CanaryView, begun_cleaning}
 use Rattle.mr_sightings.specs.declared.second.Second.{Second}
 use Rattle.mr_sightings.specs.declared.verdict.Verdict.{Verdict}
 use Rattle.mr_text.proofs.Writes.{written_none, written_then}
@@ -26,10 +28,12 @@ use Rattle.mr_words.specs.declared.canary_words.CanaryValues.{CanaryValues}
 use Rattle.mr_words.specs.declared.canary_words.Span.{Span}
 use Rattle.mr_words.specs.declared.canary_words.Span.TheVariants.{Seconds, UntilMigrated}
 
--- So many seconds were written so far, and are kept, and the flight goes on behind them.
-pub record IsUnderway (manner : Manner) (span : Span) (scene : SceneView) (log : LogView) (begin : SinkView) (number : ℕ) (now : SinkView) : Type 0 where
+-- So many seconds of a canary were written so far, and are kept, and the flight goes on behind them.
+pub record IsUnderway
+    (manner : Manner) (span : Span) (scene : SceneView) (first : CanaryView) (log : LogView) (last : CanaryView) (begin : SinkView) (number : ℕ) (now : SinkView)
+    : Type 0 where
   pub sights : Sights
-  pub shown : HasShown manner scene sights begin now
+  pub shown : HasShown manner scene first sights last begin now
   pub kept : log ≡ log_of scene.hops sights
   pub count : length sights ≡ number
   pub waits : is_over span log ≡ false
@@ -38,11 +42,11 @@ goes_on : (span : Span) → is_over span fresh_log ≡ false
 goes_on (Seconds seconds) = refl
 goes_on UntilMigrated = refl
 
-pub underway_at_first : (manner : Manner) (span : Span) (scene : SceneView) (log : LogView) (w : SinkView) → log ≡ fresh_log
-    → IsUnderway manner span scene log w 0 w
-underway_at_first manner span scene log w fresh = record {
+pub underway_at_first : (manner : Manner) (span : Span) (scene : SceneView) (first : CanaryView) (log : LogView) (w : SinkView) → log ≡ fresh_log
+    → IsUnderway manner span scene first log first w 0 w
+underway_at_first manner span scene first log w fresh = record {
   sights = [];
-  shown = record { are_sights = tt; writes = written_none w };
+  shown = record { are_sights = refl; writes = written_none w };
   kept = fresh;
   count = refl;
   waits = subst (λ (l : LogView). is_over span l ≡ false) (sym fresh) (goes_on span);
@@ -68,14 +72,12 @@ ten_now before after step waits over = go (nat_le 10 before) refl
         omega arith
 
 -- one second more
-module _ (manner : Manner) (span : Span) (scene : SceneView) (log after : LogView) (begin mid new : SinkView) (number at : ℕ) (canary left : CanaryView)
-    (u : IsUnderway manner span scene log begin number mid) (s : HasSeen manner scene at canary left log after mid new) where
-  shown_more : HasShown manner scene (s.sight ∷ u.sights) begin new
+module _ (manner : Manner) (span : Span) (scene : SceneView) (first : CanaryView) (log after : LogView) (last : CanaryView) (begin mid new : SinkView)
+    (number at : ℕ) (canary left : CanaryView) (u : IsUnderway manner span scene first log last begin number mid) (w : GoesOn CanaryStep last canary)
+    (s : HasSeen manner scene at canary left log after mid new) where
+  shown_more : HasShown manner scene first (s.sight ∷ u.sights) left begin new
   shown_more = record {
-    are_sights = (
-      u.shown.are_sights,
-      (canary, subst (λ (l : LogView). IsSight scene l.came_back canary s.sight) u.kept s.is_sight),
-    );
+    are_sights = (last, canary, u.shown.are_sights, w, subst (λ (l : LogView). IsSight scene l.came_back canary s.sight) u.kept s.is_sight, s.anew);
     writes = written_then (all_shown manner u.sights) (shown manner s.sight) begin mid new u.shown.writes s.writes;
   }
 
@@ -83,7 +85,7 @@ module _ (manner : Manner) (span : Span) (scene : SceneView) (log after : LogVie
   kept_more = s.kept ∙ ap (with_second scene.hops s.sight.second) u.kept
 
   -- the flight goes on
-  pub underway_more : is_over span after ≡ false → IsUnderway manner span scene after begin (number + 1) new
+  pub underway_more : is_over span after ≡ false → IsUnderway manner span scene first after left begin (number + 1) new
   underway_more waits = record {
     sights = s.sight ∷ u.sights;
     shown = shown_more;
@@ -100,7 +102,7 @@ module _ (manner : Manner) (span : Span) (scene : SceneView) (log after : LogVie
       subst (λ (l : LogView). l.migrated ≤ log.migrated + 1) (sym s.kept) (migrated_step scene.hops s.sight.second log) in
       inl (sym (ap (λ (l : LogView). l.migrated) kept_more) ∙ ten_now log.migrated after.migrated step waits over)
 
-  pub flown_early : is_over span after ≡ true → HasFlown manner span scene after begin new
+  pub flown_early : is_over span after ≡ true → HasFlown manner span scene first after left begin new
   flown_early over = record { sights = s.sight ∷ u.sights; shown = shown_more; all = over_all span u.waits over; kept = kept_more }
 
 -- there are as many seconds as there may be
@@ -108,9 +110,9 @@ most_all : (span : Span) (scene : SceneView) (sights : Sights) → length sights
 most_all (Seconds seconds) scene sights count = count
 most_all UntilMigrated scene sights count = inr count
 
-pub flown_all : (manner : Manner) (span : Span) (scene : SceneView) (log : LogView) (begin new : SinkView) (number : ℕ)
-    → IsUnderway manner span scene log begin number new → number ≡ most_of span → HasFlown manner span scene log begin new
-flown_all manner span scene log begin new number u all =
+pub flown_all : (manner : Manner) (span : Span) (scene : SceneView) (first : CanaryView) (log : LogView) (last : CanaryView) (begin new : SinkView) (number : ℕ)
+    → IsUnderway manner span scene first log last begin number new → number ≡ most_of span → HasFlown manner span scene first log last begin new
+flown_all manner span scene first log last begin new number u all =
     record { sights = u.sights; shown = u.shown; all = most_all span scene u.sights (u.count ∙ all); kept = u.kept }
 
 -- what holds of a fault holds of a result that is it
@@ -120,61 +122,71 @@ failed_so holds (Ok value) failed is of_failed = absurd is
 failed_so holds (Err other) failed is of_failed = subst (λ (f : FlightFault). holds (Err f)) (sym is) of_failed
 
 -- nothing more was written than the seconds so far
-pub stops_between : (manner : Manner) (span : Span) (scene : SceneView) (log : LogView) (begin mid new : SinkView) (number : ℕ)
-    → IsUnderway manner span scene log begin number mid → new ≡ mid → StopsBetween manner scene begin new
-stops_between manner span scene log begin mid new number u same =
-    record { sights = u.sights; shown = subst (λ (w : SinkView). HasShown manner scene u.sights begin w) (sym same) u.shown }
+pub stops_between : (manner : Manner) (span : Span) (scene : SceneView) (first : CanaryView) (log : LogView) (last : CanaryView) (begin mid new : SinkView)
+    (number : ℕ) → IsUnderway manner span scene first log last begin number mid → new ≡ mid → StopsBetween manner scene first begin new
+stops_between manner span scene first log last begin mid new number u same = record {
+  sights = u.sights;
+  last = last;
+  shown = subst (λ (w : SinkView). HasShown manner scene first u.sights last begin w) (sym same) u.shown;
+}
 
 -- the loop couldn't be driven, which is passed on
-pub drive_failed : (manner : Manner) (span : Span) (scene : SceneView) (log final : LogView) (begin mid : SinkView) (number : ℕ) (failed : FlightFault)
-    (result : Result (Unit {0}) FlightFault) → IsErrAnd result (λ other. other ≡ failed) → failed ≡ Net
-    → IsUnderway manner span scene log begin number mid → FliesSeconds manner span scene final begin result mid
-drive_failed manner span scene log final begin mid number failed result is net u =
-    failed_so (λ (r : Result (Unit {0}) FlightFault). FliesSeconds manner span scene final begin r mid) result failed is
-    (subst (λ (f : FlightFault). FliesSeconds manner span scene final begin (Err f) mid) (sym net)
-    (stops_between manner span scene log begin mid mid number u refl))
+pub drive_failed : (manner : Manner) (span : Span) (scene : SceneView) (first : CanaryView) (log final : LogView) (last left : CanaryView)
+    (begin mid : SinkView) (number : ℕ) (failed : FlightFault) (result : Result (Unit {0}) FlightFault) → IsErrAnd result (λ other. other ≡ failed) → failed ≡ Net
+    → IsUnderway manner span scene first log last begin number mid → FliesSeconds manner span scene first final left begin result mid
+drive_failed manner span scene first log final last left begin mid number failed result is net u =
+    failed_so (λ (r : Result (Unit {0}) FlightFault). FliesSeconds manner span scene first final left begin r mid) result failed is
+    (subst (λ (f : FlightFault). FliesSeconds manner span scene first final left begin (Err f) mid) (sym net)
+    (stops_between manner span scene first log last begin mid mid number u refl))
 
 -- a second that wasn't written, which is passed on
-pub second_failed : (manner : Manner) (span : Span) (scene : SceneView) (log after : LogView) (final : LogView) (begin mid new : SinkView) (number at : ℕ)
-    (canary left : CanaryView) (failed : FlightFault) (result : Result (Unit {0}) FlightFault) → IsErrAnd result (λ other. other ≡ failed)
-    → IsUnderway manner span scene log begin number mid → WritesSecond manner scene at canary left log after mid (Err failed) new
-    → FliesSeconds manner span scene final begin result new
-second_failed manner span scene log after final begin mid new number at canary left failed result is u wrote =
-    failed_so (λ (r : Result (Unit {0}) FlightFault). FliesSeconds manner span scene final begin r new) result failed is (passed failed wrote)
+pub second_failed : (manner : Manner) (span : Span) (scene : SceneView) (first : CanaryView) (log after final : LogView) (last behind : CanaryView)
+    (begin mid new : SinkView) (number at : ℕ) (canary left : CanaryView) (failed : FlightFault) (result : Result (Unit {0}) FlightFault)
+    → IsErrAnd result (λ other. other ≡ failed) → IsUnderway manner span scene first log last begin number mid
+    → WritesSecond manner scene at canary left log after mid (Err failed) new → FliesSeconds manner span scene first final behind begin result new
+second_failed manner span scene first log after final last behind begin mid new number at canary left failed result is u wrote =
+    failed_so (λ (r : Result (Unit {0}) FlightFault). FliesSeconds manner span scene first final behind begin r new) result failed is (passed failed wrote)
   where
     passed : (failed : FlightFault) → WritesSecond manner scene at canary left log after mid (Err failed) new
-        → FliesSeconds manner span scene final begin (Err failed) new
-    passed Write wrote = record { sights = u.sights; between = mid; shown = u.shown; text = wrote.0; fails = wrote.1 }
-    passed Memory wrote = stops_between manner span scene log begin mid new number u wrote
+        → FliesSeconds manner span scene first final behind begin (Err failed) new
+    passed Write wrote = record { sights = u.sights; last = last; between = mid; shown = u.shown; text = wrote.0; fails = wrote.1 }
+    passed Memory wrote = stops_between manner span scene first log last begin mid new number u wrote
     passed NoNumber wrote = absurd wrote
     passed BadPrefix wrote = absurd wrote
     passed Net wrote = absurd wrote
 
 -- the last second and the ending
-module _ (manner : Manner) (span : Span) (scene : SceneView) (log : LogView) (begin old : SinkView) (f : HasFlown manner span scene log begin old) where
+module _ (manner : Manner) (span : Span) (scene : SceneView) (first : CanaryView) (log : LogView) (before : CanaryView) (begin old : SinkView)
+    (f : HasFlown manner span scene first log before begin old) where
   -- the last second wasn't written
   pub last_failed : (after : LogView) (new : SinkView) (at : ℕ) (canary left : CanaryView) (failed : FlightFault) (result : Result Bool FlightFault)
       → IsErrAnd result (λ other. other ≡ failed) → WritesSecond manner scene at canary left log after old (Err failed) new
-      → FliesOut manner span scene begin result new
+      → FliesOut manner span scene first begin result new
   last_failed after new at canary left failed result is wrote =
-      failed_so (λ (r : Result Bool FlightFault). FliesOut manner span scene begin r new) result failed is (passed failed wrote)
+      failed_so (λ (r : Result Bool FlightFault). FliesOut manner span scene first begin r new) result failed is (passed failed wrote)
     where
       passed : (failed : FlightFault) → WritesSecond manner scene at canary left log after old (Err failed) new
-          → FliesOut manner span scene begin (Err failed) new
-      passed Write wrote = record { sights = f.sights; between = old; shown = f.shown; text = wrote.0; fails = wrote.1 }
-      passed Memory wrote = record { sights = f.sights; shown = subst (λ (w : SinkView). HasShown manner scene f.sights begin w) (sym wrote) f.shown }
+          → FliesOut manner span scene first begin (Err failed) new
+      passed Write wrote = inl (record { sights = f.sights; last = before; between = old; shown = f.shown; text = wrote.0; fails = wrote.1 })
+      passed Memory wrote = inl (record {
+        sights = f.sights;
+        last = before;
+        shown = subst (λ (w : SinkView). HasShown manner scene first f.sights before begin w) (sym wrote) f.shown;
+      })
       passed NoNumber wrote = absurd wrote
       passed BadPrefix wrote = absurd wrote
       passed Net wrote = absurd wrote
 
   -- it was, and this came of the ending
-  module _ (after : LogView) (mid new : SinkView) (at : ℕ) (canary left : CanaryView) (s : HasSeen manner scene at canary left log after old mid) where
-    last_shown : HasShown manner scene (s.sight ∷ f.sights) begin mid
-    last_shown = record {
-      are_sights = (
-        f.shown.are_sights,
-        (canary, subst (λ (l : LogView). IsSight scene l.came_back canary s.sight) f.kept s.is_sight),
-      );
+  module _ (after : LogView) (mid new : SinkView) (at : ℕ) (canary left : CanaryView) (w : GoesOn CanaryStep (begun_cleaning before) canary)
+      (s : HasSeen manner scene at canary left log after old mid) where
+    has_cleaned : HasCleaned manner span scene first f.sights s.sight canary begin mid
+    has_cleaned = record {
+      before = before;
+      are_sights = f.shown.are_sights;
+      all = f.all;
+      cleans = w;
+      is_last = subst (λ (l : LogView). IsSight scene l.came_back canary s.sight) f.kept s.is_sight;
       writes = written_then (all_shown manner f.sights) (shown manner s.sight) begin old mid f.shown.writes s.writes;
     }
 
@@ -186,24 +198,25 @@ module _ (manner : Manner) (span : Span) (scene : SceneView) (log : LogView) (be
     same_canary sound = subst (λ (c : CanaryView). WritesEnding manner scene c after mid (Ok sound) new → WritesEnding manner scene canary after mid (Ok sound) new)
         (sym s.anew) (λ e. (e.0, record { counted = e.1.counted; judged = e.1.judged }))
 
-    pub flight_ended : (result : Result Bool FlightFault) → WritesEnding manner scene left after mid result new → FliesOut manner span scene begin result new
+    pub flight_ended : (result : Result Bool FlightFault) → WritesEnding manner scene left after mid result new
+        → FliesOut manner span scene first begin result new
     flight_ended (Ok sound) wrote =
         let ended = same_canary sound wrote in
         let end : HasWritten (ending manner (log_of scene.hops (s.sight ∷ f.sights)).rows (verdict_of scene canary (log_of scene.hops (s.sight ∷ f.sights)))) mid new =
         subst (λ (l : LogView). HasWritten (ending manner l.rows (verdict_of scene canary l)) mid new) last_kept ended.0 in
-        record {
-          sights = f.sights;
-          last = s.sight;
-          canary = canary;
-          are_sights = f.shown.are_sights;
-          all = f.all;
-          is_last = subst (λ (l : LogView). IsSight scene l.came_back canary s.sight) f.kept s.is_sight;
-          writes = written_then (all_shown manner (s.sight ∷ f.sights)) _ begin mid new last_shown.writes end;
-          is_sound = ended.1;
-        }
-    flight_ended (Err Write) wrote = record { sights = s.sight ∷ f.sights; between = mid; shown = last_shown; text = wrote.0; fails = wrote.1 }
-    flight_ended (Err Memory) wrote =
-        record { sights = s.sight ∷ f.sights; shown = subst (λ (w : SinkView). HasShown manner scene (s.sight ∷ f.sights) begin w) (sym wrote) last_shown }
+        record { sights = f.sights; last = s.sight; canary = canary; between = mid; cleaned = has_cleaned; writes = end; is_sound = ended.1 }
+    flight_ended (Err Write) wrote = inr (record {
+      between = mid;
+      stops = record { sights = f.sights; last = s.sight; canary = canary; cleaned = has_cleaned };
+      text = wrote.0;
+      fails = wrote.1;
+    })
+    flight_ended (Err Memory) wrote = inr (record {
+      sights = f.sights;
+      last = s.sight;
+      canary = canary;
+      cleaned = subst (λ (w : SinkView). HasCleaned manner span scene first f.sights s.sight canary begin w) (sym wrote) has_cleaned;
+    })
     flight_ended (Err NoNumber) wrote = absurd wrote
     flight_ended (Err BadPrefix) wrote = absurd wrote
     flight_ended (Err Net) wrote = absurd wrote
@@ -218,31 +231,29 @@ pub same_verdict : (came_back requests proxies acknowledged left : ℕ) (came_ba
     → verdict_by came_back requests proxies acknowledged left ≡ verdict_by came_back' requests' proxies' acknowledged' left'
 same_verdict came_back requests proxies acknowledged left came_back' requests' proxies' acknowledged' left' c r p a l = rw (c, r, p, a, l) refl
 
--- nothing was written
-pub nothing_flown : (manner : Manner) (scene : SceneView) (w : SinkView) → StopsBetween manner scene w w
-nothing_flown manner scene w = record { sights = []; shown = record { are_sights = tt; writes = written_none w } }
-
 -- the seconds weren't all written, and that is passed on
-pub seconds_failed : (manner : Manner) (span : Span) (scene : SceneView) (log : LogView) (begin new : SinkView) (failed : FlightFault)
-    (result : Result Bool FlightFault) → IsErrAnd result (λ other. other ≡ failed) → FliesSeconds manner span scene log begin (Err failed) new
-    → FliesOut manner span scene begin result new
-seconds_failed manner span scene log begin new failed result is flew =
-    failed_so (λ (r : Result Bool FlightFault). FliesOut manner span scene begin r new) result failed is (passed failed flew)
+pub seconds_failed : (manner : Manner) (span : Span) (scene : SceneView) (first : CanaryView) (log : LogView) (last : CanaryView) (begin new : SinkView)
+    (failed : FlightFault) (result : Result Bool FlightFault) → IsErrAnd result (λ other. other ≡ failed)
+    → FliesSeconds manner span scene first log last begin (Err failed) new → FliesOut manner span scene first begin result new
+seconds_failed manner span scene first log last begin new failed result is flew =
+    failed_so (λ (r : Result Bool FlightFault). FliesOut manner span scene first begin r new) result failed is (passed failed flew)
   where
-    passed : (failed : FlightFault) → FliesSeconds manner span scene log begin (Err failed) new → FliesOut manner span scene begin (Err failed) new
-    passed Write flew = flew
-    passed Memory flew = flew
+    passed : (failed : FlightFault) → FliesSeconds manner span scene first log last begin (Err failed) new
+        → FliesOut manner span scene first begin (Err failed) new
+    passed Write flew = inl flew
+    passed Memory flew = inl flew
     passed Net flew = flew
     passed NoNumber flew = absurd flew
     passed BadPrefix flew = absurd flew
 
 -- the loop couldn't be driven while the keys were deleted, and that is passed on
-pub clean_failed : (manner : Manner) (span : Span) (scene : SceneView) (log : LogView) (begin new : SinkView) (failed : FlightFault)
-    (result : Result Bool FlightFault) → IsErrAnd result (λ other. other ≡ failed) → failed ≡ Net → HasFlown manner span scene log begin new
-    → FliesOut manner span scene begin result new
-clean_failed manner span scene log begin new failed result is net flown =
-    failed_so (λ (r : Result Bool FlightFault). FliesOut manner span scene begin r new) result failed is
-    (subst (λ (f : FlightFault). FliesOut manner span scene begin (Err f) new) (sym net) (record { sights = flown.sights; shown = flown.shown }))
+pub clean_failed : (manner : Manner) (span : Span) (scene : SceneView) (first : CanaryView) (log : LogView) (last : CanaryView) (begin new : SinkView)
+    (failed : FlightFault) (result : Result Bool FlightFault) → IsErrAnd result (λ other. other ≡ failed) → failed ≡ Net
+    → HasFlown manner span scene first log last begin new → FliesOut manner span scene first begin result new
+clean_failed manner span scene first log last begin new failed result is net flown =
+    failed_so (λ (r : Result Bool FlightFault). FliesOut manner span scene first begin r new) result failed is
+    (subst (λ (f : FlightFault). FliesOut manner span scene first begin (Err f) new) (sym net)
+    (record { sights = flown.sights; last = last; shown = flown.shown }))
 
 -- why nothing is flown at all, and nothing is written
 abbrev pub NeverFlies : FlightFault → Type 0
@@ -252,8 +263,8 @@ NeverFlies failed = ⊥
 
 module _ (values : CanaryValues) (screen : Screen) (config : ConfigView) (w : SinkView) where
   never : (failed : FlightFault) → NeverFlies failed → FliesConfig values screen config w (Err failed) w
-  never Memory why = (0, nothing_flown (manner_of values.json screen) (scene_by values config 0) w)
-  never Net why = (0, nothing_flown (manner_of values.json screen) (scene_by values config 0) w)
+  never Memory why = inl refl
+  never Net why = inl refl
   never Write why = absurd why
   never NoNumber why = absurd why
   never BadPrefix why = absurd why
@@ -292,19 +303,19 @@ module _ (values : CanaryValues) (screen : Screen) (config : ConfigView) (w : Si
       failed_so (λ (r : Result Bool FlightFault). FliesConfig values screen config w r w) result failed is (unmade run failed why)
 
 -- what a flight came to is what the canary comes to
-pub flown_out : (values : CanaryValues) (screen : Screen) (config : ConfigView) (manner : Manner) (scene : SceneView) (old new : SinkView)
-    (result : Result Bool FlightFault) → manner ≡ manner_of values.json screen → scene ≡ scene_by values config scene.begun
-    → FliesOut manner values.span scene old result new → FliesConfig values screen config old result new
-flown_out values screen config manner scene old new result same_manner same_scene flew =
+pub flown_out : (values : CanaryValues) (screen : Screen) (config : ConfigView) (manner : Manner) (scene : SceneView) (first : CanaryView)
+    (old new : SinkView) (result : Result Bool FlightFault) → manner ≡ manner_of values.json screen → scene ≡ scene_by values config scene.begun
+    → HasBegun values config first → FliesOut manner values.span scene first old result new → FliesConfig values screen config old result new
+flown_out values screen config manner scene first old new result same_manner same_scene has_begun flew =
     by_result result
-    (subst (λ (m : Manner). FliesOut m values.span (scene_by values config scene.begun) old result new) same_manner
-    (subst (λ (s : SceneView). FliesOut manner values.span s old result new) same_scene flew))
+    (subst (λ (m : Manner). FliesOut m values.span (scene_by values config scene.begun) first old result new) same_manner
+    (subst (λ (s : SceneView). FliesOut manner values.span s first old result new) same_scene flew))
   where
-    by_result : (result : Result Bool FlightFault) → FliesOut (manner_of values.json screen) values.span (scene_by values config scene.begun) old result new
+    by_result : (result : Result Bool FlightFault) → FliesOut (manner_of values.json screen) values.span (scene_by values config scene.begun) first old result new
         → FliesConfig values screen config old result new
-    by_result (Ok sound) flew = (scene.begun, flew)
-    by_result (Err Write) flew = (scene.begun, flew)
-    by_result (Err Memory) flew = (scene.begun, flew)
-    by_result (Err Net) flew = (scene.begun, flew)
+    by_result (Ok sound) flew = record { first = first; has_begun = has_begun; begun = scene.begun; flies = flew }
+    by_result (Err Write) flew = record { first = first; has_begun = has_begun; begun = scene.begun; flies = flew }
+    by_result (Err Memory) flew = inr (record { first = first; has_begun = has_begun; begun = scene.begun; flies = flew })
+    by_result (Err Net) flew = inr (record { first = first; has_begun = has_begun; begun = scene.begun; flies = flew })
     by_result (Err NoNumber) flew = absurd flew
     by_result (Err BadPrefix) flew = absurd flew

@@ -4,15 +4,18 @@ use Rattle.mr_canary.specs.Notes.{IsConvicted}
 use Rattle.mr_canary.specs.declared.note.Probe.{Probe}
 use Rattle.mr_configs.specs.Config.{ConfigView}
 use Rattle.mr_counting.specs.Counting.{sum_of}
+use Rattle.mr_driver.specs.Going.{GoesOn}
+use Rattle.mr_flights.specs.Flock.{CanaryStep}
 use Rattle.mr_flights.specs.Log.{LogView, Sights, log_of}
 use Rattle.mr_flights.specs.Scene.{SceneView}
-use Rattle.mr_flights.specs.Seeing.{FailsToWrite, IsSight}
+use Rattle.mr_flights.specs.Plans.{IsMade}
+use Rattle.mr_flights.specs.Seeing.{FailsToWrite, IsSight, without_second}
 use Rattle.mr_flights.specs.Showing.{ending, manner_of, shown}
 use Rattle.mr_flights.specs.declared.fault.FlightFault.{FlightFault}
 use Rattle.mr_flights.specs.declared.fault.FlightFault.TheVariants.{Memory, Write, NoNumber, BadPrefix, Net}
 use Rattle.mr_flights.specs.declared.showing.Manner.{Manner}
 use Rattle.mr_flights.specs.declared.showing.Sight.{Sight}
-use Rattle.mr_probes.specs.CanaryView.{CanaryView}
+use Rattle.mr_probes.specs.CanaryView.{CanaryView, begun_cleaning}
 use Rattle.mr_probes.specs.Naming.{key_text}
 use Rattle.mr_servers.specs.declared.screen.Screen.{Screen}
 use Rattle.mr_sightings.specs.declared.verdict.Verdict.{Verdict}
@@ -31,10 +34,13 @@ scene_by values config begun = record { proxies = proxies_in values; hops = conf
 abbrev pub told_by : SceneView → Sights → ℕ
 told_by scene sights = (log_of scene.hops sights).came_back
 
--- seconds, the last one first, each as it was seen of a canary
-abbrev pub AreSights : SceneView → Sights → Type 0
-AreSights scene [] = ⊤
-AreSights scene (sight ∷ earlier) = AreSights scene earlier × ((canary : CanaryView) × IsSight scene (told_by scene earlier) canary sight)
+-- Seconds of one canary, the last one first: how it was before the first and is behind the last. It goes on from each to the next, which is
+-- seen of it as it is then, and behind which it counts anew.
+abbrev pub AreSights : SceneView → CanaryView → Sights → CanaryView → Type 0
+AreSights scene first [] last = last ≡ first
+AreSights scene first (sight ∷ earlier) last =
+    (before : CanaryView) × (canary : CanaryView) × AreSights scene first earlier before × GoesOn CanaryStep before canary
+    × IsSight scene (told_by scene earlier) canary sight × (last ≡ without_second canary)
 
 -- what is written of them, one behind the other
 abbrev pub all_shown : Manner → Sights → List ℕ
@@ -66,38 +72,40 @@ abbrev pub AreAll : Span → SceneView → Sights → Type 0
 AreAll (Seconds seconds) scene sights = length sights ≡ seconds
 AreAll UntilMigrated scene sights = ((log_of scene.hops sights).migrated ≡ 10) ⊎ (length sights ≡ most_seconds)
 
--- seconds were seen and written, and nothing else
-pub record HasShown (manner : Manner) (scene : SceneView) (sights : Sights) (old new : SinkView) : Type 0 where
-  pub are_sights : AreSights scene sights
+-- seconds of a canary were seen and written, and nothing else
+pub record HasShown (manner : Manner) (scene : SceneView) (first : CanaryView) (sights : Sights) (last : CanaryView) (old new : SinkView) : Type 0 where
+  pub are_sights : AreSights scene first sights last
   pub writes : HasWritten (all_shown manner sights) old new
 
 -- seconds were written, and stay
-pub record StopsBetween (manner : Manner) (scene : SceneView) (old new : SinkView) : Type 0 where
+pub record StopsBetween (manner : Manner) (scene : SceneView) (first : CanaryView) (old new : SinkView) : Type 0 where
   pub sights : Sights
-  pub shown : HasShown manner scene sights old new
+  pub last : CanaryView
+  pub shown : HasShown manner scene first sights last old new
 
 -- seconds were written, and stay, and then one call that was to write a text failed
-pub record StopsBehind (manner : Manner) (scene : SceneView) (old new : SinkView) : Type 0 where
+pub record StopsBehind (manner : Manner) (scene : SceneView) (first : CanaryView) (old new : SinkView) : Type 0 where
   pub sights : Sights
+  pub last : CanaryView
   pub between : SinkView
-  pub shown : HasShown manner scene sights old between
+  pub shown : HasShown manner scene first sights last old between
   pub text : List ℕ
   pub fails : FailsToWrite text between new
 
--- all seconds were written, and are kept
-pub record HasFlown (manner : Manner) (span : Span) (scene : SceneView) (log : LogView) (old new : SinkView) : Type 0 where
+-- all seconds of a canary were written, and are kept
+pub record HasFlown (manner : Manner) (span : Span) (scene : SceneView) (first : CanaryView) (log : LogView) (last : CanaryView) (old new : SinkView) : Type 0 where
   pub sights : Sights
-  pub shown : HasShown manner scene sights old new
+  pub shown : HasShown manner scene first sights last old new
   pub all : AreAll span scene sights
   pub kept : log ≡ log_of scene.hops sights
 
 -- what comes of the seconds of a flight
-abbrev pub FliesSeconds : Manner → Span → SceneView → LogView → SinkView → Result (Unit {0}) FlightFault → SinkView → Type 0
-FliesSeconds manner span scene log old (Ok _) new = HasFlown manner span scene log old new
-FliesSeconds manner span scene log old (Err Write) new = StopsBehind manner scene old new
-FliesSeconds manner span scene log old (Err Memory) new = StopsBetween manner scene old new
-FliesSeconds manner span scene log old (Err Net) new = StopsBetween manner scene old new
-FliesSeconds manner span scene log old (Err fault) new = ⊥
+abbrev pub FliesSeconds : Manner → Span → SceneView → CanaryView → LogView → CanaryView → SinkView → Result (Unit {0}) FlightFault → SinkView → Type 0
+FliesSeconds manner span scene first log last old (Ok _) new = HasFlown manner span scene first log last old new
+FliesSeconds manner span scene first log last old (Err Write) new = StopsBehind manner scene first old new
+FliesSeconds manner span scene first log last old (Err Memory) new = StopsBetween manner scene first old new
+FliesSeconds manner span scene first log last old (Err Net) new = StopsBetween manner scene first old new
+FliesSeconds manner span scene first log last old (Err fault) new = ⊥
 
 -- what a canary comes to at these proxies, of whose seconds this is kept
 abbrev pub verdict_of : SceneView → CanaryView → LogView → Verdict
@@ -121,27 +129,56 @@ WritesEnding manner scene canary log old (Err Write) new = (text : List ℕ) × 
 WritesEnding manner scene canary log old (Err Memory) new = new ≡ old
 WritesEnding manner scene canary log old (Err fault) new = ⊥
 
--- All seconds were written, then what was seen while the keys were deleted, and then the table of all of these and the verdict, and it is said
--- whether nothing came back of the canary, as it was at the end.
-pub record HasFlownOut (manner : Manner) (span : Span) (scene : SceneView) (old : SinkView) (sound : Bool) (new : SinkView) : Type 0 where
+-- All seconds were written, and then what was seen of the same canary while it deleted its keys.
+pub record HasCleaned
+    (manner : Manner) (span : Span) (scene : SceneView) (first : CanaryView) (sights : Sights) (last : Sight) (canary : CanaryView) (old new : SinkView)
+    : Type 0 where
+  pub before : CanaryView
+  pub are_sights : AreSights scene first sights before
+  pub all : AreAll span scene sights
+  pub cleans : GoesOn CanaryStep (begun_cleaning before) canary
+  pub is_last : IsSight scene (told_by scene sights) canary last
+  pub writes : HasWritten (all_shown manner (last ∷ sights)) old new
+
+-- That was written, and then the table of all of it and the verdict, and it is said whether nothing came back of the canary, as it was at the
+-- end.
+pub record HasFlownOut (manner : Manner) (span : Span) (scene : SceneView) (first : CanaryView) (old : SinkView) (sound : Bool) (new : SinkView) : Type 0 where
   pub sights : Sights
   pub last : Sight
   pub canary : CanaryView
-  pub are_sights : AreSights scene sights
-  pub all : AreAll span scene sights
-  pub is_last : IsSight scene (told_by scene sights) canary last
-  pub writes : HasWritten
-      (all_shown manner (last ∷ sights) ++ ending manner (log_of scene.hops (last ∷ sights)).rows (verdict_of scene canary (log_of scene.hops (last ∷ sights))))
-      old new
+  pub between : SinkView
+  pub cleaned : HasCleaned manner span scene first sights last canary old between
+  pub writes : HasWritten (ending manner (log_of scene.hops (last ∷ sights)).rows (verdict_of scene canary (log_of scene.hops (last ∷ sights)))) between new
   pub is_sound : IsSound canary sound
 
--- what comes of a flight once its proxies were reached
-abbrev pub FliesOut : Manner → Span → SceneView → SinkView → Result Bool FlightFault → SinkView → Type 0
-FliesOut manner span scene old (Ok sound) new = HasFlownOut manner span scene old sound new
-FliesOut manner span scene old (Err Write) new = StopsBehind manner scene old new
-FliesOut manner span scene old (Err Memory) new = StopsBetween manner scene old new
-FliesOut manner span scene old (Err Net) new = StopsBetween manner scene old new
-FliesOut manner span scene old (Err fault) new = ⊥
+-- that was written, and stays
+pub record StopsBeforeEnding (manner : Manner) (span : Span) (scene : SceneView) (first : CanaryView) (old new : SinkView) : Type 0 where
+  pub sights : Sights
+  pub last : Sight
+  pub canary : CanaryView
+  pub cleaned : HasCleaned manner span scene first sights last canary old new
+
+-- that was written, and stays, and then the one call that was to write the ending failed
+pub record FailsToEnd (manner : Manner) (span : Span) (scene : SceneView) (first : CanaryView) (old new : SinkView) : Type 0 where
+  pub between : SinkView
+  pub stops : StopsBeforeEnding manner span scene first old between
+  pub text : List ℕ
+  pub fails : FailsToWrite text between new
+
+-- what comes of a flight of this canary once its proxies were reached
+abbrev pub FliesOut : Manner → Span → SceneView → CanaryView → SinkView → Result Bool FlightFault → SinkView → Type 0
+FliesOut manner span scene first old (Ok sound) new = HasFlownOut manner span scene first old sound new
+FliesOut manner span scene first old (Err Write) new = StopsBehind manner scene first old new ⊎ FailsToEnd manner span scene first old new
+FliesOut manner span scene first old (Err Memory) new = StopsBetween manner scene first old new ⊎ StopsBeforeEnding manner span scene first old new
+FliesOut manner span scene first old (Err Net) new = StopsBetween manner scene first old new
+FliesOut manner span scene first old (Err fault) new = ⊥
+
+-- a canary was made for these values, of some run, and went on until a proxy was reached
+pub record HasBegun (values : CanaryValues) (config : ConfigView) (first : CanaryView) : Type 0 where
+  pub run : ℕ
+  pub made : CanaryView
+  pub is_made : IsMade values config.routing run made
+  pub reaches : GoesOn CanaryStep made first
 
 -- its prefix makes no key for some run and some number, and nothing is written
 pub record RefusesPrefix (prefix : List ℕ) (old new : SinkView) : Type 0 where
@@ -150,9 +187,18 @@ pub record RefusesPrefix (prefix : List ℕ) (old new : SinkView) : Type 0 where
   pub is_none : ¬ IsKey (key_text prefix run number)
   pub unwritten : new ≡ old
 
--- What comes of a canary of these values by this configuration, whose output goes to this place. Its own clock began at some moment.
+-- one canary was made for these values, and flew
+pub record Flies (values : CanaryValues) (screen : Screen) (config : ConfigView) (old : SinkView) (result : Result Bool FlightFault) (new : SinkView) : Type 0 where
+  pub first : CanaryView
+  pub has_begun : HasBegun values config first
+  pub begun : ℕ
+  pub flies : FliesOut (manner_of values.json screen) values.span (scene_by values config begun) first old result new
+
+-- What comes of a canary of these values by this configuration, whose output goes to this place. For want of memory or of a connection it
+-- may come to nothing.
 abbrev pub FliesConfig : CanaryValues → Screen → ConfigView → SinkView → Result Bool FlightFault → SinkView → Type 0
 FliesConfig values screen config old (Err NoNumber) new = new ≡ old
 FliesConfig values screen config old (Err BadPrefix) new = RefusesPrefix values.prefix.now old new
-FliesConfig values screen config old result new =
-    (begun : ℕ) × FliesOut (manner_of values.json screen) values.span (scene_by values config begun) old result new
+FliesConfig values screen config old (Err Memory) new = (new ≡ old) ⊎ Flies values screen config old (Err Memory) new
+FliesConfig values screen config old (Err Net) new = (new ≡ old) ⊎ Flies values screen config old (Err Net) new
+FliesConfig values screen config old result new = Flies values screen config old result new

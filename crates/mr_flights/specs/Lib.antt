@@ -1,5 +1,6 @@
 pub mod Faults
 pub mod Flock
+pub mod Lending
 pub mod Showing
 pub mod Scene
 pub mod Log

@@ -1,9 +1,12 @@
 //! The flight of a canary: its proxies are reached, asked, second by second, and what is left of its keys is deleted.
 ghost use Rattle.std.specs.Prelude.{◌≡◌, IfErr};
+ghost use Rattle.mr_driver.specs.Going.{GoesOn};
+ghost use Rattle.mr_flights.specs.Flock.{CanaryStep};
 ghost use Rattle.mr_flights.specs.Flight.{FliesConfig, FliesOut, FliesSeconds, HasFlown, WritesEnding, is_over, looks_of, most_of};
 ghost use Rattle.mr_flights.specs.Log.{fresh_log};
 ghost use Rattle.mr_flights.specs.Scene.{scene_of};
 ghost use Rattle.mr_flights.specs.declared.fault.FlightFault.TheVariants as fault;
+ghost use Rattle.mr_probes.specs.CanaryView.{CanaryView, begun_cleaning};
 ghost use Rattle.mr_text.specs.Sink.{SinkView};
 
 use crate::fault::FlightFault;
@@ -49,7 +52,8 @@ fn drive<R: Net + time::Clock + Wait>(
     solo: &mut Solo<'_, R, Flock>,
     moment: u64,
 ) -> Result<(), FlightFault>
-    ensures { IfErr result (λ stopped. stopped ≡ fault.Net) }
+    ensures fault { IfErr result (λ stopped. stopped ≡ fault.Net) }
+    ensures canary { GoesOn CanaryStep solo.old.machine solo.new.machine }
 {
     match solo.drive_until(moment) {
         Ok(()) => Ok(()),
@@ -69,7 +73,8 @@ fn has_connection(canary: &Canary) -> bool {
 
 /// Waits until a client has a connection, for five seconds at most.
 fn reach<R: Net + time::Clock + Wait>(solo: &mut Solo<'_, R, Flock>) -> Result<(), FlightFault>
-    ensures { IfErr result (λ stopped. stopped ≡ fault.Net) }
+    ensures fault { IfErr result (λ stopped. stopped ≡ fault.Net) }
+    ensures canary { GoesOn CanaryStep solo.old.machine solo.new.machine }
 {
     for _ in 0..STEPS {
         drive(solo, sum_of(solo.now(), STEP))?;
@@ -94,7 +99,8 @@ fn clean<R: Net + time::Clock + Wait>(
     solo: &mut Solo<'_, R, Flock>,
     rate: u64,
 ) -> Result<(), FlightFault>
-    ensures { IfErr result (λ stopped. stopped ≡ fault.Net) }
+    ensures fault { IfErr result (λ stopped. stopped ≡ fault.Net) }
+    ensures canary { GoesOn CanaryStep (begun_cleaning solo.old.machine) solo.new.machine }
 {
     solo.machine_mut().canary_mut().clean();
     let deletes = solo.machine().canary().left();
@@ -147,7 +153,8 @@ fn fly_seconds<
     output: &mut O,
 ) -> Result<(), FlightFault>
     requires { log.old ≡ fresh_log }
-    ensures { FliesSeconds manner span (scene_of scene.now) log.new (O.told output.old) result (O.told output.new) }
+    ensures { FliesSeconds manner span (scene_of scene.now) solo.old.machine log.new solo.new.machine
+        (O.told output.old) result (O.told output.new) }
 {
     let mut end = solo.now();
     for number in 0..most_of(span) {
@@ -197,8 +204,8 @@ fn end_flight<O: Sink>(
     log: &mut Log,
     output: &mut O,
 ) -> Result<bool, FlightFault>
-    ensures { (begin : SinkView) → HasFlown manner span (scene_of scene.now) log.old begin (O.told output.old)
-        → FliesOut manner span (scene_of scene.now) begin result (O.told output.new) }
+    ensures { (first before : CanaryView) (begin : SinkView) → HasFlown manner span (scene_of scene.now) first log.old before begin (O.told output.old)
+        → GoesOn CanaryStep (begun_cleaning before) canary.old → FliesOut manner span (scene_of scene.now) first begin result (O.told output.new) }
 {
     write_second(alloc, manner, scene, at, canary, log, output)?;
     write_ending(alloc, manner, scene, canary, log, output)
@@ -223,7 +230,7 @@ fn fly_out<
     solo: &mut Solo<'_, R, Flock>,
     output: &mut O,
 ) -> Result<bool, FlightFault>
-    ensures { FliesOut manner span (scene_of scene.now) (O.told output.old) result (O.told output.new) }
+    ensures { FliesOut manner span (scene_of scene.now) solo.old.machine (O.told output.old) result (O.told output.new) }
 {
     let mut log = Log::new(alloc);
     fly_seconds(alloc, manner, span, scene, servers, solo, &mut log, output)?;

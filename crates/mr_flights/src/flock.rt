@@ -1,10 +1,11 @@
 //! The clients of a canary as the links of a loop.
 ghost use Rattle.std.specs.Prelude.{◌≡◌, ◌<◌, ◌≤◌, length};
+ghost use Rattle.std.specs.Borrow.{sem};
 ghost use Rattle.mr_probes.specs.CanaryView.{Settles, Ticks, is_up_at, output_at, written};
 ghost use Rattle.mr_probes.specs.declared.answering.Said.TheVariants.{Failed};
 ghost use Rattle.mr_probes.specs.declared.client.Client.TheVariants.{Down, Idle};
 ghost use Rattle.mr_sightings.specs.declared.trouble.Trouble.TheVariants.{BrokeOff};
-ghost use Rattle.mr_flights.specs.Flock.{TakesLinkBytes, end_of};
+ghost use Rattle.mr_flights.specs.Flock.{CanaryStep, TakesLinkBytes, end_of};
 
 use mr_driver::Linked;
 use mr_loop::LinkEnd;
@@ -26,6 +27,8 @@ impl Model for Flock {
 }
 
 impl Flock {
+    ghost use Rattle.mr_flights.specs.Lending.{LendsCanary};
+
     /// The clients of a canary.
     pub fn new(canary: Canary) -> Flock
         ensures { result ≡ canary }
@@ -42,7 +45,8 @@ impl Flock {
 
     /// The canary, which may be changed.
     pub fn canary_mut(&mut self) -> &mut Canary
-        ensures { result.now ≡ self.old }
+        ensures* lends { sem 𝓛 (LendsCanary self.entry result) }
+        ensures canary { result.now ≡ self.old }
     {
         &mut self.canary
     }
@@ -64,6 +68,8 @@ impl Linked for Flock {
     ghost link_count = { λ canary. length canary.clients };
 
     ghost link_output_at = { λ canary place. output_at canary place };
+
+    ghost link_steps = { CanaryStep };
 
     fn links(&self) -> usize {
         self.canary.clients()

@@ -1,5 +1,6 @@
 //! The services of this machine.
 ghost use Rattle.std.specs.Prelude.{◌≡◌, ◌≢◌, None, if◌then◌else◌, option_map, IfOk, IfErr};
+ghost use Rattle.mr_driver.specs.Going.{GoesOn};
 ghost use Rattle.mr_proxy.specs.ProxyView.{IsFresh};
 ghost use Rattle.mr_servers.specs.Servers.{DrawsSeed, IsOneService, NodeAt, ProxyAt, LoopsAt, NodeLoopsAt, OpensBoth, clients_at};
 ghost use Rattle.mr_servers.specs.declared.fault.OpenFault.{OpenFault};
@@ -213,6 +214,7 @@ impl<
     where
         'a: 'w,
         ensures begun { IfOk result (λ solo. solo.now ≡ 0) }
+        ensures machine { IfOk result (λ solo. GoesOn M.link_steps machine solo.machine) }
         ensures fault { IfErr result (λ fault. fault ≢ OpenFault.Metrics) }
     {
         open_solo(self.rt, alloc, machine, addresses, dial_millis, watch)

@@ -1,5 +1,6 @@
 //! A loop of links alone, to nodes of which the addresses are told as texts.
 ghost use Rattle.std.specs.Prelude.{◌≡◌, ◌≢◌, map, IfOk, IfErr};
+ghost use Rattle.mr_driver.specs.Going.{GoesOn};
 ghost use Rattle.mr_sockets.specs.Address.{GivesNodeAddresses};
 ghost use Rattle.mr_servers.specs.declared.fault.OpenFault.{OpenFault};
 
@@ -34,6 +35,7 @@ pub(crate) fn open_solo<'a, R: Net + Clock, M: Linked>(
     watch: &'a ClockWatch,
 ) -> Result<Solo<'a, R, M>, OpenFault>
     ensures begun { IfOk result (λ solo. solo.now ≡ 0) }
+    ensures machine { IfOk result (λ solo. GoesOn M.link_steps machine solo.machine) }
     ensures fault { IfErr result (λ fault. fault ≢ OpenFault.Metrics) }
 {
     let Ok(nodes) = addresses_of(alloc, addresses) else {

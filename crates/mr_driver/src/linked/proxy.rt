@@ -1,6 +1,7 @@
 //! A proxy's loop as a machine that has links: one to each node.
 ghost use Rattle.std.specs.Prelude.{◌≡◌, ◌<◌, ◌≤◌, length, nat_lt, slice_get};
 ghost use Rattle.mr_loop.specs.Links.{is_up_at};
+ghost use Rattle.mr_driver.specs.Going.{LinkStep};
 ghost use Rattle.mr_loop.specs.LoopView.{LinkBreaks, LinkBytes, LinkComesUp, LinkDialed, LinkWrote, after_tick, link_output_in};
 
 use crate::linked::Linked;
@@ -10,6 +11,8 @@ impl Linked for ProxyLoop {
     ghost link_count = { λ l. length l.links };
 
     ghost link_output_at = { λ l number. link_output_in (slice_get l.links number) };
+
+    ghost link_steps = { LinkStep };
 
     fn links(&self) -> usize {
         ProxyLoop::links(self)

@@ -1,5 +1,7 @@
 use Rattle.std.proofs.Common.{◌∙◌, ap, refl}
 use Rattle.mr_flights.proofs.FlightLemmas.{flown_out, never_flown, never_had, never_made, never_opened}
+use Rattle.mr_driver.proofs.GoingLemmas.{through}
+use Rattle.mr_flights.specs.Flight.{HasBegun}
 use Rattle.mr_flights.specs.Scene.{scene_of}
 use Rattle.mr_flights.specs.Showing.{manner_of}
 use Rattle.mr_flights.specs.declared.scene.Scene.{Scene}
@@ -28,8 +30,14 @@ returns-in_err-reach g c =
 pub returns : goal.returns
 returns g c =
     let scene : Scene = record { proxies = c.proxies-2.result; schedule = c.schedule.result; begun = c.saturating_sub.result } in
-    flown_out c.args.values.now c.args.servers.now.screen c.args.config.now c.manner_of-manner.result (scene_of scene)
+    let begun : HasBegun c.args.values.now c.args.config.now c.reach.new.solo.machine = record {
+      run = _;
+      made = c.make_canary.ok;
+      is_made = c.in_ok-make_canary.ensures;
+      reaches = through _ _ _ _ c.in_ok-solo.ensures.machine c.reach.ensures.canary;
+    } in
+    flown_out c.args.values.now c.args.servers.now.screen c.args.config.now c.manner_of-manner.result (scene_of scene) c.reach.new.solo.machine
     (g.O.Sink.told c.args.output.now) (g.O.Sink.told c.fly_out.new.output) c.fly_out.result
     (c.manner_of-manner.ensures ∙ ap (manner_of c.args.values.now.json) c.screen.ensures)
     (rw (c.proxies-2.ensures, c.schedule.ensures.schedule) refl)
-    c.fly_out.ensures
+    begun c.fly_out.ensures

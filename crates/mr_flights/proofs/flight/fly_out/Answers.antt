@@ -4,13 +4,17 @@ use Rattle.mr_flights.proofs.flight.fly_out.Goals as goal
 
 pub returns-in_err-fly_seconds : goal.returns-in_err-fly_seconds
 returns-in_err-fly_seconds g c =
-    seconds_failed c.args.manner c.args.span (scene_of c.args.scene.now) c.fly_seconds.new.log (g.O.Sink.told c.args.output.now) (g.O.Sink.told c.fly_seconds.new.output)
-    c.in_err-fly_seconds.field-0.0 _ c.from_residual.ensures.1 c.in_err-fly_seconds.ensures
+    seconds_failed c.args.manner c.args.span (scene_of c.args.scene.now) c.args.solo.now.machine c.fly_seconds.new.log c.fly_seconds.new.solo.machine
+    (g.O.Sink.told c.args.output.now) (g.O.Sink.told c.fly_seconds.new.output) c.in_err-fly_seconds.field-0.0 _ c.from_residual.ensures.1
+    c.in_err-fly_seconds.ensures
 
 pub returns-in_err-clean : goal.returns-in_err-clean
 returns-in_err-clean g c =
-    clean_failed c.args.manner c.args.span (scene_of c.args.scene.now) _ (g.O.Sink.told c.args.output.now) (g.O.Sink.told c.fly_seconds.new.output)
-    c.in_err-clean.field-0.0 _ c.from_residual-in_err-clean.ensures.1 c.in_err-clean.ensures c.in_ok-fly_seconds.ensures
+    clean_failed c.args.manner c.args.span (scene_of c.args.scene.now) c.args.solo.now.machine _ c.fly_seconds.new.solo.machine
+    (g.O.Sink.told c.args.output.now) (g.O.Sink.told c.fly_seconds.new.output) c.in_err-clean.field-0.0 _ c.from_residual-in_err-clean.ensures.1
+    c.in_err-clean.ensures c.in_ok-fly_seconds.ensures
 
 pub returns : goal.returns
-returns g c = c.end_flight.ensures (g.O.Sink.told c.args.output.now) c.in_ok-fly_seconds.ensures
+returns g c =
+    c.end_flight.ensures c.args.solo.now.machine c.fly_seconds.new.solo.machine (g.O.Sink.told c.args.output.now) c.in_ok-fly_seconds.ensures
+    c.clean.ensures.canary
