@@ -1,8 +1,8 @@
 -- The faults of a flight that those of others are.
 use Rattle.mr_flights.specs.declared.fault.FlightFault.{FlightFault}
 use Rattle.mr_flights.specs.declared.fault.FlightFault.TheVariants.{Memory, Write, BadPrefix, Net}
-use Rattle.mr_printing.specs.declared.printing.PrintFault.{PrintFault}
-use Rattle.mr_printing.specs.declared.printing.PrintFault.TheVariants as print
+use Rattle.mr_words.specs.declared.printing.PrintFault.{PrintFault}
+use Rattle.mr_words.specs.declared.printing.PrintFault.TheVariants as print
 use Rattle.mr_probes.specs.declared.naming.KeyError.{KeyError}
 use Rattle.mr_probes.specs.declared.naming.KeyError.TheVariants as key
 use Rattle.mr_servers.specs.declared.fault.OpenFault.{OpenFault}

@@ -1,8 +1,8 @@
 //! Why a canary doesn't fly to its end.
 
-use mr_printing::PrintFault;
 use mr_probes::KeyError;
 use mr_servers::OpenFault;
+use mr_words::PrintFault;
 use std::alloc::AllocError;
 use thiserror::Error;
 

@@ -8,10 +8,10 @@ use crate::log::Log;
 use crate::scene::Scene;
 use crate::showing::{Manner, Sight, sight_text};
 use mr_phases::judge;
-use mr_printing::write_at_once;
 use mr_probes::{Canary, Found};
 use mr_sightings::{CameBack, Second};
 use mr_text::Sink;
+use mr_words::write_at_once;
 use std::alloc::{AllocError, Global};
 
 /// How many convictions are taken of a canary at a time: as many as it keeps.

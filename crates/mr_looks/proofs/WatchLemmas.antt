@@ -3,8 +3,8 @@ use Rattle.std.proofs.Common.{arith, ◌≡◌, ◌+◌, ◌∙◌, ℕ, Bool, t
 use Rattle.mr_configs.specs.Config.{ConfigView}
 use Rattle.mr_phases.specs.Schedule.{Hop}
 use Rattle.mr_pools.specs.Routing.{RoutingView}
-use Rattle.mr_printing.specs.declared.printing.PrintFault.{PrintFault}
-use Rattle.mr_printing.specs.declared.printing.PrintFault.TheVariants.{Memory, Write}
+use Rattle.mr_words.specs.declared.printing.PrintFault.{PrintFault}
+use Rattle.mr_words.specs.declared.printing.PrintFault.TheVariants.{Memory, Write}
 use Rattle.mr_text.proofs.Writes.{written_none, written_then}
 use Rattle.mr_text.specs.Sink.{SinkView, HasWritten}
 use Rattle.mr_watch.specs.Findings.{all_unseen}

@@ -2,8 +2,8 @@
 use Rattle.std.specs.Prelude.{◌≡◌, ◌≤◌, ◌-◌, ◌^◌, ⊤, ℕ, ◌⊎◌, Bool, true, false, List, [], ◌∷◌, ◌++◌, length, Result, Ok, Err}
 use Rattle.mr_configs.specs.Config.{ConfigView}
 use Rattle.mr_phases.specs.Schedule.{Hop}
-use Rattle.mr_printing.specs.declared.printing.PrintFault.{PrintFault}
-use Rattle.mr_printing.specs.declared.printing.PrintFault.TheVariants.{Memory, Write}
+use Rattle.mr_words.specs.declared.printing.PrintFault.{PrintFault}
+use Rattle.mr_words.specs.declared.printing.PrintFault.TheVariants.{Memory, Write}
 use Rattle.mr_text.specs.Sink.{SinkView, HasWritten, IsOneWrite}
 use Rattle.mr_text.specs.declared.error.WriteFault.{WriteFault}
 use Rattle.mr_watch.specs.Findings.{all_unseen}

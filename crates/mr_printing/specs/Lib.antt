@@ -3,5 +3,4 @@ pub mod Drawing
 pub mod ExplainText
 pub mod HopText
 pub mod PlanText
-pub mod Printing
 pub mod TimelineText

@@ -1,14 +1,14 @@
 //! The text that a check prints.
 ghost use Rattle.std.specs.Prelude.{◌≡◌, ◌++◌, IfOk, OnOk, IsErrOf};
 ghost use Rattle.mr_printing.specs.CheckText.{premise_text, premises_line, op_text, stale_line, invented_line, verdict_line, refused_line, outcome_line, check_text};
-ghost use Rattle.mr_printing.specs.Printing.{WritesAtOnce};
+ghost use Rattle.mr_words.specs.Printing.{WritesAtOnce};
 
 use crate::line::push_number;
-use crate::printing::{PrintFault, write_at_once};
 use mr_history::OpId;
 use mr_shown::KeptVerdict;
 use mr_text::Sink;
 use mr_transcripts::{Checked, Outcome};
+use mr_words::{PrintFault, write_at_once};
 use mr_world::Premises;
 use std::alloc::{AllocError, Global};
 

@@ -3,14 +3,14 @@ ghost use Rattle.std.specs.Prelude.{◌≡◌, ◌<◌, ◌^◌, length, map, st
 ghost use Rattle.mr_drawing.specs.Picture.{scene_view};
 ghost use Rattle.mr_printing.specs.CheckText.{premises_line, verdict_line, outcome_line};
 ghost use Rattle.mr_printing.specs.Drawing.{check_lines, seen_scene, without_end, drawing_text};
-ghost use Rattle.mr_printing.specs.Printing.{WritesAtOnce};
+ghost use Rattle.mr_words.specs.Printing.{WritesAtOnce};
 
 use crate::check_text::{push_outcome_line, push_premises_line, push_verdict_line};
-use crate::printing::{PrintFault, write_at_once};
 use mr_drawing::{Scene, draw};
 use mr_shown::KeptVerdict;
 use mr_text::Sink;
 use mr_transcripts::{Outcome, Seen};
+use mr_words::{PrintFault, write_at_once};
 use mr_world::Premises;
 use std::alloc::{AllocError, Global};
 

@@ -2,12 +2,11 @@
 ghost use Rattle.std.specs.Prelude.{◌≡◌, ◌++◌, IfOk, OnOk, IsErrOf};
 ghost use Rattle.mr_words.specs.Explain.{told_by, heading_line};
 ghost use Rattle.mr_printing.specs.ExplainText.{explanation_text};
-ghost use Rattle.mr_printing.specs.Printing.{WritesAtOnce};
+ghost use Rattle.mr_words.specs.Printing.{WritesAtOnce};
 
 use crate::line::push_number;
-use crate::printing::{PrintFault, write_at_once};
 use mr_text::Sink;
-use mr_words::Explanation;
+use mr_words::{Explanation, PrintFault, write_at_once};
 use std::alloc::{AllocError, Global};
 
 /// Adds the line that names a refusal, as the fault's line does.

@@ -7,7 +7,6 @@ mod drawing;
 mod explain;
 mod line;
 mod plan;
-mod printing;
 mod timeline;
 
 pub use check_text::write_check;
@@ -15,5 +14,4 @@ pub use drawing::write_drawing;
 pub use explain::write_explanation;
 pub use line::push_number;
 pub use plan::write_plan;
-pub use printing::{PrintFault, write_at_once};
 pub use timeline::write_timeline;

@@ -3,14 +3,14 @@ ghost use Rattle.std.specs.Prelude.{◌≡◌, ◌++◌, IfOk, OnOk, IsErrOf};
 ghost use Rattle.std.specs.List.{All};
 ghost use Rattle.mr_proxy.specs.Sheets.{IsPlaced};
 ghost use Rattle.mr_printing.specs.PlanText.{leg_lines, plan_shown, plan_text};
-ghost use Rattle.mr_printing.specs.Printing.{WritesAtOnce};
+ghost use Rattle.mr_words.specs.Printing.{WritesAtOnce};
 
 use crate::line::{push_leg_line, push_phase_line, told_hop};
-use crate::printing::{PrintFault, write_at_once};
 use mr_configs::{Config, RequestPlan};
 use mr_pools::Routing;
 use mr_proxy::LegSheet;
 use mr_text::{Request, Sink};
+use mr_words::{PrintFault, write_at_once};
 use std::alloc::{AllocError, Global};
 
 /// Adds the lines of the legs, in order.

@@ -1,16 +1,16 @@
 //! The text of a timeline.
 ghost use Rattle.std.specs.Prelude.{◌≡◌, ◌++◌, IfOk, OnOk, IsErrOf, length};
-ghost use Rattle.mr_printing.specs.Printing.{WritesAtOnce};
+ghost use Rattle.mr_words.specs.Printing.{WritesAtOnce};
 ghost use Rattle.mr_printing.specs.TimelineText.{before_line, hop_lines, times_text, reading_lines, advice_on, timeline_shown};
 
 use crate::line::{
     push_new_only_line, push_old_only_line, push_reading_line, push_span_line, push_spread_line,
     told_hop,
 };
-use crate::printing::{PrintFault, write_at_once};
 use mr_configs::{ChainTimes, Config, PhaseTimes, Span, Standing, advise, timeline};
 use mr_phases::PhaseName;
 use mr_text::Sink;
+use mr_words::{PrintFault, write_at_once};
 use std::alloc::{AllocError, Global};
 
 /// Adds the line of the phase before the hop of a number, which the first hop alone has.

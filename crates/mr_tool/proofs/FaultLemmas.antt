@@ -2,13 +2,13 @@
 use Rattle.std.proofs.Common.{◌≡◌, List, ℕ, Result, Ok, Err, IsErrAnd, subst, sym}
 use Rattle.mr_text.specs.Sink.{SinkView, IsOneWrite}
 use Rattle.mr_text.specs.declared.error.WriteFault.{WriteFault}
-use Rattle.mr_printing.specs.Printing.{WritesAtOnce}
+use Rattle.mr_words.specs.Printing.{WritesAtOnce}
 use Rattle.mr_tool.specs.Fault.{fault_of_printing}
 use Rattle.mr_tool.specs.declared.ended.Ended.{Ended}
 use Rattle.mr_tool.specs.declared.fault.Fault.{Fault}
 use Rattle.mr_tool.specs.declared.fault.Fault.TheVariants.{Memory, Output}
-use Rattle.mr_printing.specs.declared.printing.PrintFault.{PrintFault}
-use Rattle.mr_printing.specs.declared.printing.PrintFault.TheVariants as print
+use Rattle.mr_words.specs.declared.printing.PrintFault.{PrintFault}
+use Rattle.mr_words.specs.declared.printing.PrintFault.TheVariants as print
 
 -- what holds of a fault holds of a result that is the fault
 pub faulted : {T : Type 0} (holds : Result T Fault → Type 0) (result : Result T Fault) (fault : Fault) → IsErrAnd result (λ other. other ≡ fault)

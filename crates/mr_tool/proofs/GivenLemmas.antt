@@ -5,11 +5,11 @@ use Rattle.mr_tool.proofs.FaultLemmas.{print_fails}
 use Rattle.mr_tool.specs.Devices.{Devices}
 use Rattle.mr_tool.specs.Input.{IsGiven, IsNotGiven}
 use Rattle.mr_tool.specs.GivenText.{IsTextFault, Makes, PrintsOf, RefusalOfBytes}
-use Rattle.mr_printing.specs.Printing.{WritesAtOnce}
+use Rattle.mr_words.specs.Printing.{WritesAtOnce}
 use Rattle.mr_tool.specs.Fault.{fault_of_printing}
 use Rattle.mr_tool.specs.declared.ended.Ended.{Ended}
 use Rattle.mr_tool.specs.declared.fault.Fault.{Fault}
-use Rattle.mr_printing.specs.declared.printing.PrintFault.{PrintFault}
+use Rattle.mr_words.specs.declared.printing.PrintFault.{PrintFault}
 use Rattle.mr_tool.specs.declared.fault.Fault.TheVariants.{Memory, Input, Output, File, Net, Plan, Pools, Phases, Node, Text}
 
 not_given : (makes : Makes) (refuses : RefusalOfBytes) (file : Option (List ℕ)) (fault : Fault) (before after : Devices) → IsNotGiven file fault before after

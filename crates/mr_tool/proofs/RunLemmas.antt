@@ -39,7 +39,7 @@ use Rattle.mr_flights.specs.Flight.{FliesConfig}
 use Rattle.mr_flights.specs.declared.fault.FlightFault.{FlightFault}
 use Rattle.mr_looks.specs.Watch.{Fleet, WatchesConfig}
 use Rattle.mr_looks.specs.declared.manner.Manner.{Manner}
-use Rattle.mr_printing.specs.declared.printing.PrintFault.{PrintFault}
+use Rattle.mr_words.specs.declared.printing.PrintFault.{PrintFault}
 use Rattle.mr_tool.specs.CanaryCommand.{Flies, IsGivenBy}
 use Rattle.mr_tool.specs.WatchCommand.{Watches, given_by}
 use Rattle.mr_words.specs.Words.{Say, SayBadReadings, SayNothing, SayVersion, path_in, proxies_in}

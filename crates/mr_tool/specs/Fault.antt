@@ -1,7 +1,7 @@
 -- What is printed of a fault: the layer that found it, and the number and the name of the refusal.
 use Rattle.std.specs.Prelude.{◌≡◌, ℕ, List, ◌++◌, codes, string_bytes}
-use Rattle.mr_printing.specs.declared.printing.PrintFault.{PrintFault}
-use Rattle.mr_printing.specs.declared.printing.PrintFault.TheVariants as print
+use Rattle.mr_words.specs.declared.printing.PrintFault.{PrintFault}
+use Rattle.mr_words.specs.declared.printing.PrintFault.TheVariants as print
 use Rattle.mr_words.specs.Lines.{text_fault_line, pool_fault_line, schedule_fault_line, node_fault_line, plan_fault_line}
 use Rattle.mr_tool.specs.declared.fault.Fault.{Fault}
 use Rattle.mr_tool.specs.declared.fault.Fault.TheVariants.{Memory, Input, Output, File, Net, Plan, Pools, Phases, Node, Text}

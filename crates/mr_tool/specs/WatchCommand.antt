@@ -4,7 +4,7 @@ use Rattle.mr_configs.specs.Config.{ConfigView}
 use Rattle.mr_configs.specs.Digest.{IsDigest}
 use Rattle.mr_looks.specs.Watch.{WatchesConfig, fleet_of}
 use Rattle.mr_looks.specs.WatchText.{manner_of}
-use Rattle.mr_printing.specs.declared.printing.PrintFault.{PrintFault}
+use Rattle.mr_words.specs.declared.printing.PrintFault.{PrintFault}
 use Rattle.mr_servers.specs.declared.screen.Screen.{Screen}
 use Rattle.mr_words.specs.Words.{addresses_in}
 use Rattle.mr_words.specs.declared.watch_words.WatchValues.{WatchValues}

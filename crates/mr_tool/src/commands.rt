@@ -21,12 +21,10 @@ use crate::input::{first_request, given_bytes, load_config};
 use crate::planned::config_planned;
 use crate::script_text::{text_of_play, text_of_upgrade};
 use crate::sources::Sources;
-use mr_printing::{
-    write_at_once, write_check, write_drawing, write_explanation, write_plan, write_timeline,
-};
+use mr_printing::{write_check, write_drawing, write_explanation, write_plan, write_timeline};
 use mr_text::{Sink, Source};
 use mr_transcripts::{Outcome, check_transcript, see_transcript};
-use mr_words::{Explanation, PlanValues, TimelineValues, version_line};
+use mr_words::{Explanation, PlanValues, TimelineValues, version_line, write_at_once};
 use std::alloc::Global;
 
 /// Writes the plan of the first request of the input.

@@ -5,10 +5,9 @@ use mr_configs::PlanError;
 use mr_node::NodeError;
 use mr_phases::ScheduleError;
 use mr_pools::PoolError;
-use mr_printing::PrintFault;
 use mr_servers::SeedFault;
 use mr_text::{ReadFault, Sink, TextError};
-use mr_words::{node_line, plan_line, pool_line, schedule_line, text_line};
+use mr_words::{PrintFault, node_line, plan_line, pool_line, schedule_line, text_line};
 use std::alloc::AllocError;
 use thiserror::Error;
 

@@ -23,11 +23,11 @@ mod watched_words;
 
 pub use arguments::run_arguments;
 pub use input::MOST_CONFIG_BYTES;
-pub use mr_printing::{PrintFault, write_plan};
+pub use mr_printing::write_plan;
 pub use mr_sockets::{SocketCarrier, serve_node, serve_proxy};
 pub use mr_words::{
-    CanaryValues, LoopValues, MigrationWords, NodeValues, PlanValues, Planned, ProxyValues, Span,
-    TimelineValues, Wanted, WatchValues, WordsFault, read_words,
+    CanaryValues, LoopValues, MigrationWords, NodeValues, PlanValues, Planned, PrintFault,
+    ProxyValues, Span, TimelineValues, Wanted, WatchValues, WordsFault, read_words,
 };
 pub use run::{DONE, FAULT, NOT_ACCEPTED, WRONG_WORDS, run_words};
 pub use sources::{HostFiles, LoadFault, MOST_LOADED, Sources};

@@ -14,3 +14,4 @@ pub mod PlainCanary
 pub mod ReadLemmas
 pub mod WordLemmas
 pub mod LoopLemmas
+pub mod TextLemmas

@@ -5,3 +5,4 @@ pub mod Command
 pub mod WordSteps
 pub mod Words
 pub mod Version
+pub mod Printing

@@ -1,5 +1,5 @@
 //! What the program reads and says: the words of its command line and what they ask for, the line that is printed of each
-//! refusal, and what it means.
+//! refusal, what it means, and how a whole text is handed over.
 #![tactic(auto)]
 
 mod canary_words;
@@ -10,6 +10,7 @@ mod lines;
 mod loop_words;
 mod options;
 mod plan_words;
+mod printing;
 mod readings;
 mod service_words;
 mod version;
@@ -21,6 +22,7 @@ pub use explain::{Explanation, find_explanation};
 pub use lines::{node_line, plan_line, pool_line, schedule_line, text_line};
 pub use loop_words::LoopValues;
 pub use plan_words::{MigrationWords, PlanValues, Planned};
+pub use printing::{PrintFault, write_at_once};
 pub use readings::split_at_commas;
 pub use service_words::{NodeValues, ProxyValues};
 pub use version::{version_line, version_number};

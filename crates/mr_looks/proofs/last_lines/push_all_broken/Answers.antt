@@ -1,5 +1,5 @@
 use Rattle.std.proofs.Common.{codes}
-use Rattle.mr_printing.proofs.TextLemmas.{added_four}
+use Rattle.mr_words.proofs.TextLemmas.{added_four}
 use Rattle.mr_looks.specs.WatchText.{broken_line}
 use Rattle.mr_looks.proofs.last_lines.push_all_broken.Goals as goal
 

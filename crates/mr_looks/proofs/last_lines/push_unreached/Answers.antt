@@ -1,5 +1,5 @@
 use Rattle.std.proofs.Common.{codes}
-use Rattle.mr_printing.proofs.TextLemmas.{added_three}
+use Rattle.mr_words.proofs.TextLemmas.{added_three}
 use Rattle.mr_looks.specs.WatchText.{unreached_line}
 use Rattle.mr_looks.proofs.last_lines.push_unreached.Goals as goal
 

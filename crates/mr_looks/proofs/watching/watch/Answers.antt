@@ -4,8 +4,8 @@ use Rattle.mr_looks.proofs.WatchLemmas.{failed_so, nothing_watched, watch_ended,
 use Rattle.mr_looks.specs.Posts.{addresses_of}
 use Rattle.mr_looks.specs.Watch.{Fleet, HasLooked, WatchesConfig, WritesLooks, fleet_of}
 use Rattle.mr_looks.specs.WatchText.{manner_of}
-use Rattle.mr_printing.specs.declared.printing.PrintFault.{PrintFault}
-use Rattle.mr_printing.specs.declared.printing.PrintFault.TheVariants.{Memory}
+use Rattle.mr_words.specs.declared.printing.PrintFault.{PrintFault}
+use Rattle.mr_words.specs.declared.printing.PrintFault.TheVariants.{Memory}
 use Rattle.mr_looks.specs.declared.manner.Manner.{Manner}
 use Rattle.mr_looks.specs.declared.posts.Post.{Post}
 use Rattle.mr_words.specs.Words.{addresses_in}

@@ -3,8 +3,8 @@ use Rattle.mr_watch.specs.declared.finding.Findings.{Findings}
 use Rattle.mr_looks.proofs.WatchLemmas.{IsUnderway, failed_so, lacks_behind, last_alone, looked_all, looked_last, looks_failed, seen_fleet, underway_at_first, underway_more}
 use Rattle.mr_looks.specs.Posts.{addresses_of}
 use Rattle.mr_looks.specs.Watch.{Fleet, Sight, WritesLook, WritesLooks, WritesView, fleet_of, fleet_seen, most_looks, sight}
-use Rattle.mr_printing.specs.declared.printing.PrintFault.{PrintFault}
-use Rattle.mr_printing.specs.declared.printing.PrintFault.TheVariants.{Memory}
+use Rattle.mr_words.specs.declared.printing.PrintFault.{PrintFault}
+use Rattle.mr_words.specs.declared.printing.PrintFault.TheVariants.{Memory}
 use Rattle.mr_looks.proofs.watching.write_looks.Goals as goal
 use Rattle.mr_looks.proofs.watching.write_looks.Goals.{then-once-via-then-once, then-once-via-else-once+then-found}
 

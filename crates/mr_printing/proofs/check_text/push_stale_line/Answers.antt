@@ -1,5 +1,5 @@
 use Rattle.std.proofs.Common.{codes}
-use Rattle.mr_printing.proofs.TextLemmas.{added_five}
+use Rattle.mr_words.proofs.TextLemmas.{added_five}
 use Rattle.mr_printing.specs.CheckText.{op_text}
 use Rattle.mr_printing.proofs.check_text.push_stale_line.Goals as goal
 

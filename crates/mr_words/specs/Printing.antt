@@ -2,8 +2,8 @@
 use Rattle.std.specs.Prelude.{◌≡◌, ℕ, List, Result, Ok, Err}
 use Rattle.mr_text.specs.Sink.{SinkView, IsOneWrite}
 use Rattle.mr_text.specs.declared.error.WriteFault.{WriteFault}
-use Rattle.mr_printing.specs.declared.printing.PrintFault.{PrintFault}
-use Rattle.mr_printing.specs.declared.printing.PrintFault.TheVariants.{Memory, Write}
+use Rattle.mr_words.specs.declared.printing.PrintFault.{PrintFault}
+use Rattle.mr_words.specs.declared.printing.PrintFault.TheVariants.{Memory, Write}
 
 -- the text goes out in one call, or fails in that one call, or memory is refused before it
 abbrev pub WritesAtOnce : List ℕ → SinkView → Result (Unit {0}) PrintFault → SinkView → Type 0

@@ -1,6 +1,6 @@
 //! How a whole text is printed.
 ghost use Rattle.std.specs.Prelude.{◌≡◌, IsErrOf};
-ghost use Rattle.mr_printing.specs.Printing.{WritesAtOnce};
+ghost use Rattle.mr_words.specs.Printing.{WritesAtOnce};
 
 use mr_text::Sink;
 use std::alloc::AllocError;
@@ -19,7 +19,7 @@ pub enum PrintFault {
 
 impl From<AllocError> for PrintFault {
     ghost use Rattle.std.specs.Prelude.{◌≡◌};
-    ghost use Rattle.mr_printing.specs.declared.printing.PrintFault.TheVariants.{Memory};
+    ghost use Rattle.mr_words.specs.declared.printing.PrintFault.TheVariants.{Memory};
 
     ghost from_gives = { λ _ error. error ≡ Memory };
 
