@@ -1,5 +1,4 @@
 -- How a machine goes on.
-use Rattle.std.proofs.Common.{◌≡◌}
 use Rattle.mr_driver.specs.Going.{GoesOn}
 
 module _ {M : Type 0} (steps : M → M → Type 0) where

@@ -2,6 +2,7 @@
 pub mod Flow
 pub mod Going
 pub mod Hearing
+pub mod Lending
 pub mod Loads
 pub mod Machines
 pub mod Pace

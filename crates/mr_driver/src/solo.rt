@@ -125,7 +125,7 @@ impl<'a, R: Net + Clock, M: Linked> Model for Solo<'a, R, M> {
 }
 
 impl<'a, R: Net + Clock, M: Linked> Solo<'a, R, M> {
-    ghost use Rattle.mr_driver.specs.Solo.{LendsMachine};
+    ghost use Rattle.mr_driver.specs.Lending.{LendsMachine};
 
     /// A loop of a machine, each link of which is dialled: the nodes are those of its links, in their order, by their addresses. One
     /// without an address is never dialled. A node may leave a dial unanswered for so many milliseconds, or as long as it likes where
@@ -198,7 +198,8 @@ impl<'a, R: Net + Clock, M: Linked> Solo<'a, R, M> {
 
     /// The machine, which may be changed between turns. What it wants to send then goes with the next one.
     pub fn machine_mut(&mut self) -> &mut M
-        ensures* lends { sem 𝓛 (LendsMachine R.row M.row self.entry result) }
+        ensures* lends { sem 𝓛 (LendsMachine R.row M.row R.Stream.row R.Listener.row R.Stream.Read R.Stream.Write R.Stream.AsRawFd R.Listener.AsRawFd R.Clock M.Linked
+            self.entry result) }
         ensures machine { result.now ≡ self.old.machine }
     {
         &mut self.turns.engine.machine
