@@ -4,6 +4,7 @@ use Rattle.std.specs.Prelude.{⊤}
 use Rattle.mr_counting.specs.Counting.{one_more}
 use Rattle.mr_configs.specs.Config.{ConfigView}
 use Rattle.mr_flights.specs.Faults.{fault_of_opening}
+use Rattle.mr_driver.proofs.GoingLemmas.{through}
 use Rattle.mr_driver.specs.Going.{GoesOn}
 use Rattle.mr_flights.specs.Flight.{AreAll, FliesConfig, FliesOut, FliesSeconds, HasBegun, HasCleaned, HasFlown, HasShown, StopsBetween, WritesEnding, all_shown, is_over, most_of, scene_by, verdict_of}
 use Rattle.mr_flights.specs.Flock.{CanaryStep}
@@ -27,6 +28,14 @@ use Rattle.mr_servers.specs.declared.screen.Screen.{Screen}
 use Rattle.mr_words.specs.declared.canary_words.CanaryValues.{CanaryValues}
 use Rattle.mr_words.specs.declared.canary_words.Span.{Span}
 use Rattle.mr_words.specs.declared.canary_words.Span.TheVariants.{Seconds, UntilMigrated}
+
+-- a canary may stay as it is
+pub stays : (canary : CanaryView) → GoesOn CanaryStep canary canary
+stays canary = GoesOn.stays
+
+-- it goes on, and then further
+pub went_on : (first between last : CanaryView) → GoesOn CanaryStep first between → GoesOn CanaryStep between last → GoesOn CanaryStep first last
+went_on first between last = through CanaryStep first between last
 
 -- So many seconds of a canary were written so far, and are kept, and the flight goes on behind them.
 pub record IsUnderway

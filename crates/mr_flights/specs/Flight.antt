@@ -1,5 +1,5 @@
 -- What is written of the flight of a canary.
-use Rattle.std.specs.Prelude.{◌≡◌, ⊤, ◌↔◌, ◌⊎◌, ◌-◌, ◌*◌, ◌/◌, ◌^◌, min, max, ℕ, nat_eq, nat_le, Bool, false, List, [], ◌∷◌, ◌++◌, length, Result, Ok, Err}
+use Rattle.std.specs.Prelude.{◌≡◌, ◌↔◌, ◌⊎◌, ◌-◌, ◌*◌, ◌/◌, ◌^◌, min, max, ℕ, nat_eq, nat_le, Bool, false, List, [], ◌∷◌, ◌++◌, length, Result, Ok, Err}
 use Rattle.mr_canary.specs.Notes.{IsConvicted}
 use Rattle.mr_canary.specs.declared.note.Probe.{Probe}
 use Rattle.mr_configs.specs.Config.{ConfigView}

@@ -6,4 +6,4 @@ use Rattle.mr_probes.specs.CanaryView.{CanaryView}
 
 -- the canary is the one that its borrower left
 abbrev pub LendsCanary : MutBor CanaryView → MutBor CanaryView → Fml
-LendsCanary flock lent = Lends flock.the_row canary.the_row flock lent (λ left. left)
+LendsCanary lender lent = Lends flock.the_row canary.the_row lender lent (λ left. left)

@@ -71,6 +71,7 @@ fn has_connection(canary: &Canary) -> bool {
 }
 
 /// Waits until a client has a connection, for five seconds at most.
+#[tactic(auto, using(crate::proofs::FlightLemmas::stays, crate::proofs::FlightLemmas::went_on))]
 fn reach<R: Net + time::Clock + Wait>(solo: &mut Solo<'_, R, Flock>) -> Result<(), FlightFault>
     ensures fault { IfErr result (λ stopped. stopped ≡ fault.Net) }
     ensures canary { GoesOn CanaryStep solo.old.machine solo.new.machine }
@@ -94,6 +95,7 @@ fn looks_of(deletes: usize, rate: u64) -> u64
 }
 
 /// Deletes the keys, at this rate in a second: until each delete was answered, or five seconds behind the time that they take.
+#[tactic(auto, using(crate::proofs::FlightLemmas::stays, crate::proofs::FlightLemmas::went_on))]
 fn clean<R: Net + time::Clock + Wait>(
     solo: &mut Solo<'_, R, Flock>,
     rate: u64,

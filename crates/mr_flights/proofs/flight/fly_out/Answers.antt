@@ -12,9 +12,9 @@ pub returns-in_err-clean : goal.returns-in_err-clean
 returns-in_err-clean g c =
     clean_failed c.args.manner c.args.span (scene_of c.args.scene.now) c.args.solo.now.machine _ c.fly_seconds.new.solo.machine
     (g.O.Sink.told c.args.output.now) (g.O.Sink.told c.fly_seconds.new.output) c.in_err-clean.field-0.0 _ c.from_residual-in_err-clean.ensures.1
-    c.in_err-clean.ensures c.in_ok-fly_seconds.ensures
+    c.in_err-clean.ensures.fault c.in_ok-fly_seconds.ensures
 
 pub returns : goal.returns
 returns g c =
     c.end_flight.ensures c.args.solo.now.machine c.fly_seconds.new.solo.machine (g.O.Sink.told c.args.output.now) c.in_ok-fly_seconds.ensures
-    c.clean.ensures.canary
+    (rw (c.canary_mut-canary.ensures.canary, c.machine_mut.ensures.machine) c.clean.ensures.canary)

@@ -12,7 +12,7 @@ pub returns-in_err-drive : goal.returns-in_err-drive
 returns-in_err-drive g c =
     drive_failed c.args.manner c.args.span (scene_of c.args.scene.now) c.args.solo.now.machine c.loop-number.log _ c.loop-number.solo.machine _
     (g.O.Sink.told c.args.output.now) (g.O.Sink.told c.loop-number.output) c.loop-number.number c.in_err-drive.field-0.0 _ c.from_residual.ensures.1
-    c.in_err-drive.ensures c.loop-number.invariant
+    c.in_err-drive.ensures.fault c.loop-number.invariant
 
 pub returns-in_err-write_second : goal.returns-in_err-write_second
 returns-in_err-write_second g c =
@@ -25,13 +25,15 @@ pub returns-then-is_over : goal.returns-then-is_over
 returns-then-is_over g c =
     flown_early c.args.manner c.args.span (scene_of c.args.scene.now) c.args.solo.now.machine c.loop-number.log c.write_second.new.log
     c.loop-number.solo.machine (g.O.Sink.told c.args.output.now) (g.O.Sink.told c.loop-number.output) (g.O.Sink.told c.write_second.new.output)
-    c.loop-number.number _ _ _ c.loop-number.invariant c.drive.ensures.canary c.in_ok-write_second.ensures (sym c.is_over.ensures ∙ c.if-is_over.true)
+    c.loop-number.number _ _ _ c.loop-number.invariant
+    (rw (c.canary_mut-canary.ensures.canary, c.machine_mut.ensures.machine) c.drive.ensures.canary) c.in_ok-write_second.ensures (sym c.is_over.ensures ∙ c.if-is_over.true)
 
 pub loop-number-preserved : goal.loop-number-preserved
 loop-number-preserved g c =
     underway_more c.args.manner c.args.span (scene_of c.args.scene.now) c.args.solo.now.machine c.loop-number.log c.write_second.new.log
     c.loop-number.solo.machine (g.O.Sink.told c.args.output.now) (g.O.Sink.told c.loop-number.output) (g.O.Sink.told c.write_second.new.output)
-    c.loop-number.number _ _ _ c.loop-number.invariant c.drive.ensures.canary c.in_ok-write_second.ensures (sym c.is_over.ensures ∙ c.if-is_over.false)
+    c.loop-number.number _ _ _ c.loop-number.invariant
+    (rw (c.canary_mut-canary.ensures.canary, c.machine_mut.ensures.machine) c.drive.ensures.canary) c.in_ok-write_second.ensures (sym c.is_over.ensures ∙ c.if-is_over.false)
 
 pub returns : goal.returns
 returns g c =
