@@ -154,7 +154,7 @@ watch_steady values screen ended before between h silent = record {
 -- and a canary that was
 flown_steady : (values : CanaryValues) (screen : Screen) (config : ConfigView) (proxies : List (List ℕ)) (old new : SinkView) (came : Result Bool FlightFault)
     (ended : Ended) → IsGivenBy proxies came (Ok ended) → FliesConfig values screen config old came new → new.failures ≡ old.failures
-flown_steady values screen config proxies old new (Ok sound) ended given flies = flies.1.writes.steady
+flown_steady values screen config proxies old new (Ok sound) ended given flies = flies.flies.writes.steady ∙ flies.flies.cleaned.writes.steady
 flown_steady values screen config proxies old new (Err stopped) ended given flies = absurd given
 
 canary_steady : (values : CanaryValues) (screen : Screen) (ended : Ended) (before between : Devices) → Flies values screen before between (Ok ended)
