@@ -1,9 +1,10 @@
 //! The items of one answer.
-ghost use Rattle.std.specs.Prelude.{◌≡◌, ◌≢◌, ◌≤◌, [], ◌∷◌, length, IfOk, MatchOption, vec_len, ◌↔◌, IsTrue};
+ghost use Rattle.std.specs.Prelude.{◌≡◌, ◌≢◌, ◌≤◌, [], ◌∷◌, ◌++◌, length, reverse, IfOk, MatchOption, vec_len, ◌↔◌, IsTrue};
+ghost use Rattle.std.specs.Option.{option_to_list};
 
 use crate::item::Item;
 use crate::limits::MAX_ITEMS;
-use std::alloc::AllocError;
+use std::alloc::{AllocError, Global};
 use std::marker::Model;
 use std::slice;
 
@@ -85,6 +86,23 @@ impl ItemList {
         match place {
             ItemPlace::One(item) => Some(item),
             ItemPlace::Many(items) => only_of(items),
+        }
+    }
+
+    /// The items, the last one first, so that each can be taken in order: the one that comes first, and those behind it. It takes
+    /// no memory.
+    #[inline(always)]
+    pub fn into_reversed(self, alloc: Global) -> (Option<Item>, Vec<Item>)
+        ensures { self ≡ option_to_list result.0 ++ reverse result.1.items }
+    {
+        let ItemList { place } = self;
+        match place {
+            ItemPlace::One(item) => (Some(item), Vec::new(alloc)),
+            ItemPlace::Many(mut items) => {
+                items.reverse();
+                let first = items.pop();
+                (first, items)
+            }
         }
     }
 
