@@ -1,4 +1,4 @@
-//! The legs that went over a link and that no reply came for, in the order in which they went.
+//! What went over a link and has no reply yet, in the order in which it went: a leg by itself, or the gets of one request together.
 ghost use Rattle.std.specs.Prelude.{◌≡◌, ◌-◌, [], ◌∷◌, ◌++◌, length, take, slice_get, MatchOption, OnOk, OnErr};
 ghost use Rattle.std.specs.Option.{option_copied};
 
@@ -7,15 +7,62 @@ use std::alloc::{AllocError, Global};
 use std::collections::VecDeque;
 use std::marker::Model;
 
-/// A leg that went over a link.
+/// Legs that travel behind another one, in one request to their node.
+#[derive(Debug, Drop)]
+pub struct MoreLegs {
+    legs: Vec<Leg>,
+}
+
+impl Model for MoreLegs {
+    ghost use Rattle.std.specs.Prelude.{List};
+    ghost use Rattle.mr_proxy.specs.declared.sheet.LegSheet.{LegSheet};
+
+    ghost Value = { List LegSheet };
+
+    ghost view = { λ m. m.legs.items };
+}
+
+impl MoreLegs {
+    /// None. It takes no memory.
+    #[inline(always)]
+    pub fn new(alloc: Global) -> MoreLegs
+        ensures { result ≡ [] }
+    {
+        MoreLegs {
+            legs: Vec::new(alloc),
+        }
+    }
+
+    /// The legs in order.
+    #[inline(always)]
+    pub fn as_slice(&self) -> &[Leg]
+        ensures { result.now ≡ self.now }
+    {
+        self.legs.as_slice()
+    }
+
+    /// One more leg behind the others. For want of memory nothing changes.
+    #[inline(always)]
+    pub(crate) fn push(&mut self, leg: Leg) -> Result<(), AllocError>
+        ensures pushed { OnOk result (self.new ≡ self.old ++ leg ∷ []) }
+        ensures unchanged { OnErr result (self.new ≡ self.old) }
+    {
+        self.legs.push(leg)?;
+        Ok(())
+    }
+}
+
+/// A leg that went over a link, with those that went in the same request to its node: gets, as it is then.
 #[derive(Debug, Drop)]
 pub struct SentLeg {
-    /// The place of the client whose request it is of.
+    /// The place of the client whose request they are of.
     pub client: usize,
-    /// When it went, in microseconds.
+    /// When they went, in microseconds.
     pub sent_at: u64,
-    /// What was sent.
+    /// The leg.
     pub leg: Leg,
+    /// The gets behind it.
+    pub others: MoreLegs,
 }
 
 /// The legs that went over a link and that no reply came for. A node answers in order, so the next reply is the first one's.

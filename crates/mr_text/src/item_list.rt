@@ -1,6 +1,5 @@
 //! The items of one answer.
-ghost use Rattle.std.specs.Prelude.{◌≡◌, ◌≢◌, ◌≤◌, [], ◌∷◌, ◌++◌, length, reverse, IfOk, MatchOption, vec_len, ◌↔◌, IsTrue};
-ghost use Rattle.std.specs.Option.{option_to_list};
+ghost use Rattle.std.specs.Prelude.{◌≡◌, ◌≢◌, ◌≤◌, [], ◌∷◌, length, reverse, IfOk, MatchOption, vec_len, ◌↔◌, IsTrue};
 
 use crate::item::Item;
 use crate::limits::MAX_ITEMS;
@@ -89,11 +88,10 @@ impl ItemList {
         }
     }
 
-    /// The items, the last one first, so that each can be taken in order: the one that comes first, and those behind it. It takes
-    /// no memory.
+    /// The first item, and those behind it from the last one on, so that each can be taken in order. It takes no memory.
     #[inline(always)]
     pub fn into_reversed(self, alloc: Global) -> (Option<Item>, Vec<Item>)
-        ensures { self ≡ option_to_list result.0 ++ reverse result.1.items }
+        ensures { MatchOption result.0 (self ≡ []) (λ item. self ≡ item ∷ reverse result.1.items) }
     {
         let ItemList { place } = self;
         match place {
