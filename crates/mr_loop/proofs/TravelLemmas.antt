@@ -74,7 +74,7 @@ kept_up true false = refl
 kept_up false r = refl
 
 -- gets of one node go over one link
-one_link : (routing : RoutingView) (sheet leg : LegSheet) → travels_with sheet leg ≡ true → link_of routing sheet ≡ link_of routing leg
+pub one_link : (routing : RoutingView) (sheet leg : LegSheet) → travels_with sheet leg ≡ true → link_of routing sheet ≡ link_of routing leg
 one_link routing sheet leg e =
     let are = three_true (is_get sheet.command && is_get leg.command) (pool_at sheet == pool_at leg) (sheet.node == leg.node) e in
     ap (λ n. link_to routing n sheet.node) (eqb-true (pool_at sheet) (pool_at leg) are.0) ∙ ap (λ n. link_to routing (pool_at leg) n) (eqb-true sheet.node leg.node are.1)
