@@ -153,11 +153,10 @@ messages_still messages more node (sheet ∷ sheets) h = (record { number = h.0.
 -- what is going stays so while more messages are sent
 pub going_still : (messages more : List Message) (node : ℕ) (legs : List SentLeg) → AllByRecursion (IsGoing messages node) legs → AllByRecursion (IsGoing (messages ++ more) node) legs
 going_still messages more node [] h = h
-going_still messages more node (sent ∷ legs) h =
-    (
-      record { there = messages_still messages more node (legs_of sent) h.0.there; gets = h.0.gets; valid = h.0.valid },
-      going_still messages more node legs h.1,
-    )
+going_still messages more node (sent ∷ legs) h = (
+  record { there = messages_still messages more node (legs_of sent) h.0.there; gets = h.0.gets; valid = h.0.valid },
+  going_still messages more node legs h.1,
+)
 
 requests_still : (messages more : List Message) (node : ℕ) (legs : List SentLeg) (bytes : List ℕ) → AreRequests messages node legs bytes → AreRequests (messages ++ more) node legs bytes
 requests_still messages more node legs bytes h = record { texts = h.texts; sent = going_still messages more node legs h.sent }

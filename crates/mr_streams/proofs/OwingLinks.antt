@@ -144,7 +144,7 @@ one_sets is asker sheet [] =
     omega arith
 one_sets is asker sheet (sent ∷ sents) =
     elim (travels_with sheet sent.leg) as (λ b. travels_with sheet sent.leg ≡ b
-        → sum_by (sets_of_leg is) (if b then behind sheet sent ∷ sents else sent ∷ with_traveller asker sheet sents) ≤ sum_by (sets_of_leg is) (sent ∷ sents) + sets_of_sheet is sheet) [
+    → sum_by (sets_of_leg is) (if b then behind sheet sent ∷ sents else sent ∷ with_traveller asker sheet sents) ≤ sum_by (sets_of_leg is) (sent ∷ sents) + sets_of_sheet is sheet) [
       | true ↦ λ e. (
           let get = (both_gets sheet sent.leg e).1 in
           let new = sum_by-cons (sets_of_leg is) (behind sheet sent) sents in

@@ -19,8 +19,7 @@ returns-else-not-are_dealt c =
     ∙ ap (λ (l : List Item). is_some (dealt (key_of sent.leg ∷ map key_of c.as_slice.result.now) l)) (sym c.as_slice-in-Items.ensures.items)
     ∙ sym c.are_dealt.ensures ∙ c.if-not-are_dealt.false in
     let there = some_there (dealt keys c.in-Items.items) is in
-    let P : Reply → Type 0 = λ r. AnswersGets keys r there.0 in
-    (
+    let P : Reply → Type 0 = λ r. AnswersGets keys r there.0 in (
       there.0,
       answers_many sent.leg sent.others c.args.reply there.0 c.requires (subst P (sym c.in-Items.is) there.1),
       c.take_items.ensures there.0 there.1,
@@ -30,8 +29,7 @@ pub returns-in-Error : goal.returns-in-Error
 returns-in-Error c =
     let sent = c.args.sent.now in
     let keys = map key_of (legs_of sent) in
-    let P : Reply → Type 0 = λ r. AnswersGets keys r (all_failed NodeRefused keys) in
-    (
+    let P : Reply → Type 0 = λ r. AnswersGets keys r (all_failed NodeRefused keys) in (
       all_failed NodeRefused keys,
       answers_many sent.leg sent.others c.args.reply (all_failed NodeRefused keys) c.requires (subst P (sym c.in-Error.is) refl),
       c.take_failures.ensures,
@@ -42,8 +40,7 @@ returns-in-ServerError c =
     let sent = c.args.sent.now in
     let keys = map key_of (legs_of sent) in
     let cause = c.in-ServerError.cause in
-    let P : Reply → Type 0 = λ r. AnswersGets keys r (all_failed cause keys) in
-    (
+    let P : Reply → Type 0 = λ r. AnswersGets keys r (all_failed cause keys) in (
       all_failed cause keys,
       answers_many sent.leg sent.others c.args.reply (all_failed cause keys) c.requires
           (elim c.in-ServerError.is [ inl is ↦ subst P (sym is) refl | inr is ↦ subst P (sym is) refl ]),

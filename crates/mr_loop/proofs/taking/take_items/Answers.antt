@@ -20,8 +20,7 @@ loop-other-init c said e =
     coming_first c.args.items c.into_reversed-first.result.1.items c.into_reversed-first.result.0 c.into_reversed-first.ensures in
     let d = dealt_first key (map key_of sent.others) c.args.items said e in
     let front : next.new.front ≡ after_event (taking sent.client sent.leg (said_next key c.args.items)) c.args.front.now =
-    next.ensures.taken ∙ ap (λ l. after_event (taking sent.client sent.leg (said_next key l)) c.args.front.now) (sym first) in
-    (
+    next.ensures.taken ∙ ap (λ l. after_event (taking sent.client sent.leg (said_next key l)) c.args.front.now) (sym first) in (
       d.rest,
       ap (λ (o : List LegSheet). dealt (map key_of o) (coming next.result next.new.later.items)) c.as_slice-other-items.ensures
           ∙ ap (dealt (map key_of sent.others)) (next.ensures.left ∙ ap (left_by key) (sym first)) ∙ d.others,
@@ -41,8 +40,7 @@ loop-other-preserved c said e =
     let next = c.take_next-next-in-loop-other in
     let items : List Item = coming c.loop-other.next c.loop-other.later.items in
     let cut : drop c.loop-other.other-index all ≡ leg ∷ others = one_dropped all c.loop-other.other-index leg c.loop-other-test.true (sym c.other-item.is) in
-    let d = dealt_first key (map key_of others) items i.0 (ap (λ l. dealt (map key_of l) items) (sym cut) ∙ i.1) in
-    (
+    let d = dealt_first key (map key_of others) items i.0 (ap (λ l. dealt (map key_of l) items) (sym cut) ∙ i.1) in (
       d.rest,
       ap (dealt (map key_of others)) next.ensures.left ∙ d.others,
       i.2 ∙ ap (λ l. after_all (takings client l i.0) c.loop-other.front) cut
