@@ -21,8 +21,8 @@ use Rattle.mr_loop.specs.declared.link.LinkEnd.TheVariants.{Whole, Surplus, Mism
 use Rattle.mr_loop.specs.declared.sent_legs.SentLeg.{SentLeg}
 use Rattle.mr_loop.specs.Asking.{Asking, IsDoneFor, DoesOne, DoesAll, StopsFor, AsksOn, begins, denies, tells}
 use Rattle.mr_loop.specs.Events.{FrontView, Event, after_event, after_all, changed_in, queued, answered}
-use Rattle.mr_loop.specs.Links.{all_up}
-use Rattle.mr_loop.specs.Returning.{TakesBytes, Breaks, HasTaken, give_ups, taking}
+use Rattle.mr_loop.specs.Links.{all_up, legs_of}
+use Rattle.mr_loop.specs.Returning.{TakesBytes, Breaks, HasTaken, give_ups, takings}
 
 -- how many clients there are
 abbrev pub places : FrontView → ℕ
@@ -113,7 +113,7 @@ kept_bytes now piece old front Surplus new front' t =
 kept_bytes now piece old front Mismatch new front' t =
     kept_break now _ t.between new front' t.breaks ∙ kept_taken _ _ front _ _ t.between t.taken
 kept_bytes now piece old front Complaint new front' t =
-    kept_break now _ t.between new front' t.breaks ∙ kept_by (taking t.taken.sent t.taken.said ∷ []) t.taken.between t.between t.taken.happens
+    kept_break now _ t.between new front' t.breaks ∙ kept_by (takings t.taken.sent.client (legs_of t.taken.sent) t.taken.said) t.taken.between t.between t.taken.happens
     ∙ kept_taken _ _ front _ _ t.taken.between t.taken.taken
 kept_bytes now piece old front (Refused refusal) new front' (inl t) =
     kept_break now _ t.between new front' t.breaks ∙ kept_taken _ _ front _ _ t.between t.taken

@@ -7,7 +7,8 @@ use Rattle.mr_proxy.specs.Replay.{after, replay}
 use Rattle.mr_proxy.specs.declared.step.Step.{Step}
 use Rattle.mr_loop.specs.declared.sent_legs.SentLeg.{SentLeg}
 use Rattle.mr_loop.specs.Events.{FrontView, Event, after_event, after_all, step_of, steps_of}
-use Rattle.mr_loop.specs.Returning.{TakesAll}
+use Rattle.mr_loop.specs.Links.{legs_of}
+use Rattle.mr_loop.specs.Returning.{TakesAll, takings}
 use Rattle.mr_loop.specs.Runs.{Crossing, sent_in, replies_in, Crosses}
 
 takes_nothing : (legs left : List SentLeg) (events : List Event) → events ≡ [] → left ≡ legs → TakesAll legs [] events left
@@ -27,7 +28,8 @@ takes_both (sent ∷ legs) more [] others now later between left h k =
     subst Q (sym h.0) (subst P h.1 k)
 takes_both [] more (reply ∷ replies) others now later between left h k = absurd h
 takes_both (sent ∷ legs) more (reply ∷ replies) others now later between left h k =
-    (h.0, h.1 ++ later, h.2, ap (λ e. e ++ later) h.3, takes_both legs more replies others h.1 later between left h.4 k)
+    let first : List Event = takings sent.client (legs_of sent) h.0 in
+    (h.0, h.1 ++ later, h.2, ap (λ e. e ++ later) h.3 ∙ append_assoc first h.1 later, takes_both legs more replies others h.1 later between left h.4 k)
 
 crosses_from : (crossings : List Crossing) (legs : List SentLeg) (events : List Event) (left : List SentLeg) → Crosses crossings legs events left
     → TakesAll (legs ++ sent_in crossings) (replies_in crossings) events left

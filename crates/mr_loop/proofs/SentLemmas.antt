@@ -5,30 +5,35 @@ use Rattle.std.proofs.lemmas.List.{set-set}
 use Rattle.std.proofs.Math.Seq.{take-append_seam}
 use Rattle.mr_pools.specs.Routing.{RoutingView}
 use Rattle.mr_proxy.specs.declared.sheet.LegSheet.{LegSheet}
-use Rattle.mr_proxy.specs.NodeRequests.{text_for}
-use Rattle.mr_loop.specs.declared.asker.Asker.{Asker}
 use Rattle.mr_loop.specs.declared.link.Link.{Link}
 use Rattle.mr_loop.specs.declared.sending.Mark.{Mark}
 use Rattle.mr_loop.specs.declared.sent_legs.SentLeg.{SentLeg}
-use Rattle.mr_loop.specs.Counts.{leg_unsent}
-use Rattle.mr_loop.specs.Links.{link_of, sent_by, with_leg, after_sending, is_up_at, sent_over, sent_over_in, all_sent, all_up}
-use Rattle.mr_loop.specs.steps.Sending.{mark_of, without_last, undone, undone_one, undone_in}
+use Rattle.mr_loop.specs.declared.link_counts.LinkCounts.{LinkCounts}
+use Rattle.mr_loop.specs.Counts.{each_counted, leg_unsent, one_unsent}
+use Rattle.mr_loop.specs.Links.{link_of, legs_of, text_of, with_leg, after_sending, is_up_at, sent_over, sent_over_in, each_sent}
+use Rattle.mr_loop.specs.steps.Sending.{each_up, mark_of, without_last, undone, undone_one, undone_in}
 use Rattle.mr_loop.proofs.PlaceLemmas.{set_same, set_there, last_taken}
 
+-- what couldn't go is counted no more
+unsent_back : (sheets : List LegSheet) (counts : LinkCounts) (lost : ℕ) → record (each_counted one_unsent sheets counts) { lost = lost } ≡ record counts { lost = lost }
+unsent_back [] counts lost = refl
+unsent_back (sheet ∷ sheets) counts lost = unsent_back sheets (one_unsent counts) lost
+
 taken_if : (up : Bool) (number : ℕ) (sent : SentLeg) (link : Link) → link.is_up ≡ up
-    → without_last (mark_of number link) (cond up (with_leg sent link) (record link { counts = leg_unsent link.counts })) ≡ link
+    → without_last (mark_of number link) (cond up (with_leg sent link) (record link { counts = leg_unsent sent link.counts })) ≡ link
 taken_if true number sent link e =
     let one : Link = with_leg sent link in
-    let out : take (length link.out) (link.out ++ text_for sent.leg.command) ≡ link.out = take-append_seam link.out (text_for sent.leg.command) in
+    let out : take (length link.out) (link.out ++ text_of sent) ≡ link.out = take-append_seam link.out (text_of sent) in
     let legs = last_taken link.legs sent in
     ap (λ b. cond b (record one { legs = take (length one.legs - 1) one.legs; out = take (length link.out) one.out })
     (record one { counts = record one.counts { lost = link.counts.lost } })) e
     ∙ ap (λ o. record (with_leg sent link) { legs = take (length (link.legs ++ sent ∷ []) - 1) (link.legs ++ sent ∷ []); out = o }) out
     ∙ ap (λ l. record link { legs = l }) legs
 taken_if false number sent link e =
-    let one : Link = record link { counts = leg_unsent link.counts } in
+    let one : Link = record link { counts = leg_unsent sent link.counts } in
     ap (λ b. cond b (record one { legs = take (length one.legs - 1) one.legs; out = take (length link.out) one.out })
     (record one { counts = record one.counts { lost = link.counts.lost } })) e
+    ∙ ap (λ k. record link { counts = k }) (unsent_back (legs_of sent) link.counts link.counts.lost)
 
 -- what went last, or couldn't go, is taken back
 pub taken_back : (number : ℕ) (sent : SentLeg) (link : Link) → without_last (mark_of number link) (after_sending sent link) ≡ link
@@ -47,27 +52,26 @@ pub undone_more : (marks : List Mark) (mark : Mark) (links : List Link) → undo
 undone_more [] mark links = refl
 undone_more (first ∷ marks) mark links = ap (λ l. undone_one first l) (undone_more marks mark links)
 
--- one more leg goes
-pub all_sent_more : (asker : Asker) (routing : RoutingView) (sheets : List LegSheet) (sheet : LegSheet) (links : List Link)
-    → all_sent asker routing (sheets ++ sheet ∷ []) links ≡ sent_over (link_of routing sheet) (sent_by asker sheet) (all_sent asker routing sheets links)
-all_sent_more asker routing [] sheet links = refl
-all_sent_more asker routing (first ∷ sheets) sheet links =
-    all_sent_more asker routing sheets sheet (sent_over (link_of routing first) (sent_by asker first) links)
+-- one more goes
+pub each_sent_more : (routing : RoutingView) (sents : List SentLeg) (sent : SentLeg) (links : List Link)
+    → each_sent routing (sents ++ sent ∷ []) links ≡ sent_over (link_of routing sent.leg) sent (each_sent routing sents links)
+each_sent_more routing [] sent links = refl
+each_sent_more routing (first ∷ sents) sent links = each_sent_more routing sents sent (sent_over (link_of routing first.leg) first links)
 
-and_true : (b : Bool) → b && true ≡ b
+pub and_true : (b : Bool) → b && true ≡ b
 and_true true = refl
 and_true false = refl
 
-and_assoc : (a b c : Bool) → (a && b) && c ≡ a && (b && c)
+pub and_assoc : (a b c : Bool) → (a && b) && c ≡ a && (b && c)
 and_assoc true b c = refl
 and_assoc false b c = refl
 
-pub all_up_more : (routing : RoutingView) (sheets : List LegSheet) (sheet : LegSheet) (links : List Link)
-    → all_up routing (sheets ++ sheet ∷ []) links ≡ all_up routing sheets links && is_up_at links (link_of routing sheet)
-all_up_more routing [] sheet links = and_true (is_up_at links (link_of routing sheet))
-all_up_more routing (first ∷ sheets) sheet links =
-    ap (λ b. is_up_at links (link_of routing first) && b) (all_up_more routing sheets sheet links)
-    ∙ sym (and_assoc (is_up_at links (link_of routing first)) (all_up routing sheets links) (is_up_at links (link_of routing sheet)))
+pub each_up_more : (routing : RoutingView) (sents : List SentLeg) (sent : SentLeg) (links : List Link)
+    → each_up routing (sents ++ sent ∷ []) links ≡ each_up routing sents links && is_up_at links (link_of routing sent.leg)
+each_up_more routing [] sent links = and_true (is_up_at links (link_of routing sent.leg))
+each_up_more routing (first ∷ sents) sent links =
+    ap (λ b. is_up_at links (link_of routing first.leg) && b) (each_up_more routing sents sent links)
+    ∙ sym (and_assoc (is_up_at links (link_of routing first.leg)) (each_up routing sents links) (is_up_at links (link_of routing sent.leg)))
 
 up_same : (links : List Link) (number : ℕ) (link new : Link) (other : ℕ) → slice_get links number ≡ Some link → new.is_up ≡ link.is_up
     → is_up_at (slice_set links number new) other ≡ is_up_at links other
@@ -78,7 +82,7 @@ up_same (first ∷ links) (suc number) link new zero e up = refl
 up_same (first ∷ links) (suc number) link new (suc other) e up = up_same links number link new other e up
 
 up_kept_if : (up : Bool) (link : Link) (sent : SentLeg)
-    → (cond up (with_leg sent link) (record link { counts = leg_unsent link.counts })).is_up ≡ link.is_up
+    → (cond up (with_leg sent link) (record link { counts = leg_unsent sent link.counts })).is_up ≡ link.is_up
 up_kept_if true link sent = refl
 up_kept_if false link sent = refl
 
@@ -91,12 +95,11 @@ up_after_by (Some link) links number sent other e = up_same links number link (a
 pub up_after : (links : List Link) (number : ℕ) (sent : SentLeg) (other : ℕ) → is_up_at (sent_over number sent links) other ≡ is_up_at links other
 up_after links number sent other = up_after_by (slice_get links number) links number sent other refl
 
-pub up_after_all : (asker : Asker) (routing : RoutingView) (sheets : List LegSheet) (links : List Link) (other : ℕ)
-    → is_up_at (all_sent asker routing sheets links) other ≡ is_up_at links other
-up_after_all asker routing [] links other = refl
-up_after_all asker routing (sheet ∷ sheets) links other =
-    up_after_all asker routing sheets (sent_over (link_of routing sheet) (sent_by asker sheet) links) other
-    ∙ up_after links (link_of routing sheet) (sent_by asker sheet) other
+pub up_after_all : (routing : RoutingView) (sents : List SentLeg) (links : List Link) (other : ℕ)
+    → is_up_at (each_sent routing sents links) other ≡ is_up_at links other
+up_after_all routing [] links other = refl
+up_after_all routing (sent ∷ sents) links other =
+    up_after_all routing sents (sent_over (link_of routing sent.leg) sent links) other ∙ up_after links (link_of routing sent.leg) sent other
 
 -- it is taken back by its mark
 pub went_back : (links : List Link) (number : ℕ) (mark : Mark) (link new : Link) (sent : SentLeg) (marks marks' : List Mark)
@@ -115,21 +118,20 @@ pub back_one : (links : List Link) (mark : Mark) (link new : Link) → slice_get
 back_one links mark link new there e =
     ap (λ l. slice_set links mark.number l) e ∙ sym (ap (λ o. undone_in o mark links) there)
 
--- whether all are up that the next leg is with
-pub up_next : (asker : Asker) (routing : RoutingView) (front : List LegSheet) (sheet : LegSheet) (first links : List Link) (number : ℕ) (all went now : Bool)
-    → all ≡ all_up routing front first → links ≡ all_sent asker routing front first → number ≡ link_of routing sheet
-    → went ≡ is_up_at links number → now ≡ all && went → now ≡ all_up routing (front ++ sheet ∷ []) first
-up_next asker routing front sheet first links number all went now up sent is w n =
-    let here : went ≡ is_up_at first (link_of routing sheet) =
-    w ∙ ap (λ l. is_up_at l number) sent ∙ ap (λ k. is_up_at (all_sent asker routing front first) k) is
-    ∙ up_after_all asker routing front first (link_of routing sheet) in
-    n ∙ ap (λ b. b && went) up ∙ ap (λ b. all_up routing front first && b) here ∙ sym (all_up_more routing front sheet first)
+-- whether all are up that the next one is with
+pub up_next : (routing : RoutingView) (front : List SentLeg) (sent : SentLeg) (first links : List Link) (number : ℕ) (all went now : Bool)
+    → all ≡ each_up routing front first → links ≡ each_sent routing front first → number ≡ link_of routing sent.leg
+    → went ≡ is_up_at links number → now ≡ all && went → now ≡ each_up routing (front ++ sent ∷ []) first
+up_next routing front sent first links number all went now up gone is w n =
+    let here : went ≡ is_up_at first (link_of routing sent.leg) =
+    w ∙ ap (λ l. is_up_at l number) gone ∙ ap (λ k. is_up_at (each_sent routing front first) k) is
+    ∙ up_after_all routing front first (link_of routing sent.leg) in
+    n ∙ ap (λ b. b && went) up ∙ ap (λ b. each_up routing front first && b) here ∙ sym (each_up_more routing front sent first)
 
--- the next leg went behind the others
-pub sent_next : (asker : Asker) (routing : RoutingView) (front : List LegSheet) (sheet : LegSheet) (first links links' : List Link) (number : ℕ)
-    → links ≡ all_sent asker routing front first → number ≡ link_of routing sheet → links' ≡ sent_over number (sent_by asker sheet) links
-    → links' ≡ all_sent asker routing (front ++ sheet ∷ []) first
-sent_next asker routing front sheet first links links' number sent is step =
-    step ∙ ap (λ l. sent_over number (sent_by asker sheet) l) sent
-    ∙ ap (λ k. sent_over k (sent_by asker sheet) (all_sent asker routing front first)) is
-    ∙ sym (all_sent_more asker routing front sheet first)
+-- the next one went behind the others
+pub sent_next : (routing : RoutingView) (front : List SentLeg) (sent : SentLeg) (first links links' : List Link) (number : ℕ)
+    → links ≡ each_sent routing front first → number ≡ link_of routing sent.leg → links' ≡ sent_over number sent links
+    → links' ≡ each_sent routing (front ++ sent ∷ []) first
+sent_next routing front sent first links links' number gone is step =
+    step ∙ ap (λ l. sent_over number sent l) gone ∙ ap (λ k. sent_over k sent (each_sent routing front first)) is
+    ∙ sym (each_sent_more routing front sent first)

@@ -10,6 +10,7 @@ use Rattle.mr_counting.specs.ProxyCounts.{request_counted, answer_counted, cause
 use Rattle.mr_loop.specs.declared.counts.LoopCounts.{LoopCounts}
 use Rattle.mr_loop.specs.declared.link_counts.LinkCounts.{LinkCounts}
 use Rattle.mr_loop.specs.declared.sent_legs.SentLeg.{SentLeg}
+use Rattle.mr_proxy.specs.declared.sheet.LegSheet.{LegSheet}
 
 -- no request came to an answer yet
 abbrev pub no_counts : LoopCounts
@@ -36,26 +37,41 @@ with_denied cause counts = record counts { answers = cause_counted cause counts.
 abbrev pub no_link_counts : LinkCounts
 no_link_counts = record { dials = 0; breaks = 0; carried = 0; lost = 0; times = no_times }
 
--- the reply of a leg came at this time
+-- so it is counted of each of these legs
+abbrev pub each_counted : (LinkCounts → LinkCounts) → List LegSheet → LinkCounts → LinkCounts
+each_counted one [] counts = counts
+each_counted one (sheet ∷ sheets) counts = each_counted one sheets (one counts)
+
+-- the reply of one leg came, after so long
+abbrev pub one_carried : ℕ → LinkCounts → LinkCounts
+one_carried time counts = record counts { carried = one_more counts.carried; times = timed time counts.times }
+
+-- the reply of a leg came at this time, and of those that travelled with it
 abbrev pub leg_carried : ℕ → SentLeg → LinkCounts → LinkCounts
-leg_carried now sent counts =
-    record counts { carried = one_more counts.carried; times = timed (now - sent.sent_at) counts.times }
+leg_carried now sent counts = each_counted (one_carried (now - sent.sent_at)) (sent.leg ∷ sent.others) counts
 
--- a leg went, and at this time no reply can come any more that answers it
+-- one leg that went is lost, after so long
+abbrev pub one_lost : ℕ → LinkCounts → LinkCounts
+one_lost time counts = record counts { lost = one_more counts.lost; times = timed time counts.times }
+
+-- a leg went with others, and at this time no reply can come any more that answers them
 abbrev pub leg_lost : ℕ → SentLeg → LinkCounts → LinkCounts
-leg_lost now sent counts =
-    record counts { lost = one_more counts.lost; times = timed (now - sent.sent_at) counts.times }
+leg_lost now sent counts = each_counted (one_lost (now - sent.sent_at)) (sent.leg ∷ sent.others) counts
 
--- a leg couldn't go: it is lost, and took no time
-abbrev pub leg_unsent : LinkCounts → LinkCounts
-leg_unsent counts = record counts { lost = one_more counts.lost }
+-- one leg couldn't go: it is lost, and took no time
+abbrev pub one_unsent : LinkCounts → LinkCounts
+one_unsent counts = record counts { lost = one_more counts.lost }
 
--- the replies of these legs came at this time, in their order
+-- a leg couldn't go, nor those that were to travel with it
+abbrev pub leg_unsent : SentLeg → LinkCounts → LinkCounts
+leg_unsent sent counts = each_counted one_unsent (sent.leg ∷ sent.others) counts
+
+-- the replies of these came at this time, in their order
 abbrev pub legs_carried : ℕ → List SentLeg → LinkCounts → LinkCounts
 legs_carried now [] counts = counts
 legs_carried now (sent ∷ legs) counts = legs_carried now legs (leg_carried now sent counts)
 
--- these legs are lost at this time, in their order
+-- these are lost at this time, in their order
 abbrev pub legs_lost : ℕ → List SentLeg → LinkCounts → LinkCounts
 legs_lost now [] counts = counts
 legs_lost now (sent ∷ legs) counts = legs_lost now legs (leg_lost now sent counts)

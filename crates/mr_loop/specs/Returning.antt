@@ -8,7 +8,9 @@ use Rattle.mr_text.specs.declared.reply.Reply.{Reply}
 use Rattle.mr_text.specs.declared.reply.Reply.TheVariants.{Items, Stored, Deleted, NotFound, Error, ClientError, ServerError}
 use Rattle.mr_join.specs.declared.leg_reply.LegReply.{LegReply}
 use Rattle.mr_proxy.specs.declared.step.Step.TheVariants.{Take, GiveUp}
-use Rattle.mr_proxy.specs.NodeReplies.{IsAnswer}
+use Rattle.mr_proxy.specs.NodeReplies.{IsAnswer, AnswersGets}
+use Rattle.mr_proxy.specs.NodeRequests.{key_of}
+use Rattle.mr_proxy.specs.declared.sheet.LegSheet.{LegSheet}
 use Rattle.mr_loop.specs.declared.link.Link.{Link}
 use Rattle.mr_loop.specs.declared.link.LinkEnd.{LinkEnd}
 use Rattle.mr_loop.specs.declared.link.LinkEnd.TheVariants.{Whole, Surplus, Mismatch, Complaint, Refused, Down}
@@ -16,16 +18,37 @@ use Rattle.mr_loop.specs.declared.link_counts.LinkCounts.{LinkCounts}
 use Rattle.mr_loop.specs.declared.sent_legs.SentLeg.{SentLeg}
 use Rattle.mr_loop.specs.Counts.{CountsCarried, legs_lost, break_counted}
 use Rattle.mr_loop.specs.Events.{FrontView, Event, after_all}
-use Rattle.mr_loop.specs.Links.{down_link}
+use Rattle.mr_loop.specs.Links.{down_link, legs_of}
 
 -- the bytes are these items, one after the other, and then the rest
 abbrev pub Reads : {Item : Type 0} → (List ℕ → Item → Type 0) → List Item → List ℕ → List ℕ → Type 0
 Reads Spells [] bytes rest = rest ≡ bytes
 Reads Spells (item ∷ items) bytes rest = (after : List ℕ) × BeginsWith Spells bytes item after × Reads Spells items after rest
 
--- the core takes what a node said of a leg
-abbrev pub taking : SentLeg → LegReply → Event
-taking sent said = Event.Does sent.client (Take (record { sheet = sent.leg; reply = said }))
+-- the core takes what a node said of a leg of this client's request
+abbrev pub taking : ℕ → LegSheet → LegReply → Event
+taking client sheet said = Event.Does client (Take (record { sheet = sheet; reply = said }))
+
+-- so of each leg, in order
+abbrev pub takings : ℕ → List LegSheet → List LegReply → List Event
+takings client [] said = []
+takings client (sheet ∷ sheets) [] = []
+takings client (sheet ∷ sheets) (said ∷ more) = taking client sheet said ∷ takings client sheets more
+
+-- the reply says this of a leg by itself, or of gets that travelled together
+abbrev pub Answers : LegSheet → List LegSheet → Reply → List LegReply → Type 0
+Answers leg [] reply said = (one : LegReply) × IsAnswer leg.command reply one × (said ≡ one ∷ [])
+Answers leg (other ∷ others) reply said = AnswersGets (map key_of (leg ∷ other ∷ others)) reply said
+
+-- so it does of a leg that was sent, and of those that travelled with it
+abbrev pub AnswersSent : SentLeg → Reply → List LegReply → Type 0
+AnswersSent sent reply said = Answers sent.leg sent.others reply said
+
+-- they took what the reply says of them, or it is no answer to what they asked
+abbrev pub TakesSent : SentLeg → Reply → FrontView → Bool → FrontView → Type 0
+TakesSent sent reply front true front' =
+    (said : List LegReply) × AnswersSent sent reply said × (front' ≡ after_all (takings sent.client (legs_of sent) said) front)
+TakesSent sent reply front false front' = ((said : List LegReply) → ¬ AnswersSent sent reply said) × (front' ≡ front)
 
 -- the core gives the request of a leg up
 abbrev pub giving_up : SentLeg → Event
@@ -41,13 +64,13 @@ is_complaint Error = true
 is_complaint (ClientError cause) = true
 is_complaint (ServerError cause) = false
 
--- The k-th reply is that of the k-th leg: what happens by them, and the legs that are left.
+-- The k-th reply is that of what went as the k-th: what happens by them, and what is left.
 abbrev pub TakesAll : List SentLeg → List Reply → List Event → List SentLeg → Type 0
 TakesAll legs [] events left = (events ≡ []) × (left ≡ legs)
 TakesAll [] (reply ∷ replies) events left = ⊥
 TakesAll (sent ∷ legs) (reply ∷ replies) events left =
-    (said : LegReply) × (others : List Event)
-    × IsAnswer sent.leg.command reply said × (events ≡ taking sent said ∷ others) × TakesAll legs replies others left
+    (said : List LegReply) × (others : List Event)
+    × AnswersSent sent reply said × (events ≡ takings sent.client (legs_of sent) said ++ others) × TakesAll legs replies others left
 
 -- So many replies were read from the front of these bytes, and each was the reply of the leg of its place.
 pub record HasTaken (bytes : List ℕ) (legs : List SentLeg) (front : FrontView) (rest : List ℕ) (left : List SentLeg) (front' : FrontView) : Type 0 where
@@ -108,7 +131,7 @@ pub record IsMismatch (rest : List ℕ) (left : List SentLeg) : Type 0 where
   pub after : List ℕ
   pub first : left ≡ sent ∷ later
   pub next : BeginsWith SpellsReply rest reply after
-  pub other : (said : LegReply) → ¬ IsAnswer sent.leg.command reply said
+  pub other : (said : List LegReply) → ¬ AnswersSent sent reply said
 
 -- the reply that was taken last is a complaint
 pub record TakesComplaint (bytes : List ℕ) (legs : List SentLeg) (front : FrontView) (left : List SentLeg) (front' : FrontView) : Type 0 where
@@ -117,14 +140,14 @@ pub record TakesComplaint (bytes : List ℕ) (legs : List SentLeg) (front : Fron
   pub between : FrontView
   pub sent : SentLeg
   pub reply : Reply
-  pub said : LegReply
+  pub said : List LegReply
   pub after : List ℕ
   pub taken : HasTaken bytes legs front rest before between
   pub first : before ≡ sent ∷ left
   pub next : BeginsWith SpellsReply rest reply after
   pub complains : is_complaint reply ≡ true
-  pub answers : IsAnswer sent.leg.command reply said
-  pub happens : front' ≡ after_all (taking sent said ∷ []) between
+  pub answers : AnswersSent sent reply said
+  pub happens : front' ≡ after_all (takings sent.client (legs_of sent) said) between
 
 -- what comes next is refused, or memory for it was
 abbrev pub IsRefused : TextError → List ℕ → List SentLeg → Type 0

@@ -14,7 +14,6 @@ ghost use Rattle.mr_loop.specs.steps.Telling.{ReadsSo, TouchedIs};
 use crate::asker::{Asker, Limits};
 use crate::client::Client;
 use crate::counts::LoopCounts;
-use crate::sent_legs::SentLeg;
 use crate::turns::Turn;
 use mr_history::OpId;
 use mr_join::LegReply;
@@ -125,14 +124,13 @@ impl Front {
         }
     }
 
-    /// Takes the reply of a leg.
+    /// Takes the reply of a leg of a client's request.
     #[inline(always)]
-    pub(crate) fn take(&mut self, sent: SentLeg, said: LegReply)
-        ensures { self.new ≡ after_event (taking sent said) self.old }
+    pub(crate) fn take(&mut self, client: usize, leg: &Leg, said: LegReply)
+        ensures { self.new ≡ after_event (taking client leg.now said) self.old }
     {
-        let client = sent.client;
         let schedule = self.core.schedule();
-        if let Taken::Answered(answer) = self.core.take_reply(sent.leg.sheet().id, said) {
+        if let Taken::Answered(answer) = self.core.take_reply(leg.sheet().id, said) {
             self.touched.push_reserved(client);
             self.counts.add_answer(schedule, &answer);
             self.note(client, answer);

@@ -22,6 +22,7 @@ mod out_sink;
 mod proxy_loop;
 mod sending;
 mod sent_legs;
+mod taking;
 mod turns;
 mod unread;
 
@@ -37,5 +38,5 @@ pub use node::{Cache, CountingCache, NodeClient, NodeLoop, NodePause, ServedCoun
 pub use out_buffer::OutBuffer;
 pub use proxy_loop::ProxyLoop;
 pub use sending::Mark;
-pub use sent_legs::{SentLeg, SentLegs};
+pub use sent_legs::{MoreLegs, SentLeg, SentLegs};
 pub use turns::{Turn, Turns};

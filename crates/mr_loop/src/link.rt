@@ -13,8 +13,8 @@ use crate::front::Front;
 use crate::link_counts::LinkCounts;
 use crate::out_buffer::OutBuffer;
 use crate::sending::Mark;
-use crate::sent_legs::{SentLeg, SentLegs};
-use mr_proxy::leg_reply_of;
+use crate::sent_legs::{SentLeg, SentLegs, SpareLists};
+use crate::taking::take_reply;
 use mr_text::{FixedBuffer, ReplyReader, TextError};
 use std::alloc::{AllocError, Global};
 
@@ -64,8 +64,8 @@ impl Link {
         }
     }
 
-    /// A leg goes behind those that went, where the link is up; else it is lost. Whether it went. For want of memory nothing
-    /// changes.
+    /// A leg goes behind those that went, with those that travel with it, where the link is up; else they are lost. Whether they
+    /// went. For want of memory nothing changes.
     #[inline(always)]
     pub(crate) fn carry(
         &mut self,
@@ -77,21 +77,22 @@ impl Link {
         ensures unchanged { OnErr result (self.new ≡ self.old) }
     {
         if !self.is_up {
-            self.counts.add_unsent();
+            self.counts.add_unsent(&sent);
             return Ok(false);
         }
         self.send(buffer, sent)?;
         Ok(true)
     }
 
-    /// Puts a leg behind those that went, and the request for it behind theirs. For want of memory nothing changes.
+    /// Puts a leg and those that travel with it behind those that went, and the request for them behind theirs. For want of memory
+    /// nothing changes.
     #[inline(always)]
     fn send(&mut self, buffer: &mut FixedBuffer, sent: SentLeg) -> Result<(), AllocError>
         ensures sent { OnOk result (self.new ≡ with_leg sent self.old) }
         ensures unchanged { OnErr result (self.new ≡ self.old) }
     {
         let before = self.out.len();
-        self.out.put_command(&sent.leg.sheet().command, buffer)?;
+        self.out.put_legs(&sent, buffer)?;
         if self.legs.push(sent).is_err() {
             self.out.cut(before);
             return Err(AllocError);
@@ -136,9 +137,15 @@ impl Link {
         self.out.clear();
     }
 
-    /// Takes the replies that are whole, each as that of the first leg that has none.
+    /// Takes the replies that are whole, each as that of the first leg that has none, and of those that travelled with it.
     #[inline(always)]
-    fn take_replies(&mut self, front: &mut Front, now: u64) -> LinkEnd
+    fn take_replies(
+        &mut self,
+        alloc: Global,
+        front: &mut Front,
+        spares: &mut SpareLists,
+        now: u64,
+    ) -> LinkEnd
         ensures { TakesReplies now self.old front.old result self.new front.new }
     {
         'reply: loop {
@@ -148,13 +155,13 @@ impl Link {
                     let Some(sent) = self.legs.pop() else {
                         return LinkEnd::Surplus;
                     };
-                    let Some(said) = leg_reply_of(&sent.leg.sheet().command, reply) else {
+                    if !take_reply(alloc, front, &sent, reply) {
                         self.counts.add_lost(now, &sent);
                         front.give_up(sent.client, sent.leg.sheet().id.op);
                         return LinkEnd::Mismatch;
-                    };
+                    }
                     self.counts.add_carried(now, &sent);
-                    front.take(sent, said);
+                    spares.keep(sent.into_others());
                     if complains {
                         return LinkEnd::Complaint;
                     }
@@ -173,6 +180,7 @@ impl Link {
         &mut self,
         alloc: Global,
         front: &mut Front,
+        spares: &mut SpareLists,
         now: u64,
         piece: &[u8],
     ) -> LinkEnd
@@ -188,7 +196,7 @@ impl Link {
             }
             Ok(()) => {}
         }
-        match self.take_replies(front, now) {
+        match self.take_replies(alloc, front, spares, now) {
             LinkEnd::Whole => LinkEnd::Whole,
             end => {
                 self.break_off(alloc, front, now);

@@ -1,6 +1,6 @@
 //! What a link counts of its legs and its connections, each count since the loop began and as far as 64 bits go.
 ghost use Rattle.std.specs.Prelude.{◌≡◌};
-ghost use Rattle.mr_loop.specs.Counts.{no_link_counts, leg_carried, leg_lost, leg_unsent, break_counted, dial_counted};
+ghost use Rattle.mr_loop.specs.Counts.{no_link_counts, one_carried, one_lost, one_unsent, leg_carried, leg_lost, leg_unsent, break_counted, dial_counted};
 
 use crate::sent_legs::SentLeg;
 use mr_counting::{LegTimes, one_more};
@@ -34,28 +34,61 @@ impl LinkCounts {
         }
     }
 
-    /// The reply of a leg came at this time.
+    /// The reply of one leg came, after so many microseconds.
+    #[inline(always)]
+    fn add_one_carried(&mut self, time: u64)
+        ensures { self.new ≡ one_carried time self.old }
+    {
+        self.carried = one_more(self.carried);
+        self.times.add_leg(time);
+    }
+
+    /// The reply came at this time that is a leg's, and of those that travelled with it.
     #[inline(always)]
     pub(crate) fn add_carried(&mut self, now: u64, sent: &SentLeg)
         ensures { self.new ≡ leg_carried now sent.now self.old }
     {
-        self.carried = one_more(self.carried);
-        self.times.add_leg(now.saturating_sub(sent.sent_at));
+        let time = now.saturating_sub(sent.sent_at);
+        self.add_one_carried(time);
+        for _other in sent.others.as_slice() {
+            self.add_one_carried(time);
+        }
     }
 
-    /// A leg went, and at this time no reply can come any more that answers it.
+    /// One leg that went is lost, after so many microseconds.
+    fn add_one_lost(&mut self, time: u64)
+        ensures { self.new ≡ one_lost time self.old }
+    {
+        self.lost = one_more(self.lost);
+        self.times.add_leg(time);
+    }
+
+    /// A leg went with others, and at this time no reply can come any more that answers them.
     pub(crate) fn add_lost(&mut self, now: u64, sent: &SentLeg)
         ensures { self.new ≡ leg_lost now sent.now self.old }
     {
-        self.lost = one_more(self.lost);
-        self.times.add_leg(now.saturating_sub(sent.sent_at));
+        let time = now.saturating_sub(sent.sent_at);
+        self.add_one_lost(time);
+        for _other in sent.others.as_slice() {
+            self.add_one_lost(time);
+        }
     }
 
-    /// A leg couldn't go.
-    pub(crate) fn add_unsent(&mut self)
-        ensures { self.new ≡ leg_unsent self.old }
+    /// One leg couldn't go.
+    fn add_one_unsent(&mut self)
+        ensures { self.new ≡ one_unsent self.old }
     {
         self.lost = one_more(self.lost);
+    }
+
+    /// A leg couldn't go, nor those that were to travel with it.
+    pub(crate) fn add_unsent(&mut self, sent: &SentLeg)
+        ensures { self.new ≡ leg_unsent sent.now self.old }
+    {
+        self.add_one_unsent();
+        for _other in sent.others.as_slice() {
+            self.add_one_unsent();
+        }
     }
 
     /// The connection is gone, if there was one.

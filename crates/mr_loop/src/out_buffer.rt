@@ -2,11 +2,11 @@
 ghost use Rattle.std.specs.Prelude.{◌≡◌, ◌≤◌, [], ◌++◌, length, drop, take, OnOk, OnErr};
 ghost use Rattle.mr_text.specs.Canonical.{canonical_reply};
 ghost use Rattle.mr_proxy.specs.Answer.{reply_of};
-ghost use Rattle.mr_proxy.specs.NodeRequests.{text_for};
+ghost use Rattle.mr_loop.specs.Links.{text_of};
 
 use crate::out_sink::OutSink;
-use mr_node::NodeCommand;
-use mr_proxy::{Answer, write_command};
+use crate::sent_legs::SentLeg;
+use mr_proxy::{Answer, write_legs};
 use mr_text::{FixedBuffer, Reply, send_reply};
 use std::alloc::{AllocError, Global};
 use std::marker::Model;
@@ -125,18 +125,19 @@ impl OutBuffer {
         }
     }
 
-    /// Puts the request for a command behind what waits. For want of memory nothing changes.
+    /// Puts the request for a leg and for those that travel with it behind what waits. For want of memory nothing changes.
     #[inline(always)]
-    pub(crate) fn put_command(
+    pub(crate) fn put_legs(
         &mut self,
-        command: &NodeCommand,
+        sent: &SentLeg,
         buffer: &mut FixedBuffer,
     ) -> Result<(), AllocError>
-        ensures put { OnOk result (self.new ≡ self.old ++ text_for command.now) }
+        ensures put { OnOk result (self.new ≡ self.old ++ text_of sent.now) }
         ensures unchanged { OnErr result (self.new ≡ self.old) }
     {
         let before = self.sink.bytes.len();
-        if write_command(command, buffer, &mut self.sink).is_err() {
+        let command = &sent.leg.sheet().command;
+        if write_legs(command, sent.others.as_slice(), buffer, &mut self.sink).is_err() {
             self.sink.bytes.truncate(before);
             return Err(AllocError);
         }

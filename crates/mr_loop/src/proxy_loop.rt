@@ -355,7 +355,8 @@ impl ProxyLoop {
         requires { node < length self.old.links }
         ensures { LinkBytes node now piece.now self.old result self.new }
     {
-        self.links[node].take_bytes(self.alloc, &mut self.front, now, piece)
+        let spares = &mut self.scratch.spares;
+        self.links[node].take_bytes(self.alloc, &mut self.front, spares, now, piece)
     }
 
     /// The link to a node broke at this time.

@@ -1,14 +1,15 @@
 //! How the legs of a request go over their links: all of those whose link is up, or none.
 ghost use Rattle.std.specs.Prelude.{◌≡◌, ◌&&◌, ◌++◌, [], length, true, IfOk, OnOk, OnErr};
-ghost use Rattle.mr_loop.specs.Links.{all_sent, all_up, sent_over, is_up_at};
-ghost use Rattle.mr_loop.specs.steps.Sending.{mark_of, undone, undone_one};
+ghost use Rattle.mr_loop.specs.Links.{all_sent, all_up, each_sent, is_get, is_up_at, sent_by, sent_over, travelling, travels_with, with_traveller};
+ghost use Rattle.mr_loop.specs.steps.Sending.{each_up, mark_of, undone, undone_one};
 
 use crate::asker::Asker;
 use crate::link::Link;
 use crate::numbering::link_of;
-use crate::sent_legs::SentLeg;
+use crate::sent_legs::{MoreLegs, SentLeg, SpareLists};
+use mr_node::NodeCommand;
 use mr_pools::Routing;
-use mr_proxy::Leg;
+use mr_proxy::{Leg, LegSheet};
 use mr_text::FixedBuffer;
 use std::alloc::{AllocError, Global};
 
@@ -28,8 +29,12 @@ pub struct Mark {
 pub(crate) struct Scratch {
     /// What texts are gathered in.
     pub(crate) buffer: Box<FixedBuffer>,
+    /// What goes, leg by leg and with what travels with each.
+    pub(crate) sents: Vec<SentLeg>,
     /// What went over which link.
     pub(crate) marks: Vec<Mark>,
+    /// What those that travelled stood in.
+    pub(crate) spares: SpareLists,
 }
 
 impl Scratch {
@@ -37,7 +42,9 @@ impl Scratch {
     pub(crate) fn new(alloc: Global) -> Result<Scratch, AllocError> {
         Ok(Scratch {
             buffer: Box::new(alloc, FixedBuffer::new())?,
+            sents: Vec::new(alloc),
             marks: Vec::new(alloc),
+            spares: SpareLists::new(alloc),
         })
     }
 }
@@ -62,8 +69,8 @@ fn mark_of(link: &Link, number: usize) -> Mark
     }
 }
 
-/// A leg goes over the link of a number, where that is up; else it is lost. Whether it went. For want of memory nothing
-/// changes.
+/// A leg goes over the link of a number with those that travel with it, where that is up; else they are lost. Whether they went.
+/// For want of memory nothing changes.
 #[inline(always)]
 fn send_leg(
     links: &mut [Link],
@@ -75,6 +82,7 @@ fn send_leg(
     ensures sent { OnOk result (links.new ≡ sent_over number sent links.old) }
     ensures marked { OnOk result (undone scratch.new.marks.items links.new ≡ undone scratch.old.marks.items links.old) }
     ensures unchanged { OnErr result ((links.new ≡ links.old) × (scratch.new.marks.items ≡ scratch.old.marks.items)) }
+    ensures others { scratch.new.sents ≡ scratch.old.sents }
 {
     if number >= links.len() {
         return Ok(false);
@@ -112,7 +120,105 @@ fn both(one: bool, other: bool) -> bool
     one && other
 }
 
-/// Each leg goes out of the list and over its link, if that is up. Whether all are. For want of memory none goes.
+/// Whether a command is a get.
+#[inline(always)]
+fn is_get(command: &NodeCommand) -> bool
+    ensures { result ≡ is_get command.now }
+{
+    matches!(command, NodeCommand::Get(_))
+}
+
+/// Whether two legs are gets of one node, which may travel together.
+#[inline(always)]
+fn travels_with(sheet: &LegSheet, other: &LegSheet) -> bool
+    ensures { result ≡ travels_with sheet.now other.now }
+{
+    is_get(&sheet.command)
+        && is_get(&other.command)
+        && sheet.pool_number() == other.pool_number()
+        && sheet.node == other.node
+}
+
+/// A leg by itself, which goes now.
+#[inline(always)]
+fn sent_by(alloc: Global, asker: Asker, leg: Leg) -> SentLeg
+    ensures { result ≡ sent_by asker leg }
+{
+    SentLeg {
+        client: asker.client,
+        sent_at: asker.now,
+        leg,
+        others: MoreLegs::new(alloc),
+    }
+}
+
+/// A leg is put to those that go: behind the first with which it may travel, or by itself behind all.
+#[inline(always)]
+fn put_leg(
+    alloc: Global,
+    sents: &mut Vec<SentLeg>,
+    spares: &mut SpareLists,
+    asker: Asker,
+    leg: Leg,
+) -> Result<(), AllocError>
+    ensures { OnOk result (sents.new.items ≡ with_traveller asker leg sents.old.items) }
+{
+    for place in 0..sents.len() {
+        if travels_with(leg.sheet(), sents[place].leg.sheet()) {
+            sents[place].others.push(spares, leg)?;
+            return Ok(());
+        }
+    }
+    sents.push(sent_by(alloc, asker, leg))?;
+    Ok(())
+}
+
+/// All legs go out of their list, and are put together that travel together.
+fn put_together(
+    sents: &mut Vec<SentLeg>,
+    spares: &mut SpareLists,
+    asker: Asker,
+    legs: &mut Vec<Leg>,
+) -> Result<(), AllocError>
+    ensures { OnOk result (sents.new.items ≡ travelling asker [] legs.old.items) }
+{
+    let alloc = *legs.allocator();
+    sents.clear();
+    legs.reverse();
+    while let Some(leg) = legs.pop() {
+        put_leg(alloc, sents, spares, asker, leg)?;
+    }
+    Ok(())
+}
+
+/// Each of those that were put together goes over its link, if that is up. Whether all are. For want of memory none goes.
+fn send_each(
+    links: &mut [Link],
+    scratch: &mut Scratch,
+    routing: &Routing,
+) -> Result<bool, AllocError>
+    ensures up { IfOk result (λ all. all ≡ each_up routing.now scratch.old.sents.items links.old) }
+    ensures sent { OnOk result (links.new ≡ each_sent routing.now scratch.old.sents.items links.old) }
+    ensures unchanged { OnErr result (links.new ≡ links.old) }
+{
+    scratch.marks.clear();
+    scratch.sents.reverse();
+    let mut all = true;
+    while let Some(sent) = scratch.sents.pop() {
+        let number = link_of(routing, sent.leg.sheet());
+        match send_leg(links, number, scratch, sent) {
+            Ok(went) => all = both(all, went),
+            Err(error) => {
+                take_all_back(links, scratch);
+                return Err(error);
+            }
+        }
+    }
+    Ok(all)
+}
+
+/// Each leg goes out of the list and over its link, with those that travel with it, if that is up. Whether all are. For want of
+/// memory none goes.
 pub(crate) fn send_all(
     links: &mut [Link],
     scratch: &mut Scratch,
@@ -124,23 +230,6 @@ pub(crate) fn send_all(
     ensures sent { OnOk result (links.new ≡ all_sent asker routing.now legs.old.items links.old) }
     ensures unchanged { OnErr result (links.new ≡ links.old) }
 {
-    scratch.marks.clear();
-    legs.reverse();
-    let mut all = true;
-    while let Some(leg) = legs.pop() {
-        let number = link_of(routing, leg.sheet());
-        let sent = SentLeg {
-            client: asker.client,
-            sent_at: asker.now,
-            leg,
-        };
-        match send_leg(links, number, scratch, sent) {
-            Ok(went) => all = both(all, went),
-            Err(error) => {
-                take_all_back(links, scratch);
-                return Err(error);
-            }
-        }
-    }
-    Ok(all)
+    put_together(&mut scratch.sents, &mut scratch.spares, asker, legs)?;
+    send_each(links, scratch, routing)
 }

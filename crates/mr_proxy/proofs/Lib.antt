@@ -7,3 +7,4 @@ pub mod WritingLemmas
 pub mod TakeLemmas
 pub mod OutstandingLemmas
 pub mod SettleLemmas
+pub mod DealingLemmas

@@ -1,3 +1,4 @@
 pub mod Noted
 pub mod Room
 pub mod Outstanding
+pub mod Dealing

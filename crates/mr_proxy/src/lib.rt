@@ -25,7 +25,7 @@ mod world_error;
 mod writing;
 
 pub use answer::Answer;
-pub use asking::{leg_reply_of, write_command};
+pub use asking::{are_dealt, leg_reply_of, write_command, write_legs};
 pub use error::ProxyError;
 pub use issued::Issued;
 pub use issuing::issue_copy;

@@ -60,7 +60,8 @@ use Rattle.mr_streams.proofs.LoopMoves.{with_parts, core_there, own_links, loop_
 use Rattle.mr_streams.proofs.Mirrors.{MirrorsStreams, FlowsOf, IsAtHome, IsLegal, IsLegalInput, RunsTo, lines_of, seats_of, flows_still}
 use Rattle.mr_streams.proofs.Placing.{SheetLaws, link_named, sheet_placed}
 use Rattle.mr_streams.proofs.Runs.{still_tells, gives_up}
-use Rattle.mr_streams.proofs.Sending.{GoHome, legs_over, own_all_sent}
+use Rattle.mr_streams.proofs.Sending.{GoesHome, legs_over, own_all_sent}
+use Rattle.mr_streams.proofs.Travels.{IsReadableSheet, legs_fit}
 
 -- a client is told something beside its answers
 tells_run : (client : ℕ) (o : Option Reply) (w : WorldView) (p : ℕ) (front : FrontView) → At w.proxies p front.core → FrontRuns w p front (after_all (tells client o) front)
@@ -173,11 +174,11 @@ record IsSound (routing : RoutingView) (p : ℕ) (sheet : LegSheet) : Type 0 whe
   valid : IsValidRequest (request_for sheet.command)
   own : sheet.id.op.proxy ≡ p
 
-go_home : (front : List Message) (sheets : List LegSheet) (nodes : List Node) (cores : List ProxyView) (core : ProxyView) (p : ℕ) (asker : Asker) (c : Connection)
+go_home : (front : List Message) (sheets : List LegSheet) (nodes : List Node) (cores : List ProxyView) (core : ProxyView) (p : ℕ) (c : Connection)
     → At cores p core → IsAtHome cores nodes c → AllByRecursion (IsSound core.routing p) sheets
-    → GoHome (front ++ map (message_of nodes core.routing) sheets) p core.routing asker c sheets
-go_home front [] nodes cores core p asker c there home all = tt
-go_home front (sheet ∷ sheets) nodes cores core p asker c there home all = (
+    → AllByRecursion (GoesHome (front ++ map (message_of nodes core.routing) sheets) p core.routing c) sheets
+go_home front [] nodes cores core p c there home all = tt
+go_home front (sheet ∷ sheets) nodes cores core p c there home all = (
   λ left same link. (
       let one : home.core ≡ core = at_one (subst (λ n. At cores n home.core) same home.home) there in
       let named : At (names_of core.routing) (link_of core.routing sheet) home.name =
@@ -188,15 +189,18 @@ go_home front (sheet ∷ sheets) nodes cores core p asker c there home all = (
         number = length front;
         there = subst (λ n. At (front ++ map (message_of nodes core.routing) (sheet ∷ sheets)) (length front) (record { sheet = sheet; node = n })) node
             (at_middle front (message_of nodes core.routing sheet) (map (message_of nodes core.routing) sheets));
-        valid = all.0.valid;
       }),
-  subst (λ m. GoHome m p core.routing asker c sheets) (append_assoc front (message_of nodes core.routing sheet ∷ []) (map (message_of nodes core.routing) sheets))
-      (go_home (front ++ message_of nodes core.routing sheet ∷ []) sheets nodes cores core p asker c there home all.1),
+  subst (λ m. AllByRecursion (GoesHome m p core.routing c) sheets) (append_assoc front (message_of nodes core.routing sheet ∷ []) (map (message_of nodes core.routing) sheets))
+      (go_home (front ++ message_of nodes core.routing sheet ∷ []) sheets nodes cores core p c there home all.1),
 )
 
 all_own : (routing : RoutingView) (p : ℕ) (sheets : List LegSheet) → AllByRecursion (IsSound routing p) sheets → AllByRecursion (λ (sheet : LegSheet). sheet.id.op.proxy ≡ p) sheets
 all_own routing p [] h = tt
 all_own routing p (sheet ∷ sheets) h = (h.0.own, all_own routing p sheets h.1)
+
+all_valid : (routing : RoutingView) (p : ℕ) (sheets : List LegSheet) → AllByRecursion (IsSound routing p) sheets → AllByRecursion IsReadableSheet sheets
+all_valid routing p [] h = tt
+all_valid routing p (sheet ∷ sheets) h = (h.0.valid, all_valid routing p sheets h.1)
 
 -- the sheets of a request are sound
 sheets_sound : SheetLaws → (w : WorldView) (t : StreamsView) (p reading : ℕ) (l : LoopView) (asked : Request) → MirrorsStreams w t → At t.loops p l → IsLegal asked
@@ -281,8 +285,9 @@ begun_all laws w t p l asker asked m home clock legal accepted =
     (λ client turns. known_waits (w.history ++ entry.Issued (next_op core) p asked ∷ []) client.turns (next_op core) turns))
     (own_all_sent sheets p asker core.routing l.links (all_own core.routing p sheets sound) (own_links w t p l m home))
     (λ i c k. legs_over sheets (w.sent ++ more) w.replies (lines_of t.loops) (seats_of t.nodes) p l.links c asker core.routing lines_at
-    (subst (λ n. GoHome (w.sent ++ map (message_of n core.routing) sheets) p core.routing asker c sheets) (sym m.mirrors.nodes_are)
-    (go_home w.sent sheets (world_nodes t.nodes) (cores_of t.loops) core p asker c core_at (m.mirrors.homes i c k) sound))
+    (subst (λ n. AllByRecursion (GoesHome (w.sent ++ map (message_of n core.routing) sheets) p core.routing c) sheets) (sym m.mirrors.nodes_are)
+    (go_home w.sent sheets (world_nodes t.nodes) (cores_of t.loops) core p c core_at (m.mirrors.homes i c k) sound))
+    (all_valid core.routing p sheets sound) (legs_fit core.routing core.schedule (next_op core) (used_reading core.last asker.reading) asked legal.fits)
     (subst (λ d. FlowsOf (w.sent ++ more) d (lines_of t.loops) (seats_of t.nodes) c) (append-nil w.replies)
     (flows_still w.sent more w.replies [] (lines_of t.loops) (seats_of t.nodes) c (m.mirrors.flows i c k))))
 

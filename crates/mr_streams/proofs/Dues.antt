@@ -14,7 +14,10 @@ use Rattle.mr_proxy.specs.ProxyView.{ProxyView}
 use Rattle.mr_proxy.specs.Replay.{answer_at}
 use Rattle.mr_proxy.specs.declared.step.Step.TheVariants.{Issue, Take, GiveUp}
 use Rattle.mr_loop.specs.Events.{FrontView, Event, after_event, after_all, changed, changed_in, with_turn, with_answer, answered}
-use Rattle.mr_loop.specs.Returning.{TakesAll, TakesBytes, HasTaken, Breaks, give_ups, taking, standing}
+use Rattle.mr_join.specs.declared.leg_reply.LegReply.{LegReply}
+use Rattle.mr_proxy.specs.declared.sheet.LegSheet.{LegSheet}
+use Rattle.mr_loop.specs.Links.{legs_of}
+use Rattle.mr_loop.specs.Returning.{TakesAll, TakesBytes, HasTaken, Breaks, give_ups, takings, standing}
 use Rattle.mr_loop.specs.Runs.{Due, due_of_turn, due_now, due}
 use Rattle.mr_loop.specs.Ticking.{ticks, given_up_at, is_late}
 use Rattle.mr_loop.specs.Turns.{noted, noted_in, is_turn_of}
@@ -219,11 +222,21 @@ quiet_ups : (legs : List SentLeg) → AreQuiet (give_ups legs)
 quiet_ups [] = tt
 quiet_ups (sent ∷ legs) = (tt, quiet_ups legs)
 
+pub quiet_both : (es fs : List Event) → AreQuiet es → AreQuiet fs → AreQuiet (es ++ fs)
+quiet_both [] fs h k = k
+quiet_both (e ∷ es) fs h k = (h.0, quiet_both es fs h.1 k)
+
+quiet_takings : (client : ℕ) (sheets : List LegSheet) (said : List LegReply) → AreQuiet (takings client sheets said)
+quiet_takings client [] said = tt
+quiet_takings client (sheet ∷ sheets) [] = tt
+quiet_takings client (sheet ∷ sheets) (one ∷ said) = (tt, quiet_takings client sheets said)
+
 quiet_takes : (legs : List SentLeg) (replies : List Reply) (events : List Event) (left : List SentLeg) → TakesAll legs replies events left → AreQuiet events
 quiet_takes [] [] events left h = subst AreQuiet (sym h.0) tt
 quiet_takes (sent ∷ legs) [] events left h = subst AreQuiet (sym h.0) tt
 quiet_takes [] (reply ∷ replies) events left h = absurd h
-quiet_takes (sent ∷ legs) (reply ∷ replies) events left h = subst AreQuiet (sym h.3) (tt, quiet_takes legs replies h.1 left h.4)
+quiet_takes (sent ∷ legs) (reply ∷ replies) events left h = subst AreQuiet (sym h.3)
+    (quiet_both (takings sent.client (legs_of sent) h.0) h.1 (quiet_takings sent.client (legs_of sent) h.0) (quiet_takes legs replies h.1 left h.4))
 
 -- nothing becomes due, and all is of requests that were issued
 pub record StaysDue (old new : FrontView) : Type 0 where
@@ -276,7 +289,9 @@ stays_bytes now piece old front Mismatch new front' t =
     stays_on front t.between front' (stays_taken _ old.legs front t.rest t.left t.between t.taken) (stays_breaks now (standing t.left t.counts old) new t.between front' t.breaks)
 stays_bytes now piece old front Complaint new front' t =
     let c = t.taken in
-    let taken : StaysDue c.between t.between = stays_to c.between (after_all (taking c.sent c.said ∷ []) c.between) t.between c.happens (quiet_stays (taking c.sent c.said ∷ []) c.between (tt, tt)) in
+    let takes : List Event = takings c.sent.client (legs_of c.sent) c.said in
+    let taken : StaysDue c.between t.between =
+    stays_to c.between (after_all takes c.between) t.between c.happens (quiet_stays takes c.between (quiet_takings c.sent.client (legs_of c.sent) c.said)) in
     stays_on front c.between front' (stays_taken _ old.legs front c.rest c.before c.between c.taken)
     (stays_on c.between t.between front' taken (stays_breaks now (standing t.left t.counts old) new t.between front' t.breaks))
 stays_bytes now piece old front (Refused refusal) new front' t =
@@ -286,10 +301,6 @@ stays_bytes now piece old front (Refused refusal) new front' t =
       | inr once ↦ stays_breaks now old new front front' once.breaks
     ]
 stays_bytes now piece old front Down new front' t = stays_to front front front' t.2 (stays_none front)
-
-quiet_both : (es fs : List Event) → AreQuiet es → AreQuiet fs → AreQuiet (es ++ fs)
-quiet_both [] fs h k = k
-quiet_both (e ∷ es) fs h k = (h.0, quiet_both es fs h.1 k)
 
 quiet_late : (late : Bool) (legs : List SentLeg) → AreQuiet (if late then give_ups legs else [])
 quiet_late true legs = quiet_ups legs

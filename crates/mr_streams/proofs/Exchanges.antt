@@ -19,10 +19,12 @@ use Rattle.mr_node.specs.declared.command.NodeCommand.{NodeCommand}
 use Rattle.mr_node.specs.declared.command.NodeCommand.TheVariants.{Get, Set, Delete}
 use Rattle.mr_node.specs.declared.ended.Ended.{Ended}
 use Rattle.mr_node.specs.declared.ended.Ended.TheVariants as how
-use Rattle.mr_proxy.specs.NodeRequests.{request_for}
+use Rattle.mr_proxy.specs.NodeRequests.{request_with}
+use Rattle.mr_proxy.specs.declared.sheet.LegSheet.{LegSheet}
+use Rattle.mr_loop.specs.Links.{text_of}
 use Rattle.mr_loop.specs.declared.sent_legs.SentLeg.{SentLeg}
 use Rattle.mr_loop.specs.node.Serving.{AsksOnce, AsksInOrder, EndsThere}
-use Rattle.mr_streams.specs.Flows.{IsError, text_of_leg}
+use Rattle.mr_streams.specs.Flows.{IsError, request_of}
 use Rattle.mr_streams.specs.StreamsView.{node_does}
 use Rattle.mr_streams.proofs.Spellings.{ArePrefixFree, one_spelling, some_bytes}
 
@@ -72,8 +74,8 @@ pub record IsFirst (Holds : SentLeg → Type 0) (legs : List SentLeg) (exchange 
   pub later : List SentLeg
   pub told : Reply
   pub legs_are : legs ≡ sent ∷ later
-  pub asks : exchange ≡ Asked (request_for sent.leg.command) told
-  pub texts : after ≡ flat_map text_of_leg later
+  pub asks : exchange ≡ Asked (request_of sent) told
+  pub texts : after ≡ flat_map text_of later
   pub holds : Holds sent
   pub all : AllByRecursion Holds later
 
@@ -81,28 +83,28 @@ no_skip : RequestLaws → (bytes x : List ℕ) → SpellsExchange bytes Unknown 
 no_skip laws bytes x one = (laws.skips (bytes ++ x)).0 (x, record { words = one.0; line = bytes; splits = refl; is_line = one.1; unknown = one.2 })
 
 -- so it is where each leg has a text that can be read
-pub first_exchange : RequestLaws → (Holds : SentLeg → Type 0) → ((sent : SentLeg) → Holds sent → IsValidRequest (request_for sent.leg.command))
+pub first_exchange : RequestLaws → (Holds : SentLeg → Type 0) → ((sent : SentLeg) → Holds sent → IsValidRequest (request_of sent))
     → (legs : List SentLeg) (exchange : Exchange) (spelling after : List ℕ)
-    → SpellsExchange spelling exchange → spelling ++ after ≡ flat_map text_of_leg legs → AllByRecursion Holds legs → IsFirst Holds legs exchange after
+    → SpellsExchange spelling exchange → spelling ++ after ≡ flat_map text_of legs → AllByRecursion Holds legs → IsFirst Holds legs exchange after
 first_exchange laws Holds valid [] (Asked request told) spelling after one e all =
     let some : canonical_request Quit ≢ [] = λ h. cc in
     absurd (some_bytes SpellsRequest laws.free spelling (canonical_request Quit) after request Quit one.0 (laws.reads Quit tt) some e)
 first_exchange laws Holds valid [] Unknown spelling after one e all =
     absurd (laws.unfinished.not_refused (UnknownCommand false) (subst (λ b. RefusesRequest (UnknownCommand false) b) e (no_skip laws spelling after one)))
 first_exchange laws Holds valid (sent ∷ later) (Asked request told) spelling after one e all =
-    let is = one_spelling SpellsRequest laws.free spelling (text_of_leg sent) after (flat_map text_of_leg later) request (request_for sent.leg.command)
-    one.0 (laws.reads (request_for sent.leg.command) (valid sent all.0)) e in
+    let is = one_spelling SpellsRequest laws.free spelling (text_of sent) after (flat_map text_of later) request (request_of sent)
+    one.0 (laws.reads (request_of sent) (valid sent all.0)) e in
     record { sent = sent; later = later; told = told; legs_are = refl; asks = ap (λ r. Asked r told) is.0; texts = is.1; holds = all.0; all = all.1 }
 first_exchange laws Holds valid (sent ∷ later) Unknown spelling after one e all =
-    absurd (laws.unrefused (text_of_leg sent) (flat_map text_of_leg later) (request_for sent.leg.command) (UnknownCommand false)
-    (laws.reads (request_for sent.leg.command) (valid sent all.0))
+    absurd (laws.unrefused (text_of sent) (flat_map text_of later) (request_of sent) (UnknownCommand false)
+    (laws.reads (request_of sent) (valid sent all.0))
     (subst (λ b. RefusesRequest (UnknownCommand false) b) e (no_skip laws spelling after one)))
 
--- what is written for the request of a leg
-pub text_told : (command : NodeCommand) (told : Reply) → text_of_exchange (Asked (request_for command) told) ≡ canonical_reply told
-text_told (Get key) told = refl
-text_told (Set key flags exptime block) told = refl
-text_told (Delete key) told = refl
+-- what is written for the request of legs that travel together
+pub text_told : (command : NodeCommand) (others : List LegSheet) (told : Reply) → text_of_exchange (Asked (request_with command others) told) ≡ canonical_reply told
+text_told (Get key) others told = refl
+text_told (Set key flags exptime block) others told = refl
+text_told (Delete key) others told = refl
 
 -- what is told where a client has ended: nothing, or an error for bytes that are there
 pub record IsLastWord (rest : List ℕ) (answer : Option Reply) : Type 0 where

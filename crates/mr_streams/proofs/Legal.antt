@@ -1,9 +1,12 @@
 -- What is read of a client's bytes can be asked of nodes.
-use Rattle.std.proofs.Common.{◌≡◌, ◌≢◌, ℕ, zero, suc, ◌<◌, inl, inr, List, [], ◌∷◌, length, map, Option, Some, None, refl, sym, ap, subst, arith}
+use Rattle.std.proofs.Common.{◌≡◌, ◌≢◌, ℕ, zero, suc, ◌+◌, ◌<◌, ◌≤◌, inl, inr, List, [], ◌∷◌, length, map, sum_by, codes, Option, Some, None, refl, sym, ap, ◌∙◌, subst, arith}
 use Rattle.std.specs.Prelude.{slice_index_or}
 use Rattle.std.specs.List.{AllByRecursion}
-use Rattle.std.proofs.lemmas.List.Elements.{All-cons, All-nil, recursion_from_All}
-use Rattle.mr_text.specs.Key.{IsKey}
+use Rattle.std.proofs.lemmas.List.Elements.{recursion_from_All}
+use Rattle.std.proofs.lemmas.List.Sums.{sum_by-cons}
+use Rattle.mr_text.specs.Key.{FitLine, IsKey}
+use Rattle.mr_text.specs.Limits.{MAX_LINE}
+use Rattle.mr_text.proofs.Fitting.{words_length}
 use Rattle.mr_text.specs.Requests.{SpellsRequest}
 use Rattle.mr_text.specs.Valid.{IsValidRequest}
 use Rattle.mr_text.specs.declared.request.Request.{Request}
@@ -21,13 +24,15 @@ use Rattle.mr_loop.specs.declared.inbox.Inbox.{Inbox}
 use Rattle.mr_loop.specs.declared.inbox.Input.{Input}
 use Rattle.mr_loop.specs.declared.inbox.Input.TheVariants as input
 use Rattle.mr_streams.proofs.Mirrors.{IsLegal, IsLegalInput}
+use Rattle.mr_streams.proofs.Performing.{get_valid}
 
-get_valid : (key : List ℕ) → IsKey key → IsValidRequest (request_for (Get key))
-get_valid key is = record {
-  some = omega arith;
-  fit = (let short = is.not_long in omega arith);
-  are_keys = All-cons IsKey key [] is (All-nil IsKey);
-}
+-- the keys of a line fit a line
+keys_fit : (line : List ℕ) (words keys : List (List ℕ)) → sum_by (λ (word : List ℕ). length word + 1) words ≤ length line + 1 → words ≡ codes "get" ∷ keys → length line ≤ MAX_LINE
+    → FitLine keys
+keys_fit line words keys all e short =
+    let parts : sum_by (λ (word : List ℕ). length word + 1) words ≡ 4 + sum_by (λ (word : List ℕ). length word + 1) keys =
+    ap (λ w. sum_by (λ (word : List ℕ). length word + 1) w) e ∙ sum_by-cons (λ (word : List ℕ). length word + 1) (codes "get") keys in
+    omega arith
 
 gets_valid : (keys : List (List ℕ)) (k : ℕ) (command : NodeCommand) → AllByRecursion IsKey keys → k < length (map Get keys) → slice_index_or (map Get keys) k command ≡ command
     → IsValidRequest (request_for command)
@@ -44,10 +49,12 @@ one_valid one (suc k) command valid below e = absurd (let l : suc k < 1 = below 
 pub spelled_legal : (bytes : List ℕ) (asked : Request) → SpellsRequest bytes asked → asked ≢ request.Quit → IsLegal asked
 spelled_legal bytes (request.Get keys) spells no_quit = record {
   has_legs = spells.shaped.1;
+  fits = keys_fit spells.is_line.line _ keys (words_length spells.is_line.line) (spells.is_line.splits ∙ spells.shaped.0) spells.is_line.not_long;
   valid = λ command has. gets_valid keys has.0 command (recursion_from_All IsKey keys spells.keys) has.1 has.2;
 }
 spelled_legal bytes (request.Set key flags exptime block noreply) spells no_quit = record {
   has_legs = tt;
+  fits = tt;
   valid = λ command has. one_valid (Set key flags exptime block) has.0 command
       (record {
         is_key = spells.is_line.is_line.keys;
@@ -58,6 +65,7 @@ spelled_legal bytes (request.Set key flags exptime block noreply) spells no_quit
 }
 spelled_legal bytes (request.Delete key noreply) spells no_quit = record {
   has_legs = tt;
+  fits = tt;
   valid = λ command has. one_valid (Delete key) has.0 command spells.keys has.1 has.2;
 }
 spelled_legal bytes request.Quit spells no_quit = absurd (no_quit refl)

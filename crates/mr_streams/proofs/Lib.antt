@@ -43,3 +43,5 @@ mod OwingAsks
 mod OwingNodes
 mod OwingEvents
 mod Convicting
+pub mod Together
+pub mod Travels

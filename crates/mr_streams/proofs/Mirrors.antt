@@ -6,7 +6,9 @@ use Rattle.mr_history.specs.Places.{At}
 use Rattle.mr_history.specs.declared.entry.Entry.{Entry}
 use Rattle.std.specs.Prelude.{Contains}
 use Rattle.mr_text.specs.Valid.{IsValidRequest}
+use Rattle.mr_text.specs.Key.{FitLine}
 use Rattle.mr_text.specs.declared.request.Request.{Request}
+use Rattle.mr_text.specs.declared.request.Request.TheVariants.{Get, Set, Delete, Quit}
 use Rattle.mr_node.specs.declared.command.NodeCommand.{NodeCommand}
 use Rattle.mr_proxy.specs.NodeRequests.{request_for}
 use Rattle.mr_proxy.specs.ProxyView.{ProxyView}
@@ -18,6 +20,9 @@ use Rattle.mr_loop.specs.declared.inbox.Input.TheVariants.{Asks, Refused}
 use Rattle.mr_loop.specs.LoopView.{LoopView}
 use Rattle.mr_loop.specs.declared.link.Link.{Link}
 use Rattle.mr_loop.specs.declared.node.client.NodeClient.{NodeClient}
+use Rattle.mr_join.specs.declared.leg_reply.LegReply.{LegReply}
+use Rattle.mr_proxy.specs.declared.sheet.LegSheet.{LegSheet}
+use Rattle.mr_loop.specs.Links.{legs_of}
 use Rattle.mr_loop.specs.declared.sent_legs.SentLeg.{SentLeg}
 use Rattle.mr_loop.specs.node.Serving.{to_tell}
 use Rattle.mr_world.specs.Headline.{IsPlan}
@@ -27,7 +32,7 @@ use Rattle.mr_world.specs.declared.message.Delivery.{Delivery}
 use Rattle.mr_world.specs.declared.message.Message.{Message}
 use Rattle.mr_world.specs.declared.node.Node.{Node}
 use Rattle.mr_streams.specs.Fleet.{FleetEvent, FleetRun, ticks_of}
-use Rattle.mr_streams.specs.Flows.{AreReplies, AreRequests, IsGoing, AreOf}
+use Rattle.mr_streams.specs.Flows.{AreReplies, AreRequests, IsGoing, IsMessage, AreOf, WereDelivered}
 use Rattle.mr_streams.specs.Kept.{AreTellable}
 use Rattle.mr_streams.specs.OneNode.{IsBusy}
 use Rattle.mr_streams.specs.OneProxy.{AreKnown}
@@ -112,9 +117,17 @@ pub record Mirrors (w : WorldView) (readings : ReadingsView) (cores : List Proxy
       → c.proxy ≡ d.proxy → c.link ≡ d.link → i ≡ j
   pub one_place : (i j place : ℕ) (c d : Connection) → At connections i c → At connections j d → c.place ≡ Some place → d.place ≡ Some place → c.node ≡ d.node → i ≡ j
 
--- a request that has legs, the text of each of which can be read
+-- the keys of a get fit a line
+abbrev pub FitsLine : Request → Type 0
+FitsLine (Get keys) = FitLine keys
+FitsLine (Set key flags exptime block noreply) = Unit {0}
+FitsLine (Delete key noreply) = Unit {0}
+FitsLine Quit = Unit {0}
+
+-- a request that has legs, the text of each of which can be read, and those of several gets together
 pub record IsLegal (request : Request) : Type 0 where
   pub has_legs : HasLegs request
+  pub fits : FitsLine request
   pub valid : (command : NodeCommand) → Contains (commands_of request) command → IsValidRequest (request_for command)
 
 -- what was held back is such a request
@@ -133,14 +146,29 @@ pub record MirrorsStreams (w : WorldView) (s : StreamsView) : Type 0 where
   pub known : (number : ℕ) (loop : LoopView) → At s.loops number loop → AreKnown w.history loop.front.clients
   pub legal : (number : ℕ) (loop : LoopView) → At s.loops number loop → AreLegal loop.inboxes
 
+messages_still : (messages more : List Message) (node : ℕ) (sheets : List LegSheet) → AllByRecursion (IsMessage messages node) sheets → AllByRecursion (IsMessage (messages ++ more) node) sheets
+messages_still messages more node [] h = h
+messages_still messages more node (sheet ∷ sheets) h = (record { number = h.0.number; there = at_left more h.0.there }, messages_still messages more node sheets h.1)
+
 -- what is going stays so while more messages are sent
 pub going_still : (messages more : List Message) (node : ℕ) (legs : List SentLeg) → AllByRecursion (IsGoing messages node) legs → AllByRecursion (IsGoing (messages ++ more) node) legs
 going_still messages more node [] h = h
-going_still messages more node (sent ∷ legs) h =
-    (record { number = h.0.number; there = at_left more h.0.there; valid = h.0.valid }, going_still messages more node legs h.1)
+going_still messages more node (sent ∷ legs) h = (
+  record { there = messages_still messages more node (legs_of sent) h.0.there; gets = h.0.gets; valid = h.0.valid },
+  going_still messages more node legs h.1,
+)
 
 requests_still : (messages more : List Message) (node : ℕ) (legs : List SentLeg) (bytes : List ℕ) → AreRequests messages node legs bytes → AreRequests (messages ++ more) node legs bytes
 requests_still messages more node legs bytes h = record { texts = h.texts; sent = going_still messages more node legs h.sent }
+
+delivered_later : (messages more : List Message) (deliveries : List Delivery) (sheets : List LegSheet) (said : List LegReply) → WereDelivered messages deliveries sheets said
+    → WereDelivered (messages ++ more) deliveries sheets said
+delivered_later messages more deliveries [] said h = h
+delivered_later messages more deliveries (sheet ∷ sheets) [] h = h
+delivered_later messages more deliveries (sheet ∷ sheets) (one ∷ said) h = (
+  (let d = h.0 in record { message = d.message; number = d.number; from = d.from; there = at_left more d.there; of_leg = d.of_leg; replied = d.replied }),
+  delivered_later messages more deliveries sheets said h.1,
+)
 
 answered_later : (messages more : List Message) (deliveries : List Delivery) (legs : List SentLeg) (bytes : List ℕ) → AreReplies messages deliveries legs bytes
     → AreReplies (messages ++ more) deliveries legs bytes
@@ -149,16 +177,7 @@ answered_later messages more deliveries (sent ∷ legs) bytes h = (
   h.0,
   h.1,
   elim h.2 [
-    | inl d ↦ inl (record {
-      message = d.message;
-      number = d.number;
-      from = d.from;
-      said = d.said;
-      there = at_left more d.there;
-      of_leg = d.of_leg;
-      replied = d.replied;
-      answers = d.answers;
-    })
+    | inl d ↦ inl (record { said = d.said; answers = d.answers; delivered = delivered_later messages more deliveries (legs_of sent) d.said d.delivered })
     | inr e ↦ inr e
   ],
   h.3,

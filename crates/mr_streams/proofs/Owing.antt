@@ -10,10 +10,11 @@ use Rattle.mr_history.specs.declared.entry.Entry.{Entry}
 use Rattle.mr_history.specs.declared.entry.Entry.TheVariants as entry
 use Rattle.mr_proxy.specs.NodeRequests.{request_for}
 use Rattle.mr_proxy.specs.declared.sheet.LegSheet.{LegSheet}
+use Rattle.mr_loop.specs.Links.{text_of}
 use Rattle.mr_loop.specs.declared.link.Link.{Link}
 use Rattle.mr_loop.specs.declared.node.client.NodeClient.{NodeClient}
 use Rattle.mr_loop.specs.declared.sent_legs.SentLeg.{SentLeg}
-use Rattle.mr_streams.specs.Flows.{text_of_leg}
+use Rattle.mr_streams.specs.Flows.{request_of}
 use Rattle.mr_streams.specs.StreamsView.{StreamsView, Connection}
 use Rattle.mr_streams.proofs.Mirrors.{lines_of, seats_of}
 
@@ -36,7 +37,7 @@ abbrev pub sets_of_sheet : Picks → LegSheet → ℕ
 sets_of_sheet is sheet = sets is (request_for sheet.command)
 
 abbrev pub sets_of_leg : Picks → SentLeg → ℕ
-sets_of_leg is sent = sets_of_sheet is sent.leg
+sets_of_leg is sent = sets is (request_of sent)
 
 -- one for an entry that issues such a set
 abbrev pub issued_at : Picks → Entry → ℕ
@@ -81,7 +82,7 @@ pub record Writes (lines : List (List Link)) (proxy number : ℕ) (out : List �
 
 -- a leg whose text can be read
 abbrev pub IsReadable : SentLeg → Type 0
-IsReadable sent = IsValidRequest (request_for sent.leg.command)
+IsReadable sent = IsValidRequest (request_of sent)
 
 -- What is on its way to a node over a connection are the texts of legs, of which at most so many are such sets. Where the proxy's end of it
 -- is gone some bytes stand for those that were to be written.
@@ -90,7 +91,7 @@ pub record Carries (is : Picks) (lines : List (List Link)) (seats : List (List N
   pub out : List ℕ
   pub readable : AllByRecursion IsReadable legs
   pub few : sum_by (sets_of_leg is) legs ≤ most
-  pub texts : (kept : List ℕ) → Keeps seats c.node c.place kept → kept ++ (c.forth ++ out) ≡ flat_map text_of_leg legs
+  pub texts : (kept : List ℕ) → Keeps seats c.node c.place kept → kept ++ (c.forth ++ out) ≡ flat_map text_of legs
   pub here : c.is_left ≡ false → Writes lines c.proxy c.link out
 
 -- so it is with each connection, for which so many are owed at its place

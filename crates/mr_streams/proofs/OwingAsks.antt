@@ -16,7 +16,7 @@ use Rattle.mr_proxy.specs.ProxyView.{ProxyView}
 use Rattle.mr_proxy.specs.declared.sheet.LegSheet.{LegSheet}
 use Rattle.mr_loop.specs.Asking.{Asking, DoesAll, IsDoneFor}
 use Rattle.mr_loop.specs.Events.{FrontView}
-use Rattle.mr_loop.specs.Links.{all_sent, all_up, sent_by}
+use Rattle.mr_loop.specs.Links.{all_sent, all_up}
 use Rattle.mr_loop.specs.declared.asker.Asker.{Asker}
 use Rattle.mr_loop.specs.declared.inbox.Inbox.{Inbox}
 use Rattle.mr_loop.specs.declared.inbox.Input.{Input}
@@ -29,7 +29,8 @@ use Rattle.mr_streams.proofs.Asking.{all_from, begun_next, issued_new}
 use Rattle.mr_streams.proofs.Legal.{came_legal, came_held}
 use Rattle.mr_streams.proofs.Lists.{at_written}
 use Rattle.mr_streams.proofs.Mirrors.{IsLegal, IsLegalInput}
-use Rattle.mr_streams.proofs.Owing.{Picks, IsReadable, AreCarried, sets, sets_of_sheet, issued, issued_at, stored, stored_at}
+use Rattle.mr_streams.proofs.Owing.{Picks, AreCarried, sets, sets_of_sheet, issued, issued_at, stored, stored_at}
+use Rattle.mr_streams.proofs.Travels.{IsReadableSheet, legs_fit}
 use Rattle.mr_streams.proofs.OwingLinks.{AreSingle, OwesMore, legs_go}
 use Rattle.mr_streams.proofs.Placing.{SheetLaws}
 
@@ -73,10 +74,9 @@ legs_weigh laws is core reading (request.Delete key noreply) =
 legs_weigh laws is core reading request.Quit = omega arith
 
 -- the text of each leg can be read
-legs_readable : SheetLaws → (core : ProxyView) (asker : Asker) (asked : Request) → IsLegal asked
-    → AllByRecursion (λ (sheet : LegSheet). IsReadable (sent_by asker sheet)) (sheets_of core asker.reading asked)
+legs_readable : SheetLaws → (core : ProxyView) (asker : Asker) (asked : Request) → IsLegal asked → AllByRecursion IsReadableSheet (sheets_of core asker.reading asked)
 legs_readable laws core asker asked legal =
-    all_from (λ (sheet : LegSheet). IsReadable (sent_by asker sheet)) (sheets_of core asker.reading asked)
+    all_from IsReadableSheet (sheets_of core asker.reading asked)
     (λ i sheet e. legal.valid sheet.command (laws.say core.routing core.schedule (next_op core) (used_reading core.last asker.reading) asked i sheet e).command)
 
 issues_as : (is : Picks) (op : _) (proxy : ℕ) (asked : Request) → issued is (entry.Issued op proxy asked ∷ []) ≡ sets is asked
@@ -126,7 +126,8 @@ module _ (laws : SheetLaws) (is : Picks) (lines : List (List Link)) (seats : Lis
             let core : ProxyView = front.core in
             let sheets : List LegSheet = sheets_of core asker.reading asked in
             let all : Bool = all_up core.routing sheets links in
-            let went = legs_go is seats sheets (slice_set lines p links) connections owed p links asker core.routing single (at_written links there) (legs_readable laws core asker asked legal) h in
+            let went = legs_go is seats sheets (slice_set lines p links) connections owed p links asker core.routing single (at_written links there) (legs_readable laws core asker asked legal)
+            (legs_fit core.routing core.schedule (next_op core) (used_reading core.last asker.reading) asked legal.fits) h in
             let gains = issued_new asked core front'.core (ap (λ (f : FrontView). f.core.next) begun.happens ∙ begun_next asker asked all front) in
             let as_asked : issued is (issued_by (input.Asks asked) core front'.core) ≡ sets is asked = ap (λ g. issued is g) gains ∙ issues_as is (next_op core) core.number asked in
             let weigh = legs_weigh laws is core asker.reading asked in

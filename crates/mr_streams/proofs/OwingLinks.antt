@@ -10,19 +10,21 @@ use Rattle.mr_history.specs.Places.{At}
 use Rattle.mr_pools.specs.Routing.{RoutingView}
 use Rattle.mr_proxy.specs.declared.sheet.LegSheet.{LegSheet}
 use Rattle.mr_loop.specs.Counts.{leg_unsent}
-use Rattle.mr_loop.specs.Links.{all_sent, sent_over, sent_over_in, sent_by, with_leg, link_of, is_up_at}
+use Rattle.mr_loop.specs.Links.{all_sent, each_sent, is_get, sent_over, sent_over_in, sent_by, text_of, travelling, travels_with, with_leg, with_traveller, link_of, is_up_at}
 use Rattle.mr_loop.specs.LoopView.{LoopView}
 use Rattle.mr_loop.specs.declared.asker.Asker.{Asker}
 use Rattle.mr_loop.specs.declared.link.Link.{Link}
 use Rattle.mr_loop.specs.declared.node.client.NodeClient.{NodeClient}
 use Rattle.mr_loop.specs.declared.sent_legs.SentLeg.{SentLeg}
-use Rattle.mr_streams.specs.Flows.{text_of_leg}
+use Rattle.mr_streams.proofs.Performing.{request_many, request_one}
+use Rattle.mr_streams.proofs.Travels.{FitTogether, IsReadableSheet, IsTravelling, both_gets, travel_valid}
+use Rattle.mr_loop.proofs.TravelLemmas.{behind}
 use Rattle.mr_streams.specs.Steps.{left_if_down}
 use Rattle.mr_streams.specs.StreamsView.{Connection}
 use Rattle.mr_streams.proofs.Changing.{IsSameLink, unless_down, up_at}
 use Rattle.mr_streams.proofs.Lists.{at_map, at_one, at_written, at_elsewhere, at_nothing, at_set, same_or_not, written_back}
 use Rattle.mr_streams.proofs.LinkEvents.{elsewhere_same}
-use Rattle.mr_streams.proofs.Owing.{Picks, Writes, IsReadable, Carries, AreCarried, sets_of_leg, sets_of_sheet, total, itself}
+use Rattle.mr_streams.proofs.Owing.{Picks, Writes, IsReadable, Carries, AreCarried, sets, sets_of_leg, sets_of_sheet, total, itself}
 
 -- the links of another proxy change
 pub writes_elsewhere : (lines : List (List Link)) (p : ℕ) (links' : List Link) (proxy number : ℕ) (out : List ℕ) → proxy ≢ p
@@ -116,18 +118,53 @@ readable_more [] sent all one = (one, all)
 readable_more (leg ∷ legs) sent all one = (all.0, readable_more legs sent all.1 one)
 
 -- the text of one more leg
-text_more : (legs : List SentLeg) (sent : SentLeg) (kept forth out : List ℕ) → kept ++ (forth ++ out) ≡ flat_map text_of_leg legs
-    → kept ++ (forth ++ (out ++ text_of_leg sent)) ≡ flat_map text_of_leg (legs ++ sent ∷ [])
+text_more : (legs : List SentLeg) (sent : SentLeg) (kept forth out : List ℕ) → kept ++ (forth ++ out) ≡ flat_map text_of legs
+    → kept ++ (forth ++ (out ++ text_of sent)) ≡ flat_map text_of (legs ++ sent ∷ [])
 text_more legs sent kept forth out e =
-    let text : List ℕ = text_of_leg sent in
+    let text : List ℕ = text_of sent in
     let grouped : (kept ++ (forth ++ out)) ++ text ≡ kept ++ (forth ++ (out ++ text)) =
     append_assoc kept (forth ++ out) text ∙ ap (λ x. kept ++ x) (append_assoc forth out text) in
-    sym grouped ∙ ap (λ x. x ++ text) e ∙ ap (λ x. flat_map text_of_leg legs ++ x) (sym (append-nil text)) ∙ sym (flat_map-append text_of_leg legs (sent ∷ []))
+    sym grouped ∙ ap (λ x. x ++ text) e ∙ ap (λ x. flat_map text_of legs ++ x) (sym (append-nil text)) ∙ sym (flat_map-append text_of legs (sent ∷ []))
 
 -- at each place there is at most one connection over a link that isn't left
 abbrev pub AreSingle : List Connection → Type 0
 AreSingle connections =
     (i j : ℕ) (c d : Connection) → At connections i c → At connections j d → c.is_left ≡ false → d.is_left ≡ false → c.proxy ≡ d.proxy → c.link ≡ d.link → i ≡ j
+
+-- gets set nothing, however many travel together
+sets_none : (is : Picks) (sent : SentLeg) → is_get sent.leg.command ≡ true → sets_of_leg is sent ≡ 0
+sets_none is sent get = ap (sets is) (request_many sent.leg.command sent.others get)
+
+one_sets : (is : Picks) (asker : Asker) (sheet : LegSheet) (sents : List SentLeg)
+    → sum_by (sets_of_leg is) (with_traveller asker sheet sents) ≤ sum_by (sets_of_leg is) sents + sets_of_sheet is sheet
+one_sets is asker sheet [] =
+    let only = sum_by-cons (sets_of_leg is) (sent_by asker sheet) [] in
+    let same : sets_of_leg is (sent_by asker sheet) ≡ sets_of_sheet is sheet = ap (sets is) (request_one sheet.command) in
+    omega arith
+one_sets is asker sheet (sent ∷ sents) =
+    elim (travels_with sheet sent.leg) as (λ b. travels_with sheet sent.leg ≡ b
+    → sum_by (sets_of_leg is) (if b then behind sheet sent ∷ sents else sent ∷ with_traveller asker sheet sents) ≤ sum_by (sets_of_leg is) (sent ∷ sents) + sets_of_sheet is sheet) [
+      | true ↦ λ e. (
+          let get = (both_gets sheet sent.leg e).1 in
+          let new = sum_by-cons (sets_of_leg is) (behind sheet sent) sents in
+          let old = sum_by-cons (sets_of_leg is) sent sents in
+          let none = sets_none is (behind sheet sent) get in
+          omega arith)
+      | false ↦ λ e. (
+          let new = sum_by-cons (sets_of_leg is) sent (with_traveller asker sheet sents) in
+          let old = sum_by-cons (sets_of_leg is) sent sents in
+          let rest = one_sets is asker sheet sents in
+          omega arith)
+    ] refl
+
+sets_together : (is : Picks) (asker : Asker) (sheets : List LegSheet) (sents : List SentLeg)
+    → sum_by (sets_of_leg is) (travelling asker sents sheets) ≤ sum_by (sets_of_leg is) sents + sum_by (sets_of_sheet is) sheets
+sets_together is asker [] sents = omega arith
+sets_together is asker (sheet ∷ sheets) sents =
+    let first = one_sets is asker sheet sents in
+    let rest = sets_together is asker sheets (with_traveller asker sheet sents) in
+    let sum = sum_by-cons (sets_of_sheet is) sheet sheets in
+    omega arith
 
 module _ (is : Picks) (seats : List (List NodeClient)) where
   -- the proxy's end of a connection is gone
@@ -199,7 +236,7 @@ module _ (is : Picks) (seats : List (List NodeClient)) where
       let links' : List Link = slice_set links number new in
       record {
         legs = h.legs ++ sent ∷ [];
-        out = h.out ++ text_of_leg sent;
+        out = h.out ++ text_of sent;
         readable = readable_more h.legs sent h.readable readable;
         few = (let more = sum_by_push (sets_of_leg is) h.legs sent in let few = h.few in omega arith);
         texts = λ kept k. text_more h.legs sent kept c.forth h.out (h.texts kept k);
@@ -209,7 +246,7 @@ module _ (is : Picks) (seats : List (List NodeClient)) where
           home = subst (λ n. At (slice_set lines p links') n links') (sym over.1) (at_written links' there);
           there = subst (λ n. At links' n new) (sym over.2) (at_written new link_there);
           is_up = up;
-          out_is = ap (λ x. x ++ text_of_leg sent) (ap (λ (x : Link). x.out) one ∙ old.out_is);
+          out_is = ap (λ x. x ++ text_of sent) (ap (λ (x : Link). x.out) one ∙ old.out_is);
         };
       }
 
@@ -276,11 +313,11 @@ module _ (is : Picks) (seats : List (List NodeClient)) where
   -- a leg goes, or is lost
   leg_by : (is_up : Bool) (lines : List (List Link)) (connections : List Connection) (owed : List ℕ) (p number : ℕ) (links : List Link) (link : Link) (sent : SentLeg) → AreSingle connections
       → At lines p links → At links number link → link.is_up ≡ is_up → IsReadable sent → AreCarried is lines seats connections owed
-      → OwesMore (slice_set lines p (slice_set links number (if is_up then with_leg sent link else record link { counts = leg_unsent link.counts }))) connections owed (sets_of_leg is sent)
+      → OwesMore (slice_set lines p (slice_set links number (if is_up then with_leg sent link else record link { counts = leg_unsent sent link.counts }))) connections owed (sets_of_leg is sent)
   leg_by true lines connections owed p number links link sent single there link_there up readable h = leg_goes lines connections owed p number links link sent single there link_there up readable h
   leg_by false lines connections owed p number links link sent single there link_there up readable h = record {
     now = owed;
-    carried = leg_lost lines connections owed p number links link (record link { counts = leg_unsent link.counts }) there link_there up h;
+    carried = leg_lost lines connections owed p number links link (record link { counts = leg_unsent sent link.counts }) there link_there up h;
     few = omega arith;
   }
 
@@ -295,25 +332,34 @@ module _ (is : Picks) (seats : List (List NodeClient)) where
   leg_in (Some link) lines connections owed p number links sent single there e readable h =
       leg_by link.is_up lines connections owed p number links link sent single there (record { gets = e }) refl readable h
 
-  -- the legs of a request go
-  pub legs_go : (sheets : List LegSheet) (lines : List (List Link)) (connections : List Connection) (owed : List ℕ) (p : ℕ) (links : List Link) (asker : Asker) (routing : RoutingView)
-      → AreSingle connections → At lines p links → AllByRecursion (λ (sheet : LegSheet). IsReadable (sent_by asker sheet)) sheets → AreCarried is lines seats connections owed
-      → OwesMore (slice_set lines p (all_sent asker routing sheets links)) connections owed (sum_by (sets_of_sheet is) sheets)
-  legs_go [] lines connections owed p links asker routing single there readable h = record {
+  -- what travels goes
+  each_goes : (sents : List SentLeg) (lines : List (List Link)) (connections : List Connection) (owed : List ℕ) (p : ℕ) (links : List Link) (routing : RoutingView)
+      → AreSingle connections → At lines p links → AllByRecursion IsTravelling sents → AreCarried is lines seats connections owed
+      → OwesMore (slice_set lines p (each_sent routing sents links)) connections owed (sum_by (sets_of_leg is) sents)
+  each_goes [] lines connections owed p links routing single there readable h = record {
     now = owed;
     carried = subst (λ l. AreCarried is l seats connections owed) (sym (written_back there)) h;
     few = omega arith;
   }
-  legs_go (sheet ∷ sheets) lines connections owed p links asker routing single there readable h =
-      let number : ℕ = link_of routing sheet in
-      let between : List Link = sent_over number (sent_by asker sheet) links in
-      let first = leg_in (slice_get links number) lines connections owed p number links (sent_by asker sheet) single there refl readable.0 h in
-      let next = legs_go sheets (slice_set lines p between) connections first.now p between asker routing single (at_written between there) readable.1 first.carried in
+  each_goes (sent ∷ sents) lines connections owed p links routing single there readable h =
+      let number : ℕ = link_of routing sent.leg in
+      let between : List Link = sent_over number sent links in
+      let first = leg_in (slice_get links number) lines connections owed p number links sent single there refl readable.0.valid h in
+      let next = each_goes sents (slice_set lines p between) connections first.now p between routing single (at_written between there) readable.1 first.carried in
       record {
         now = next.now;
-        carried = subst (λ l. AreCarried is l seats connections next.now) (set-set lines p between (all_sent asker routing sheets between)) next.carried;
-        few = (let a = first.few in let b = next.few in let sum = sum_by-cons (sets_of_sheet is) sheet sheets in omega arith);
+        carried = subst (λ l. AreCarried is l seats connections next.now) (set-set lines p between (each_sent routing sents between)) next.carried;
+        few = (let a = first.few in let b = next.few in let sum = sum_by-cons (sets_of_leg is) sent sents in omega arith);
       }
+
+  -- the legs of a request go
+  pub legs_go : (sheets : List LegSheet) (lines : List (List Link)) (connections : List Connection) (owed : List ℕ) (p : ℕ) (links : List Link) (asker : Asker) (routing : RoutingView)
+      → AreSingle connections → At lines p links → AllByRecursion IsReadableSheet sheets → FitTogether sheets → AreCarried is lines seats connections owed
+      → OwesMore (slice_set lines p (all_sent asker routing sheets links)) connections owed (sum_by (sets_of_sheet is) sheets)
+  legs_go sheets lines connections owed p links asker routing single there readable fits h =
+      let went = each_goes (travelling asker [] sheets) lines connections owed p links routing single there (travel_valid asker sheets readable fits) h in
+      let weigh = sets_together is asker sheets [] in
+      record { now = went.now; carried = went.carried; few = (let few = went.few in omega arith) }
 
   -- one connection changes, and the link that it goes over
   pub carried_changed : (lines : List (List Link)) (connections : List Connection) (owed : List ℕ) (number : ℕ) (c c' : Connection) (links : List Link) (link' : Link) (loop' : LoopView)

@@ -14,7 +14,9 @@ use Rattle.mr_node.specs.Output.Exchange.{Asked}
 use Rattle.mr_node.specs.Recency.{CacheView}
 use Rattle.mr_node.specs.declared.command.NodeCommand.{NodeCommand}
 use Rattle.mr_node.specs.declared.command.NodeCommand.TheVariants.{Get, Set, Delete}
-use Rattle.mr_proxy.specs.NodeRequests.{request_for}
+use Rattle.mr_proxy.specs.NodeRequests.{request_with}
+use Rattle.mr_proxy.specs.declared.sheet.LegSheet.{LegSheet}
+use Rattle.mr_loop.specs.Links.{text_of}
 use Rattle.mr_loop.specs.declared.inbox.Inbox.{Inbox}
 use Rattle.mr_loop.specs.declared.link.Link.{Link}
 use Rattle.mr_loop.specs.declared.node.client.NodeClient.{NodeClient}
@@ -24,7 +26,6 @@ use Rattle.mr_loop.specs.node.NodeView.{NodeView, NodeBytes, NodeEnds, NodeWrote
 use Rattle.mr_loop.specs.node.Serving.{Seat, ServesSome, IsOver, seat}
 use Rattle.mr_world.specs.WorldView.{WorldView}
 use Rattle.mr_streams.specs.Entries.{stored_by, stored_in}
-use Rattle.mr_streams.specs.Flows.{text_of_leg}
 use Rattle.mr_streams.specs.Steps.{NodeDoes, gone_from, with_node, with_connection, with_entries}
 use Rattle.mr_streams.specs.StreamsView.{StreamsView, NodeEnd, Connection, node_does}
 use Rattle.mr_streams.proofs.Exchanges.{RequestLaws, SpellsAll, spells_all, first_exchange}
@@ -33,40 +34,41 @@ use Rattle.mr_streams.proofs.Mirrors.{MirrorsStreams, ReadsOn, lines_of, seats_o
 use Rattle.mr_streams.proofs.NodeEvents.{takes_done, takes_all, without_node, gone_or_not}
 use Rattle.mr_streams.proofs.Owing.{Picks, sets, sets_of_leg, stored_at, stored, Keeps, IsReadable, Carries, AreCarried, Owes, itself, total, within_more}
 
--- what is asked for a leg stores no more than its command sets
-stored_one : (is : Picks) (by : Author) (command : NodeCommand) (told : Reply) → sum_by (stored_at is) (stored_by by (Asked (request_for command) told)) ≤ sets is (request_for command)
-stored_one is by (Get key) told = omega arith
-stored_one is by (Set key flags exptime block) Stored = omega arith
-stored_one is by (Set key flags exptime block) (Items items) = omega arith
-stored_one is by (Set key flags exptime block) Deleted = omega arith
-stored_one is by (Set key flags exptime block) NotFound = omega arith
-stored_one is by (Set key flags exptime block) Error = omega arith
-stored_one is by (Set key flags exptime block) (ClientError cause) = omega arith
-stored_one is by (Set key flags exptime block) (ServerError cause) = omega arith
-stored_one is by (Delete key) told = omega arith
+-- what is asked for legs that travel together stores no more than they set
+stored_one : (is : Picks) (by : Author) (command : NodeCommand) (others : List LegSheet) (told : Reply)
+    → sum_by (stored_at is) (stored_by by (Asked (request_with command others) told)) ≤ sets is (request_with command others)
+stored_one is by (Get key) others told = omega arith
+stored_one is by (Set key flags exptime block) others Stored = omega arith
+stored_one is by (Set key flags exptime block) others (Items items) = omega arith
+stored_one is by (Set key flags exptime block) others Deleted = omega arith
+stored_one is by (Set key flags exptime block) others NotFound = omega arith
+stored_one is by (Set key flags exptime block) others Error = omega arith
+stored_one is by (Set key flags exptime block) others (ClientError cause) = omega arith
+stored_one is by (Set key flags exptime block) others (ServerError cause) = omega arith
+stored_one is by (Delete key) others told = omega arith
 
 -- what was read are the texts of the first legs, the rest those of the others, and no more is stored than the first set
 pub record AreOfLegs (is : Picks) (legs : List SentLeg) (rest : List ℕ) (gains : List Entry) : Type 0 where
   pub answered : List SentLeg
   pub left : List SentLeg
   pub splits : legs ≡ answered ++ left
-  pub texts : rest ≡ flat_map text_of_leg left
+  pub texts : rest ≡ flat_map text_of left
   pub readable : AllByRecursion IsReadable left
   pub few : sum_by (stored_at is) gains ≤ sum_by (sets_of_leg is) answered
 
 -- exchanges that are read of the texts of legs are those of the first legs
 pub exchanges_of_legs : RequestLaws → (is : Picks) (by : Author) (exchanges : List Exchange) (legs : List SentLeg) (read rest : List ℕ) → AllByRecursion IsReadable legs
-    → SpellsAll read exchanges → read ++ rest ≡ flat_map text_of_leg legs → AreOfLegs is legs rest (flat_map (stored_by by) exchanges)
+    → SpellsAll read exchanges → read ++ rest ≡ flat_map text_of legs → AreOfLegs is legs rest (flat_map (stored_by by) exchanges)
 exchanges_of_legs laws is by [] legs read rest all spells e =
     record { answered = []; left = legs; splits = refl; texts = ap (λ b. b ++ rest) (sym spells) ∙ e; readable = all; few = omega arith }
 exchanges_of_legs laws is by (exchange ∷ exchanges) legs read rest all spells e =
-    let cut : spells.0 ++ (spells.1 ++ rest) ≡ flat_map text_of_leg legs = sym (append_assoc spells.0 spells.1 rest) ∙ ap (λ b. b ++ rest) (sym spells.3) ∙ e in
+    let cut : spells.0 ++ (spells.1 ++ rest) ≡ flat_map text_of legs = sym (append_assoc spells.0 spells.1 rest) ∙ ap (λ b. b ++ rest) (sym spells.3) ∙ e in
     let one = first_exchange laws IsReadable (λ sent holds. holds) legs exchange spells.0 (spells.1 ++ rest) spells.2 cut all in
     let next = exchanges_of_legs laws is by exchanges one.later spells.1 rest one.all spells.4 one.texts in
     let gained : List Entry = stored_by by exchange in
     let more : List Entry = flat_map (stored_by by) exchanges in
     let few : sum_by (stored_at is) gained ≤ sets_of_leg is one.sent =
-    subst (λ x. sum_by (stored_at is) (stored_by by x) ≤ sets_of_leg is one.sent) (sym one.asks) (stored_one is by one.sent.leg.command one.told) in
+    subst (λ x. sum_by (stored_at is) (stored_by by x) ≤ sets_of_leg is one.sent) (sym one.asks) (stored_one is by one.sent.leg.command one.sent.others one.told) in
     record {
       answered = one.sent ∷ next.answered;
       left = next.left;
@@ -223,7 +225,7 @@ leaves_owing is first w s number place c end loop' piece m there is_open home l 
       readable = h.readable;
       few = h.few;
       texts = λ kept k. (let own = own_client (seats_of s.nodes) c.node place end.loop.clients l.was client' c.place kept seats_there was_there is_open k in
-          subst (λ x. x ++ (c.forth ++ h.out) ≡ flat_map text_of_leg h.legs) own.1
+          subst (λ x. x ++ (c.forth ++ h.out) ≡ flat_map text_of h.legs) own.1
           (h.texts l.was.inbox.reader.kept (keeps_was s place c end l.was is_open home was_there own.0)));
       here = h.here;
     } in
@@ -269,7 +271,7 @@ module _ (laws : RequestLaws) (is : Picks) (first : ℕ) (w : WorldView) (s : St
       let h = o.carried.each number c there in
       let hears : was.inbox.is_done ≡ false = sym same_done ∙ some.is_open in
       let later : List ℕ = forth' ++ h.out in
-      let cut : some.bytes ++ (some.rest ++ later) ≡ flat_map text_of_leg h.legs =
+      let cut : some.bytes ++ (some.rest ++ later) ≡ flat_map text_of h.legs =
       sym (append_assoc some.bytes some.rest later) ∙ ap (λ b. b ++ later) (sym some.splits) ∙ sym (texts h.out (reads_there w s number place c end was m there is_open home was_there hears))
       ∙ h.texts was.inbox.reader.kept (keeps_was s place c end was is_open home was_there hears) in
       let e = exchanges_of_legs laws is by some.exchanges h.legs some.bytes (some.rest ++ later) h.readable (spells_all some.bytes some.exchanges some.reads) cut in

@@ -1,5 +1,6 @@
 -- Bytes that come over a link are replies that come back, each to its leg.
-use Rattle.std.proofs.Common.{◌≡◌, ℕ, inl, inr, List, [], ◌∷◌, ◌++◌, slice_set, refl, sym, ap, ◌∙◌, subst, append_assoc}
+use Rattle.std.specs.List.{AllByRecursion}
+use Rattle.std.proofs.Common.{◌≡◌, ℕ, inl, inr, List, [], ◌∷◌, ◌++◌, map, Option, Some, None, slice_set, refl, sym, ap, ◌∙◌, subst, append_assoc}
 use Rattle.mr_text.specs.Canonical.{canonical_reply}
 use Rattle.mr_text.specs.Replies.{SpellsReply}
 use Rattle.mr_text.specs.declared.cause.Cause.{Cause}
@@ -12,7 +13,8 @@ use Rattle.mr_join.specs.declared.leg_reply.LegReply.{LegReply}
 use Rattle.mr_join.specs.declared.leg_reply.LegReply.TheVariants.{Failed}
 use Rattle.mr_node.specs.declared.command.NodeCommand.{NodeCommand}
 use Rattle.mr_node.specs.declared.command.NodeCommand.TheVariants.{Get, Set, Delete}
-use Rattle.mr_proxy.specs.NodeReplies.{IsAnswer, FindsItemOf}
+use Rattle.mr_proxy.specs.NodeReplies.{AnswersGets, IsAnswer, FindsItemOf, all_failed, dealt}
+use Rattle.mr_proxy.specs.NodeRequests.{key_of}
 use Rattle.mr_proxy.specs.ProxyView.{ProxyView}
 use Rattle.mr_proxy.specs.Transitions.{after_take, taken_of}
 use Rattle.mr_proxy.specs.declared.sheet.LegId.{LegId}
@@ -20,7 +22,9 @@ use Rattle.mr_proxy.specs.declared.sheet.LegSheet.{LegSheet}
 use Rattle.mr_proxy.specs.declared.step.Step.{Step}
 use Rattle.mr_proxy.specs.declared.step.Step.TheVariants.{Take}
 use Rattle.mr_loop.specs.Events.{FrontView, Event, after_all, after_event}
-use Rattle.mr_loop.specs.Returning.{Reads, TakesAll, taking}
+use Rattle.mr_loop.specs.Links.{legs_of}
+use Rattle.mr_loop.specs.Returning.{Answers, AnswersSent, Reads, TakesAll, taking, takings}
+use Rattle.mr_loop.proofs.TakenLemmas.{after_both}
 use Rattle.mr_loop.specs.declared.sent_legs.SentLeg.{SentLeg}
 use Rattle.mr_world.specs.Steps.{answered_by, note_of}
 use Rattle.mr_world.specs.WorldView.{WorldView}
@@ -28,7 +32,7 @@ use Rattle.mr_world.specs.declared.event.Event.TheVariants.{Return}
 use Rattle.mr_world.specs.declared.message.Message.{Message}
 use Rattle.mr_world.specs.declared.message.Delivery.{Delivery}
 use Rattle.mr_streams.specs.Fleet.{FleetEvent}
-use Rattle.mr_streams.specs.Flows.{AreReplies, WasAnswered, IsError, AreOf}
+use Rattle.mr_streams.specs.Flows.{AreReplies, WasAnswered, WereDelivered, IsError, AreOf, SheetsAreOf}
 use Rattle.mr_streams.specs.OneProxy.{StepsSo, FrontRuns}
 use Rattle.mr_streams.proofs.Fronts.{front_stays, front_to, front_on, front_does}
 use Rattle.mr_streams.proofs.Runs.{stands, one_event, gains_taken, told_taken, kin_there, kin_taken}
@@ -129,19 +133,87 @@ returns_one w number core message reply_number from said there own sent came =
       gives = λ answer given wants. told_taken w.history (taken_of core id said) answer given wants;
     }
 
-pub takes_one : (messages : List Message) (deliveries : List Delivery) (w : WorldView) (number : ℕ) (core : ProxyView) (sent : SentLeg) (reply : Reply) (said : LegReply)
-    → w.sent ≡ messages → w.replies ≡ deliveries → At w.proxies number core → sent.leg.id.op.proxy ≡ number
-    → WasAnswered messages deliveries sent reply → IsAnswer sent.leg.command reply said → StepsSo w number core (take_of sent.leg said)
-takes_one messages deliveries w number core sent reply said ws wr there own was answers =
+some_once : {X : Type 0} (o : Option X) (a b : X) → o ≡ Some a → o ≡ Some b → a ≡ b
+some_once None a b h k = cc
+some_once (Some x) a b h k = cc
+
+-- a reply says one thing of gets that travelled together
+gets_once : (keys : List (List ℕ)) (reply : Reply) (a b : List LegReply) → AnswersGets keys reply a → AnswersGets keys reply b → a ≡ b
+gets_once keys (Items items) a b h k = some_once (dealt keys items) a b h k
+gets_once keys Stored a b h k = absurd h
+gets_once keys Deleted a b h k = absurd h
+gets_once keys NotFound a b h k = absurd h
+gets_once keys Error a b h k = h ∙ sym k
+gets_once keys (ClientError cause) a b h k = h ∙ sym k
+gets_once keys (ServerError cause) a b h k = h ∙ sym k
+
+-- and so it does of any legs
+sent_once : (leg : LegSheet) (others : List LegSheet) (reply : Reply) (a b : List LegReply) → Answers leg others reply a → Answers leg others reply b → a ≡ b
+sent_once leg [] reply a b h k = h.2 ∙ ap (λ x. x ∷ []) (answer_once leg.command reply h.0 k.0 h.1 k.1) ∙ sym k.2
+sent_once leg (other ∷ others) reply a b h k = gets_once (map key_of (leg ∷ other ∷ others)) reply a b h k
+
+-- each of these failed
+abbrev pub AllFailed : List LegReply → Type 0
+AllFailed said = AllByRecursion (λ (one : LegReply). (cause : Cause) × (one ≡ Failed cause)) said
+
+failed_gets : (keys : List (List ℕ)) → AllFailed (map (λ _. Failed NodeRefused) keys)
+failed_gets [] = tt
+failed_gets (key ∷ keys) = ((NodeRefused, refl), failed_gets keys)
+
+failed_keys : (cause : Cause) (keys : List (List ℕ)) → AllFailed (all_failed cause keys)
+failed_keys cause [] = tt
+failed_keys cause (key ∷ keys) = ((cause, refl), failed_gets keys)
+
+errors_fail : (leg : LegSheet) (others : List LegSheet) (reply : Reply) (said : List LegReply) → IsError reply → Answers leg others reply said → AllFailed said
+errors_fail leg [] reply said e h = subst AllFailed (sym h.2) (error_fails leg.command reply h.0 e h.1, tt)
+errors_fail leg (other ∷ others) (Items items) said e h = absurd e
+errors_fail leg (other ∷ others) Stored said e h = absurd e
+errors_fail leg (other ∷ others) Deleted said e h = absurd e
+errors_fail leg (other ∷ others) NotFound said e h = absurd e
+errors_fail leg (other ∷ others) Error said e h = subst AllFailed (sym h) (failed_keys NodeRefused (map key_of (leg ∷ other ∷ others)))
+errors_fail leg (other ∷ others) (ClientError cause) said e h = subst AllFailed (sym h) (failed_keys cause (map key_of (leg ∷ other ∷ others)))
+errors_fail leg (other ∷ others) (ServerError cause) said e h = subst AllFailed (sym h) (failed_keys cause (map key_of (leg ∷ other ∷ others)))
+
+-- of each leg a message was delivered, and this is what came back
+takes_delivered : (messages : List Message) (deliveries : List Delivery) (w : WorldView) (number client : ℕ) (front : FrontView) (sheets : List LegSheet) (said : List LegReply)
+    → w.sent ≡ messages → w.replies ≡ deliveries → At w.proxies number front.core → SheetsAreOf number sheets → WereDelivered messages deliveries sheets said
+    → FrontRuns w number front (after_all (takings client sheets said) front)
+takes_delivered messages deliveries w number client front [] said ws wr there own were = front_stays w number front there
+takes_delivered messages deliveries w number client front (sheet ∷ sheets) [] ws wr there own were = front_stays w number front there
+takes_delivered messages deliveries w number client front (sheet ∷ sheets) (one ∷ said) ws wr there own were =
+    let d = were.0 in
+    let step : StepsSo w number front.core (take_of sheet one) =
+    subst (λ s. StepsSo w number front.core (take_of s one)) d.of_leg
+    (returns_one w number front.core d.message d.number d.from one there (ap (λ s. s.id.op.proxy) d.of_leg ∙ own.0)
+    (subst (λ m. At m d.from d.message) (sym ws) d.there) (subst (λ r. At r d.number (record { message = d.from; reply = one })) (sym wr) d.replied)) in
+    let front' : FrontView = after_event (taking client sheet one) front in
+    let first = front_does w number front client (take_of sheet one) tt step in
+    let next = takes_delivered messages deliveries first.so.world number client front' sheets said (first.so.sent ∙ ws) (first.so.replies ∙ wr)
+    (stands w number front.core front'.core first.so there) own.1 were.1 in
+    front_on w number front front' (after_all (takings client sheets said) front') first next
+
+-- each leg failed
+takes_failed : (w : WorldView) (number client : ℕ) (front : FrontView) (sheets : List LegSheet) (said : List LegReply)
+    → At w.proxies number front.core → SheetsAreOf number sheets → AllFailed said → FrontRuns w number front (after_all (takings client sheets said) front)
+takes_failed w number client front [] said there own failed = front_stays w number front there
+takes_failed w number client front (sheet ∷ sheets) [] there own failed = front_stays w number front there
+takes_failed w number client front (sheet ∷ sheets) (one ∷ said) there own failed =
+    let step : StepsSo w number front.core (take_of sheet one) =
+    subst (λ r. StepsSo w number front.core (take_of sheet r)) (sym failed.0.1) (fails_one w number front.core sheet failed.0.0 there own.0) in
+    let front' : FrontView = after_event (taking client sheet one) front in
+    let first = front_does w number front client (take_of sheet one) tt step in
+    let next = takes_failed first.so.world number client front' sheets said (stands w number front.core front'.core first.so there) own.1 failed.1 in
+    front_on w number front front' (after_all (takings client sheets said) front') first next
+
+-- legs that travelled together take what their reply says of them
+pub takes_sent : (messages : List Message) (deliveries : List Delivery) (w : WorldView) (number : ℕ) (front : FrontView) (sent : SentLeg) (reply : Reply) (said : List LegReply)
+    → w.sent ≡ messages → w.replies ≡ deliveries → At w.proxies number front.core → SheetsAreOf number (legs_of sent)
+    → WasAnswered messages deliveries sent reply → AnswersSent sent reply said → FrontRuns w number front (after_all (takings sent.client (legs_of sent) said) front)
+takes_sent messages deliveries w number front sent reply said ws wr there own was answers =
     elim was [
-      | inl d ↦ (
-          let one = returns_one w number core d.message d.number d.from d.said there (ap (λ s. s.id.op.proxy) d.of_leg ∙ own)
-          (subst (λ m. At m d.from d.message) (sym ws) d.there) (subst (λ r. At r d.number (record { message = d.from; reply = d.said })) (sym wr) d.replied) in
-          subst (λ r. StepsSo w number core (take_of sent.leg r)) (answer_once sent.leg.command reply d.said said d.answers answers)
-          (subst (λ s. StepsSo w number core (take_of s d.said)) d.of_leg one))
-      | inr e ↦ (
-          let fails = error_fails sent.leg.command reply said e answers in
-          subst (λ r. StepsSo w number core (take_of sent.leg r)) (sym fails.1) (fails_one w number core sent.leg fails.0 there own))
+      | inl d ↦ takes_delivered messages deliveries w number sent.client front (legs_of sent) said ws wr there own
+          (subst (λ s. WereDelivered messages deliveries (legs_of sent) s) (sent_once sent.leg sent.others reply d.said said d.answers answers) d.delivered)
+      | inr e ↦ takes_failed w number sent.client front (legs_of sent) said there own (errors_fail sent.leg sent.others reply said e answers)
     ]
 
 pub takes_none : (legs left : List SentLeg) (events : List Event) → TakesAll legs [] events left → (events ≡ []) × (left ≡ legs)
@@ -180,9 +252,8 @@ returns_run laws messages deliveries (reply ∷ replies) (sent ∷ returning) go
     sym (append_assoc reads.1.spelling reads.0 later) ∙ ap (λ b. b ++ later) (sym reads.1.splits) ∙ flows.4 in
     let one = first_reply laws reads.1.spelling (reads.0 ++ later) flows.1 reply flows.0 reads.1.spells flows.3 e in
     let was : WasAnswered messages deliveries sent reply = subst (λ r. WasAnswered messages deliveries sent r) (sym one.0) flows.2 in
-    let front' : FrontView = after_event (taking sent takes.0) front in
-    let first = front_does w number front sent.client (take_of sent.leg takes.0) tt
-    (takes_one messages deliveries w number front.core sent reply takes.0 ws wr there own.0 was takes.2) in
+    let front' : FrontView = after_all (takings sent.client (legs_of sent) takes.0) front in
+    let first = takes_sent messages deliveries w number front sent reply takes.0 ws wr there own.0 was takes.2 in
     let next = returns_run laws messages deliveries replies returning going left takes.1 reads.0 rest later first.so.world number front'
     (first.so.sent ∙ ws) (first.so.replies ∙ wr) (stands w number front.core front'.core first.so there) own.1
     (subst (λ x. AreReplies messages deliveries returning x) (sym one.1) flows.5) reads.2 takes.4 in
@@ -191,6 +262,7 @@ returns_run laws messages deliveries (reply ∷ replies) (sent ∷ returning) go
       leaves = next.leaves;
       flows = next.flows;
       own = next.own;
-      run = front_to w number front (after_all takes.1 front') (after_all events front) (ap (λ es. after_all es front) (sym takes.3))
+      run = front_to w number front (after_all takes.1 front') (after_all events front)
+          (sym (ap (λ es. after_all es front) takes.3 ∙ after_both (takings sent.client (legs_of sent) takes.0) takes.1 front))
           (front_on w number front front' (after_all takes.1 front') first next.run);
     }

@@ -4,7 +4,9 @@ use Rattle.mr_text.specs.declared.error.TextError.{TextError}
 use Rattle.mr_history.specs.Places.{At}
 use Rattle.mr_proxy.specs.declared.step.Step.TheVariants.{GiveUp}
 use Rattle.mr_loop.specs.Events.{FrontView, after_all, after_event}
-use Rattle.mr_loop.specs.Returning.{TakesAll, HasTaken, TakesWhole, TakesSome, BreaksAtComplaint, BreaksAtOnce, TakesBytes, Breaks, IsSurplus, IsMismatch, IsRefused, give_ups, giving_up, taking, standing}
+use Rattle.mr_loop.specs.Returning.{TakesAll, HasTaken, TakesWhole, TakesSome, BreaksAtComplaint, BreaksAtOnce, TakesBytes, Breaks, IsSurplus, IsMismatch, IsRefused, give_ups, giving_up, takings, standing}
+use Rattle.mr_loop.specs.Links.{legs_of}
+use Rattle.std.proofs.lemmas.List.{append-nil}
 use Rattle.mr_loop.specs.declared.link.Link.{Link}
 use Rattle.mr_loop.specs.declared.link.LinkEnd.{LinkEnd}
 use Rattle.mr_loop.specs.declared.link.LinkEnd.TheVariants.{Whole, Surplus, Mismatch, Complaint, Refused, Down}
@@ -38,7 +40,7 @@ pub give_ups_run : (legs : List SentLeg) (w : WorldView) (number : ℕ) (front :
 give_ups_run [] w number front there own = front_stays w number front there
 give_ups_run (sent ∷ legs) w number front there own =
     let front' : FrontView = after_event (giving_up sent) front in
-    let first : FrontRuns w number front front' = front_does w number front sent.client (GiveUp sent.leg.id.op) tt (gives_up w number front.core sent.leg.id.op there own.0) in
+    let first : FrontRuns w number front front' = front_does w number front sent.client (GiveUp sent.leg.id.op) tt (gives_up w number front.core sent.leg.id.op there own.0.0) in
     front_on w number front front' (after_all (give_ups legs) front') first
     (give_ups_run legs first.so.world number front' (stands w number front.core front'.core first.so there) own.1)
 
@@ -113,9 +115,10 @@ complaint_taken laws messages deliveries w number now piece later old new front 
     let one : HasTaken c.rest c.before c.between c.after t.left t.between =
     record {
       replies = c.reply ∷ [];
-      events = taking c.sent c.said ∷ [];
+      events = takings c.sent.client (legs_of c.sent) c.said;
       reads = (c.after, c.next, refl);
-      takes = subst (λ l. TakesAll l (c.reply ∷ []) (taking c.sent c.said ∷ []) t.left) (sym c.first) (c.said, [], c.answers, refl, nothing_more t.left);
+      takes = subst (λ l. TakesAll l (c.reply ∷ []) (takings c.sent.client (legs_of c.sent) c.said) t.left) (sym c.first)
+          (c.said, [], c.answers, sym (append-nil (takings c.sent.client (legs_of c.sent) c.said)), nothing_more t.left);
       happens = c.happens;
     } in
     let last = took laws messages deliveries is.run.so.world number c.between t.between c.rest c.after later c.before t.left going is.awaits one in

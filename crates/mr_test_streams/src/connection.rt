@@ -1,8 +1,10 @@
 //! One connection from a proxy to a node.
+use crate::trips::Trip;
 use mr_text::ReplyReader;
 use std::alloc::Global;
+use std::test::Fail;
 
-/// A connection from a proxy to a node, with the bytes that are on their way over it, and the legs that they are.
+/// A connection from a proxy to a node, with the bytes that are on their way over it, and the requests that they are of.
 #[derive(Drop)]
 pub struct Connection {
     /// The proxy's number.
@@ -19,11 +21,11 @@ pub struct Connection {
     pub forth: Vec<u8>,
     /// The bytes on their way to the proxy.
     pub back: Vec<u8>,
-    /// The numbers of its legs among the world's messages, in their order.
-    pub messages: Vec<usize>,
-    /// Those of the first of them that the node performed, among the world's replies.
-    pub replies: Vec<usize>,
-    /// How many of these the proxy took.
+    /// The requests that went over it, in their order.
+    pub trips: Vec<Trip>,
+    /// How many of them the node performed.
+    pub performed: usize,
+    /// How many of these the proxy took the reply of.
     pub taken: usize,
     /// Reads what the node says.
     pub said: ReplyReader,
@@ -42,8 +44,8 @@ impl Connection {
             is_left: false,
             forth: Vec::new(alloc),
             back: Vec::new(alloc),
-            messages: Vec::new(alloc),
-            replies: Vec::new(alloc),
+            trips: Vec::new(alloc),
+            performed: 0,
             taken: 0,
             said: ReplyReader::new(alloc),
             heard: ReplyReader::new(alloc),
@@ -53,6 +55,32 @@ impl Connection {
     /// Whether a link of a proxy goes over it.
     pub fn is_over(&self, proxy: usize, link: usize) -> bool {
         self.proxy == proxy && self.link == link && !self.is_left
+    }
+
+    /// A leg goes over it: in a request by itself, or in the last one.
+    pub fn carries(&mut self, message: usize, travels: bool) -> Result<(), Fail> {
+        if travels {
+            if let Some(trip) = self.trips.last_mut() {
+                return Ok(trip.messages.push(message)?);
+            }
+        }
+        let alloc = *self.trips.allocator();
+        let mut messages = Vec::new(alloc);
+        messages.push(message)?;
+        Ok(
+            self.trips.push(Trip {
+                messages,
+                replies: Vec::new(alloc),
+            })?,
+        )
+    }
+
+    /// The first leg of the last request that went over it.
+    pub fn last(&self) -> Option<usize> {
+        match self.trips.last() {
+            Some(trip) => trip.messages.first().copied(),
+            None => None,
+        }
     }
 
     /// The node's end of it is gone: what was on its way to it is lost.

@@ -7,11 +7,15 @@ use mr_loop::LinkEnd;
 use std::test::Fail;
 
 impl Fleet {
-    /// A leg goes over a link, as the last of those that went. Whether it is up.
+    /// A leg goes over a link, as the last of those that went, with the gets before it of its request. Whether it is up.
     pub fn carries(&mut self, proxy: usize, link: usize, message: usize) -> Result<bool, Fail> {
         for connection in self.connections.iter_mut() {
             if connection.is_over(proxy, link) {
-                connection.messages.push(message)?;
+                let travels = match connection.last() {
+                    Some(last) => self.record.travel_together(last, message),
+                    None => false,
+                };
+                connection.carries(message, travels)?;
                 return Ok(true);
             }
         }
@@ -77,8 +81,10 @@ impl Fleet {
         for connection in self.connections.iter_mut() {
             if connection.is_over(proxy, link) {
                 connection.is_left = true;
-                for message in connection.messages.iter().skip(connection.taken) {
-                    self.record.loses(*message)?;
+                for trip in connection.trips.iter().skip(connection.taken) {
+                    for message in trip.messages.iter() {
+                        self.record.loses(*message)?;
+                    }
                 }
             }
         }
@@ -122,11 +128,13 @@ impl Fleet {
             self.record.differs();
         }
         for _ in replies_in(self.alloc, &mut connection.heard, &piece)? {
-            let Some(reply) = connection.replies.get(connection.taken) else {
+            let Some(trip) = connection.trips.get(connection.taken) else {
                 return Err(Fail::from("a proxy takes what no node said"));
             };
             connection.taken = connection.taken.saturating_add(1);
-            self.record.takes(*reply)?;
+            for reply in trip.replies.iter() {
+                self.record.takes(*reply)?;
+            }
         }
         self.settle(proxy)
     }

@@ -16,6 +16,7 @@ mod nodes;
 mod pieces;
 mod proxies;
 mod record;
+mod trips;
 mod visit;
 mod words;
 

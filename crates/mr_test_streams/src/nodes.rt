@@ -63,7 +63,7 @@ impl Fleet {
         self.perform(number, place, now, before)
     }
 
-    /// What a node said behind so many bytes is of the next legs of a connection, in their order.
+    /// What a node said behind so many bytes is of the legs of a connection's next requests, in their order.
     fn perform(
         &mut self,
         number: usize,
@@ -82,13 +82,17 @@ impl Fleet {
         }
         let said = behind(self.alloc, end.machine.client_output(place), before)?;
         for reply in replies_in(self.alloc, &mut connection.said, &said)? {
-            let Some(message) = connection.messages.get(connection.replies.len()) else {
+            let Some(trip) = connection.trips.get_mut(connection.performed) else {
                 return Err(Fail::from("a node performs what no proxy sent"));
             };
-            let told = self
-                .record
-                .performs(*message, now, connection.is_left, reply)?;
-            connection.replies.push(told)?;
+            connection.performed = connection.performed.saturating_add(1);
+            let said = self.record.dealt(&trip.messages, reply)?;
+            for (message, one) in trip.messages.iter().zip(said) {
+                let told = self
+                    .record
+                    .performs(*message, now, connection.is_left, one)?;
+                trip.replies.push(told)?;
+            }
         }
         Ok(())
     }

@@ -11,9 +11,9 @@ use std::test::Fail;
 /// What happened, and what was counted of it.
 #[derive(Drop)]
 pub struct Record {
-    alloc: Global,
+    pub alloc: Global,
     history: History,
-    world: World,
+    pub world: World,
     /// The events of the world, as words.
     script: String,
     /// How often the world said something else than the streams.

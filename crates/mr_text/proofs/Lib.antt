@@ -33,3 +33,4 @@ pub mod ShortRequests
 pub mod BegunSets
 pub mod UnfinishedReplies
 pub mod NextRequests
+pub mod Reversed

@@ -1,9 +1,9 @@
 //! The items of one answer.
-ghost use Rattle.std.specs.Prelude.{◌≡◌, ◌≢◌, ◌≤◌, [], ◌∷◌, length, IfOk, MatchOption, vec_len, ◌↔◌, IsTrue};
+ghost use Rattle.std.specs.Prelude.{◌≡◌, ◌≢◌, ◌≤◌, [], ◌∷◌, length, reverse, IfOk, MatchOption, vec_len, ◌↔◌, IsTrue};
 
 use crate::item::Item;
 use crate::limits::MAX_ITEMS;
-use std::alloc::AllocError;
+use std::alloc::{AllocError, Global};
 use std::marker::Model;
 use std::slice;
 
@@ -85,6 +85,22 @@ impl ItemList {
         match place {
             ItemPlace::One(item) => Some(item),
             ItemPlace::Many(items) => only_of(items),
+        }
+    }
+
+    /// The first item, and those behind it from the last one on, so that each can be taken in order. It takes no memory.
+    #[inline(always)]
+    pub fn into_reversed(self, alloc: Global) -> (Option<Item>, Vec<Item>)
+        ensures { MatchOption result.0 (self ≡ []) (λ item. self ≡ item ∷ reverse result.1.items) }
+    {
+        let ItemList { place } = self;
+        match place {
+            ItemPlace::One(item) => (Some(item), Vec::new(alloc)),
+            ItemPlace::Many(mut items) => {
+                items.reverse();
+                let first = items.pop();
+                (first, items)
+            }
         }
     }
 

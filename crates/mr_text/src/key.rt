@@ -53,12 +53,16 @@ fn is_key_byte(byte: u8) -> bool
     byte > b' ' && byte != 0x7f
 }
 
-/// Whether each byte may stand in a key.
+/// Whether each byte may stand in a key. It looks at all of them, several at once, which costs less than to stop at one that may not.
 #[inline(always)]
 fn are_key_bytes(bytes: &[u8]) -> bool
     ensures { result ≡ list_all key_byte_test bytes.now }
 {
-    bytes.iter().all(|byte| is_key_byte(*byte))
+    let mut all = true;
+    for byte in bytes {
+        all = all & is_key_byte(*byte);
+    }
+    all
 }
 
 /// Whether the bytes are a key.

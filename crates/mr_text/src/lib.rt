@@ -34,6 +34,6 @@ pub use reading::{ReplyReader, RequestReader};
 pub use reply::Reply;
 pub use request::Request;
 pub use writing::{
-    FixedBuffer, put_end, put_item, send_delete, send_get, send_reply, send_server_error, send_set,
-    write_reply, write_request,
+    FixedBuffer, put_end, put_get, put_item, put_key, put_line_end, send_delete, send_get,
+    send_reply, send_server_error, send_set, write_reply, write_request,
 };

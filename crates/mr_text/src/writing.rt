@@ -308,11 +308,38 @@ fn put_delete<W: Sink>(
     )
 }
 
-fn put_key<W: Sink>(key: &Key, buffer: &mut FixedBuffer, writer: &mut W) -> Result<(), WriteFault>
+/// Puts what a get of several keys begins with: its word and its first key.
+#[inline(always)]
+pub fn put_get<W: Sink>(
+    key: &Key,
+    buffer: &mut FixedBuffer,
+    writer: &mut W,
+) -> Result<(), WriteFault>
+    ensures { Gathers (codes "get" ++ spaced key.now) buffer.old (W.told writer.old) result buffer.new (W.told writer.new) }
+{
+    buffer.put_line(&[b"get ", key.as_bytes()], writer)
+}
+
+/// Puts one more key of a get.
+#[inline(always)]
+pub fn put_key<W: Sink>(
+    key: &Key,
+    buffer: &mut FixedBuffer,
+    writer: &mut W,
+) -> Result<(), WriteFault>
     ensures text { Gathers (spaced key.now) buffer.old (W.told writer.old) result buffer.new (W.told writer.new) }
     ensures calls { (W.told writer.new).calls ≤ (W.told writer.old).calls + 1 }
 {
     buffer.put_line(&[b" ", key.as_bytes()], writer)
+}
+
+/// Puts the end of a line.
+#[inline(always)]
+pub fn put_line_end<W: Sink>(buffer: &mut FixedBuffer, writer: &mut W) -> Result<(), WriteFault>
+    ensures text { Gathers line_end buffer.old (W.told writer.old) result buffer.new (W.told writer.new) }
+    ensures calls { (W.told writer.new).calls ≤ (W.told writer.old).calls + owes buffer.old }
+{
+    buffer.put_line(&[LINE_END], writer)
 }
 
 fn put_keys<W: Sink>(

@@ -252,6 +252,64 @@ def a_reply_to_something_else_ends_its_link():
         check("connections to the node", len(strange) + 1, len(node.links))
 
 
+@case
+def the_keys_that_a_node_keeps_are_asked_for_at_once():
+    """A node gets the keys of a get that it keeps in one request, in their order. What it finds is dealt out: a key that stands twice
+    is told twice, and one that isn't there is left out. An error is the answer to all of them."""
+    a, b, c = ("a", "1"), ("b", "2"), ("c", "3")
+    told = (
+        (("a", "b", "c"), hits(a, b, c)),
+        (("c", "m", "a", "n"), hits(c, a)),
+        (("m", "a"), hits(a)),
+        (("b", "a", "b", "b"), hits(b, a, b, b)),
+        (("m", "n"), MISS),
+        (("a", "b"), b"SERVER_ERROR out of memory\r\n"),
+    )
+    with Fleet() as fleet:
+        asked = []
+
+        def answer(link):
+            for _, reply in told:
+                asked.append(link.request())
+                link.send(reply)
+            link.request()
+
+        node = fleet.keep(FakeNode(answer))
+        client = fleet.proxy_on_loops(fleet.config([node.address]), loops=1).client()
+        for keys, reply in told:
+            client.ask(get_of(*keys), reply)
+        check("what the node is asked for", [get_of(*keys) for keys, _ in told], asked)
+        check("connections to the node", 1, len(node.links))
+
+
+@case
+def keys_of_several_nodes_are_answered_in_the_order_of_the_client():
+    """Each node is asked for its own keys alone, and what they find stands where it was asked for."""
+    keys = [key_at(place, 2, stem=f"stem{number}.") for number, place in enumerate((0, 1, 1, 0, 1, 0, 0, 0, 1))]
+    there = keys[::2]
+    with Fleet() as fleet:
+        client = fleet.proxy_on_loops(fleet.config(fleet.nodes(2)), loops=1).client()
+        for key in there:
+            client.ask(set_of(key, f"of {key}"), STORED)
+        client.ask(get_of(*keys), hits(*((key, f"of {key}") for key in there)))
+        client.ask(get_of(*reversed(keys)), hits(*((key, f"of {key}") for key in reversed(there))))
+
+
+@case
+def a_reply_with_items_that_nobody_asked_for_ends_its_link():
+    """An item of another key, one out of turn or one more than was asked for: none of the keys has an answer."""
+    a, b, c = ("a", "1"), ("b", "2"), ("c", "3")
+    strange = (hits(c), hits(b, a), hits(a, a, b), hits(a, b, b), hits(a, b, c), STORED, NOT_FOUND)
+    with Fleet() as fleet:
+        node = fleet.keep(FakeNode(lambda link: answering([MISS, *strange[link.number :][:1], MISS])(link)))
+        client = fleet.proxy_on_loops(fleet.config([node.address]), loops=1).client()
+        for _ in strange:
+            client.ask_until(get_of("a", "b"), MISS, LOST)
+            client.ask(get_of("a", "b"), LOST)
+        client.ask_until(get_of("a", "b"), MISS, LOST)
+        check("connections to the node", len(strange) + 1, len(node.links))
+
+
 @case(waits=True)
 def a_silent_node_holds_up_nobody_else():
     """Its legs are lost after their time, all of a link at once. Who asks for other keys is answered meanwhile."""

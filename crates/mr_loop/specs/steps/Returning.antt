@@ -1,4 +1,10 @@
 -- How the replies that a link's reader holds are taken, before the link breaks.
+use Rattle.std.specs.Prelude.{[], reverse, Option, Some, None, if◌then◌else◌}
+use Rattle.std.specs.Str.{bytes_eq}
+use Rattle.mr_text.specs.declared.item.Item.{Item}
+use Rattle.mr_join.specs.declared.leg_reply.LegReply.{LegReply}
+use Rattle.mr_join.specs.declared.leg_reply.LegReply.TheVariants.{Miss}
+use Rattle.mr_proxy.specs.NodeReplies.{hit}
 use Rattle.std.specs.Prelude.{◌≡◌, ℕ, ◌⊎◌, ◌||◌, IsTrue, List, ◌∷◌}
 use Rattle.mr_text.specs.Replies.{SpellsReply, RefusesReply}
 use Rattle.mr_text.specs.Stream.{IsUnfinished}
@@ -10,6 +16,16 @@ use Rattle.mr_loop.specs.declared.sent_legs.SentLeg.{SentLeg}
 use Rattle.mr_loop.specs.Counts.{CountsCarried, leg_lost}
 use Rattle.mr_loop.specs.Events.{FrontView, after_event}
 use Rattle.mr_loop.specs.Returning.{giving_up, HasTaken, TakesComplaint, IsSurplus, IsMismatch, IsRefused}
+
+-- the items that come next: this one, and those of a list that has them from the last one on
+abbrev pub coming : Option Item → List Item → List Item
+coming None later = []
+coming (Some item) later = item ∷ reverse later
+
+-- what is said of a get of this key where these items come next
+abbrev pub said_next : List ℕ → List Item → LegReply
+said_next key [] = Miss
+said_next key (item ∷ items) = if bytes_eq item.key key then hit item else Miss
 
 module _ (now : ℕ) (old : Link) (front : FrontView) where
   -- some replies were taken; what came next, and the legs that were left

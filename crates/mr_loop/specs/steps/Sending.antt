@@ -1,7 +1,15 @@
 -- How legs that were put to their links are taken back, the last one first.
-use Rattle.std.specs.Prelude.{ℕ, ◌-◌, List, [], ◌∷◌, length, take, Option, Some, None, slice_get, slice_set, if◌then◌else◌}
+use Rattle.std.specs.Prelude.{ℕ, ◌-◌, Bool, true, ◌&&◌, List, [], ◌∷◌, length, take, Option, Some, None, slice_get, slice_set, if◌then◌else◌}
+use Rattle.mr_pools.specs.Routing.{RoutingView}
+use Rattle.mr_loop.specs.Links.{is_up_at, link_of}
 use Rattle.mr_loop.specs.declared.link.Link.{Link}
 use Rattle.mr_loop.specs.declared.sending.Mark.{Mark}
+use Rattle.mr_loop.specs.declared.sent_legs.SentLeg.{SentLeg}
+
+-- each has a link that is up
+abbrev pub each_up : RoutingView → List SentLeg → List Link → Bool
+each_up routing [] links = true
+each_up routing (sent ∷ sents) links = is_up_at links (link_of routing sent.leg) && each_up routing sents links
 
 -- what a link's mark tells
 abbrev pub mark_of : ℕ → Link → Mark

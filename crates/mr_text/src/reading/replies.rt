@@ -3,10 +3,11 @@ ghost use Rattle.std.specs.Prelude.{◌≡◌, ◌≤◌, ◌<◌, ◌++◌, ◌
 ghost use Rattle.mr_lines.specs.Lines.{byte_place};
 ghost use Rattle.mr_text.specs.Replies.{cause_of, IsItemLine};
 ghost use Rattle.mr_text.specs.steps.Reading.StretchReading.{Gives};
-ghost use Rattle.mr_text.specs.steps.ReplyReading.{items_reading, reply_reading};
+ghost use Rattle.mr_text.specs.steps.ReplyReading.{items_reading, reply_reading, step_reading};
+ghost use Rattle.mr_text.specs.steps.ReplyReading.Step.{ItemStep};
 ghost use Rattle.mr_text.specs.steps.ReplySteps.{IsFirstSaid, IsNextLine, IsStepAhead, IsAhead, lone_reply};
 ghost use Rattle.mr_text.specs.steps.ReplyView.{HasOneLine, IsOneLine};
-ghost use Rattle.mr_text.specs.Limits.{MAX_BLOCK};
+ghost use Rattle.mr_text.specs.Limits.{MAX_BLOCK, MAX_ITEMS};
 ghost use Rattle.mr_text.specs.declared.reply.Reply.{Reply};
 ghost use Rattle.mr_text.specs.declared.reply.Reply.TheVariants.{Items};
 
@@ -25,6 +26,7 @@ use crate::reading::reply_lines::{SaidLine, first_line_of, next_line_of};
 use crate::reply::Reply;
 use mr_lines::place_of_byte;
 use std::alloc::{AllocError, Global};
+use std::mem;
 
 /// What the next line behind items comes to, over the line's own bytes, with its own length.
 #[derive(Clone, Copy)]
@@ -210,22 +212,22 @@ fn items_from(room: usize, bytes: &[u8], read: usize) -> Result<bool, TextError>
     items_ahead(room, rest, place_of_byte(b'\n', rest))
 }
 
-/// The item that is a reply by itself and whose line of so many bytes comes first, and how many bytes spell the reply. None
-/// where that isn't whole or has another item, where its block is a large one, and for want of memory.
+/// The item that comes first, whose line has so many bytes. None where its block isn't whole or is a large one, and for want of
+/// memory.
 #[inline(always)]
-pub(crate) fn only_item(
+fn small_item(
     alloc: Global,
     bytes: &[u8],
     key: &[u8],
     flags: u32,
     block_length: usize,
     size: usize,
-) -> Option<(Item, usize)>
+) -> Option<Item>
     requires line { IsItemLine (take size bytes.now) key.now flags block_length }
     requires allowed { block_length ≤ MAX_BLOCK }
     requires within { size ≤ length bytes.now }
-    ensures reply { IfSome result (λ found. reply_reading bytes.now ≡ Gives (Items (found.0 ∷ [])) found.1) }
-    ensures within { IfSome result (λ found. found.1 ≤ length bytes.now) }
+    ensures item { (room : ℕ) → 0 < room → IfSome result (λ item. step_reading room bytes.now ≡ Gives (ItemStep item) (size + block_length + 2)) }
+    ensures within { IfSome result (λ item. size + block_length + 2 ≤ length bytes.now) }
 {
     if block_length >= LARGE_BLOCK {
         return None;
@@ -234,18 +236,85 @@ pub(crate) fn only_item(
     let Ok(true) = has_block(block_length, behind) else {
         return None;
     };
-    let rest = &behind[block_length + 2..];
-    let Ok(NextLine::End(end)) = next_line(MAX_ITEMS - 1, rest, place_of_byte(b'\n', rest)) else {
-        return None;
-    };
     let (Ok(key), Ok(block)) = (
         Key::of(alloc, key),
         Block::of(alloc, &behind[..block_length]),
     ) else {
         return None;
     };
-    let item = Item { key, flags, block };
-    Some((item, size + block_length + 2 + end))
+    Some(Item { key, flags, block })
+}
+
+/// The list of items and of one behind them. None for want of memory.
+#[inline(always)]
+fn list_with(items: Vec<Item>, last: Item) -> Option<ItemList>
+    requires { length items.items < MAX_ITEMS }
+    ensures { IfSome result (λ list. list ≡ items.items ++ last ∷ []) }
+{
+    if items.is_empty() {
+        return Some(ItemList::one(last));
+    }
+    let mut items = items;
+    let Ok(()) = items.push(last) else {
+        return None;
+    };
+    Some(ItemList::new(items))
+}
+
+/// The items of the reply that comes first, and how many bytes spell it; its first line, of so many bytes, is an item's. None where
+/// it isn't whole or has a fault, where a block is a large one, and for want of memory.
+pub(crate) fn whole_items(
+    alloc: Global,
+    bytes: &[u8],
+    key: &[u8],
+    flags: u32,
+    block_length: usize,
+    size: usize,
+) -> Option<(ItemList, usize)>
+    requires line { IsItemLine (take size bytes.now) key.now flags block_length }
+    requires allowed { block_length ≤ MAX_BLOCK }
+    requires within { size ≤ length bytes.now }
+    ensures reply { IfSome result (λ found. reply_reading bytes.now ≡ Gives (Items found.0) found.1) }
+    ensures within { IfSome result (λ found. found.1 ≤ length bytes.now) }
+{
+    let Some(first) = small_item(alloc, bytes, key, flags, block_length, size) else {
+        return None;
+    };
+    let mut items = Vec::new(alloc);
+    let mut last = first;
+    let mut read = size + block_length + 2;
+    'whole: loop {
+        let rest = &bytes[read..];
+        match next_line(
+            MAX_ITEMS - 1 - items.len(),
+            rest,
+            place_of_byte(b'\n', rest),
+        ) {
+            Ok(
+                NextLine::Item {
+                    key,
+                    flags,
+                    block_length,
+                    size,
+                },
+            ) => {
+                let Some(item) = small_item(alloc, rest, key, flags, block_length, size) else {
+                    return None;
+                };
+                let Ok(()) = items.push(mem::replace(&mut last, item)) else {
+                    return None;
+                };
+                read += size + block_length + 2;
+            }
+            Ok(NextLine::End(end)) => {
+                let Some(list) = list_with(items, last) else {
+                    return None;
+                };
+                return Some((list, read + end));
+            }
+            _ => return None,
+        }
+    }
 }
 
 /// The reply that a line says by itself.

@@ -16,7 +16,7 @@ use crate::limits::MAX_ITEMS;
 use crate::reading::begun_item::BegunItem;
 use crate::reading::blocks::has_block;
 use crate::reading::replies::{
-    NextLine, first_said, items_ahead, items_behind_block, lone_reply, next_line, only_item,
+    NextLine, first_said, items_ahead, items_behind_block, lone_reply, next_line, whole_items,
 };
 use crate::reading::reply_lines::SaidLine;
 use crate::reading::stream::Stream;
@@ -125,7 +125,7 @@ impl UnfinishedReply {
             ) => {
                 let alloc = self.stream.allocator();
                 let bytes = self.stream.as_slice();
-                if let Some((item, length)) = only_item(
+                if let Some((items, length)) = whole_items(
                     alloc,
                     bytes,
                     key,
@@ -134,7 +134,7 @@ impl UnfinishedReply {
                     size,
                 ) {
                     self.stream.give(length);
-                    return Ok(FirstLine::Reply(Reply::Items(ItemList::one(item))));
+                    return Ok(FirstLine::Reply(Reply::Items(items)));
                 }
                 let said = BegunItem::of(key, flags, block_length);
                 self.begin(said, size);

@@ -20,7 +20,7 @@ invariant_of-self c =
     let before : length c.self.inside.touched.items + length c.self.inside.core.outstanding ≤ vec_capacity c.self.inside.touched = c.self.invariant in
     let fewer = fewer_taken c.self.inside.core c.sheet.result.now.id c.args.said c.in-Answered.answer (sym c.in-Answered.ensures.taken) in
     let now = ap (λ (p : ProxyView). length p.outstanding) c.take_reply.ensures.state in
-    let more = ap length c.push_reserved.ensures.items ∙ length_push c.self.inside.touched.items c.args.sent.client in
+    let more = ap length c.push_reserved.ensures.items ∙ length_push c.self.inside.touched.items c.args.client in
     let is : length c.push_reserved.new.self.items + length c.take_reply.new.self.outstanding ≤ vec_capacity c.push_reserved.new.self =
     omega (arith, before, fewer, now, more, c.push_reserved.ensures.capacity) in
     is

@@ -1,13 +1,11 @@
-use Rattle.std.proofs.Common.{◌≡◌, ℕ, inl, inr, ◌||◌, IsTrue, Bool, List, refl, sym, ◌∙◌, subst}
+use Rattle.std.proofs.Common.{◌≡◌, ℕ, inl, inr, ◌||◌, IsTrue, Bool, true, false, List, refl, sym, ap, ◌∙◌, subst}
 use Rattle.mr_text.specs.Replies.{SpellsReply, RefusesReply}
 use Rattle.mr_text.specs.Stream.{BeginsWith, IsUnfinished}
-use Rattle.mr_join.specs.declared.leg_reply.LegReply.{LegReply}
 use Rattle.mr_proxy.specs.declared.sheet.LegSheet.{LegSheet}
-use Rattle.mr_proxy.specs.NodeReplies.{IsAnswer}
 use Rattle.mr_loop.specs.declared.sent_legs.SentLeg.{SentLeg}
 use Rattle.mr_loop.specs.Counts.{CountsCarried}
 use Rattle.mr_loop.specs.Events.{after_event}
-use Rattle.mr_loop.specs.Returning.{HasTaken, giving_up}
+use Rattle.mr_loop.specs.Returning.{HasTaken, TakesSent, giving_up}
 use Rattle.mr_loop.proofs.CountLemmas.{carried_none, carried_more}
 use Rattle.mr_loop.proofs.TakenLemmas.{taken_none, taken_more, refused}
 use Rattle.mr_loop.proofs.link.Link.take_replies.Goals as goal
@@ -51,15 +49,16 @@ returns-in_default c =
       next = ((c.in-Ok-Some.reply, n.1, n.2), e.1);
     }
 
-pub returns-in_default-leg_reply_of : goal.returns-in_default-leg_reply_of
-returns-in_default-leg_reply_of c =
+pub returns-then-not-take_reply : goal.returns-then-not-take_reply
+returns-then-not-take_reply c =
     let answer = rw c.in-Ok-Some.field-0-is at c.in-Ok-Some.ensures.answer in
     let n = answer c.reply.self.reader.kept refl in
     let e = c.in-Some.ensures in
     let P : List SentLeg → Type 0 = λ x. HasTaken c.args.self.now.reader.kept c.args.self.now.legs c.args.front.now c.reply.self.reader.kept x c.reply.front in
     let C : List SentLeg → Type 0 = λ x. CountsCarried c.args.now c.args.self.now.legs x c.args.self.now.counts c.reply.self.counts in
-    let N : LegSheet → Type 0 = λ s. (said : LegReply) → ¬ IsAnswer s.command c.in-Ok-Some.reply said in
-    let G : LegSheet → Type 0 = λ s. c.give_up.new.self ≡ after_event (giving_up (record c.in-Some.sent { leg = s })) c.reply.front in
+    let G : LegSheet → Type 0 = λ s. c.give_up.new.self ≡ after_event (giving_up (record c.in-Some.sent { leg = s })) c.take_reply.new.front in
+    let T : Bool → Type 0 = λ b. TakesSent c.in-Some.sent c.in-Ok-Some.reply c.reply.front b c.take_reply.new.front in
+    let other : T false = subst T c.if-not-take_reply.true c.take_reply.ensures in
     record {
       rest = c.reply.self.reader.kept;
       sent = c.in-Some.sent;
@@ -76,16 +75,17 @@ returns-in_default-leg_reply_of c =
         after = n.1;
         first = refl;
         next = n.2;
-        other = subst N c.sheet.ensures c.in_default-leg_reply_of.ensures;
+        other = other.0;
       };
-      happens = subst G c.sheet-in_default-leg_reply_of.ensures c.give_up.ensures;
+      happens = subst G c.sheet.ensures c.give_up.ensures ∙ ap (λ f. after_event (giving_up c.in-Some.sent) f) other.1;
     }
 
 pub returns-then-complains : goal.returns-then-complains
 returns-then-complains c =
     let answer = rw c.in-Ok-Some.field-0-is at c.in-Ok-Some.ensures.answer in
     let n = answer c.reply.self.reader.kept refl in
-    let A : LegSheet → Type 0 = λ s. IsAnswer s.command c.in-Ok-Some.reply c.in-Some-leg_reply_of.said in
+    let T : Bool → Type 0 = λ b. TakesSent c.in-Some.sent c.in-Ok-Some.reply c.reply.front b c.take_reply.new.front in
+    let took : T true = subst T c.if-not-take_reply.false c.take_reply.ensures in
     record {
       taken = record {
         rest = c.reply.self.reader.kept;
@@ -93,14 +93,14 @@ returns-then-complains c =
         between = c.reply.front;
         sent = c.in-Some.sent;
         reply = c.in-Ok-Some.reply;
-        said = c.in-Some-leg_reply_of.said;
+        said = took.0;
         after = n.1;
         taken = c.reply.invariant.taken;
         first = c.in-Some.ensures;
         next = n.2;
         complains = sym c.is_complaint-complains.ensures ∙ c.if-complains.true;
-        answers = subst A c.sheet.ensures c.in-Some-leg_reply_of.ensures;
-        happens = c.take.ensures;
+        answers = took.1;
+        happens = took.2;
       };
       counted = carried_more c.args.now c.args.self.now.legs c.reply.self.legs c.pop.new.self c.in-Some.sent c.args.self.now.counts c.reply.self.counts
           c.add_carried.new.self c.reply.invariant.counted c.in-Some.ensures c.add_carried.ensures;
@@ -121,12 +121,13 @@ pub reply-preserved : goal.reply-preserved
 reply-preserved c =
     let answer = rw c.in-Ok-Some.field-0-is at c.in-Ok-Some.ensures.answer in
     let n = answer c.reply.self.reader.kept refl in
-    let A : LegSheet → Type 0 = λ s. IsAnswer s.command c.in-Ok-Some.reply c.in-Some-leg_reply_of.said in
+    let T : Bool → Type 0 = λ b. TakesSent c.in-Some.sent c.in-Ok-Some.reply c.reply.front b c.take_reply.new.front in
+    let took : T true = subst T c.if-not-take_reply.false c.take_reply.ensures in
     let B : List ℕ → Type 0 = λ x. BeginsWith SpellsReply c.reply.self.reader.kept c.in-Ok-Some.reply x in
     record {
       taken = taken_more c.args.self.now.reader.kept c.args.self.now.legs c.args.front.now c.reply.self.reader.kept c.reply.self.legs c.reply.front
-          c.in-Some.sent c.in-Ok-Some.reply c.in-Some-leg_reply_of.said c.next.new.self.kept c.pop.new.self c.take.new.self
-          c.reply.invariant.taken (subst B (sym n.3.stands) n.2) c.in-Some.ensures (subst A c.sheet.ensures c.in-Some-leg_reply_of.ensures) c.take.ensures;
+          c.in-Some.sent c.in-Ok-Some.reply took.0 c.next.new.self.kept c.pop.new.self c.take_reply.new.front
+          c.reply.invariant.taken (subst B (sym n.3.stands) n.2) c.in-Some.ensures took.1 took.2;
       counted = carried_more c.args.now c.args.self.now.legs c.reply.self.legs c.pop.new.self c.in-Some.sent c.args.self.now.counts c.reply.self.counts
           c.add_carried.new.self c.reply.invariant.counted c.in-Some.ensures c.add_carried.ensures;
       same_out = c.reply.invariant.same_out;

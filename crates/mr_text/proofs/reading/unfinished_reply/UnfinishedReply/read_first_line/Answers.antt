@@ -35,9 +35,8 @@ pub returns-in-Some : goal.returns-in-Some
 returns-in-Some c =
     let old = c.args.self.now in
     let i = c.in-Some in
-    let reply = Items c.one.result in
-    let read = i.ensures.reply ∙ ap (λ l. Gives (Items l) i.length) (sym c.one.ensures) in
-    let e = subst (λ s. reply_reading s ≡ Gives reply i.length) (c.as_slice-bytes.ensures ∙ ap (λ s. s.unread) c.line_end-end.ensures.same) read in
+    let reply = Items i.items in
+    let e = subst (λ s. reply_reading s ≡ Gives reply i.length) (c.as_slice-bytes.ensures ∙ ap (λ s. s.unread) c.line_end-end.ensures.same) i.ensures.reply in
     first_gives old c.requires.progress c.requires.going_on c.requires.nothing (record { stream = c.give.new.self; said = old.said; items = old.items }) reply i.length e
     (c.give.ensures ∙ ap (with_given i.length) c.line_end-end.ensures.same) refl refl
 

@@ -1,0 +1,7 @@
+use Rattle.std.proofs.Common.{◌≡◌, drop}
+use Rattle.mr_loop.specs.Counts.{each_counted, leg_unsent, one_unsent}
+use Rattle.mr_loop.proofs.link_counts.LinkCounts.add_unsent.Given as goal
+
+-- with those that are left all are counted
+abbrev pub invariant-loop-other : goal.invariant-loop-other
+invariant-loop-other l = leg_unsent l.fn.sent l.fn.self ≡ each_counted one_unsent (drop l._other-index l._other-items) l.self
