@@ -17,8 +17,9 @@ const KEPT: usize = 1024;
 /// Memory of so many bytes is kept for a link where nothing waits, of which there are few: what a turn of many clients asks.
 const KEPT_FOR_LINK: usize = 65_536;
 
-/// What was written is dropped from the memory where it is so many bytes, and no fewer than those that wait.
-const DROPPED: usize = 65_536;
+/// What was written is dropped from the memory where it is more than an answer of the largest value, and no less than what waits: so
+/// one answer isn't moved while it goes out.
+const DROPPED: usize = 1_114_112;
 
 /// Bytes that wait until they can be written, in order.
 #[derive(Drop)]

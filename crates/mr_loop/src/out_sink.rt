@@ -1,8 +1,14 @@
 //! Memory that is written to as to a device.
-ghost use Rattle.std.specs.Prelude.{◌≡◌, ◌≤◌, [], false, None, length, take, drop};
+ghost use Rattle.std.specs.Prelude.{◌≡◌, ◌≤◌, ◌++◌, [], false, None, length, take, drop, OnOk, OnErr};
 
 use mr_text::{GhostBytes, GhostCount, Sink, WriteFault};
-use std::alloc::Global;
+use std::alloc::{AllocError, Global};
+
+/// Memory that is taken for so many bytes or more has room for the end of a text behind them.
+const LARGE: usize = 4_096;
+
+/// The room for the end of a text.
+const END: usize = 64;
 
 /// Bytes that are gathered in memory. A write fails where memory for it is refused, and then nothing is added.
 #[derive(Drop)]
@@ -36,7 +42,7 @@ impl Sink for OutSink {
     fn write_all(&mut self, bytes: &[u8]) -> Result<(), WriteFault> {
         self.calls.add_one();
         self.handed.extend(bytes);
-        match self.bytes.extend_from_slice(bytes) {
+        match add_to(&mut self.bytes, bytes) {
             Ok(()) => {
                 self.last_failed = false;
                 Ok(())
@@ -48,4 +54,16 @@ impl Sink for OutSink {
             }
         }
     }
+}
+
+/// Adds bytes behind those that are there. For want of memory nothing changes.
+#[inline(always)]
+fn add_to(there: &mut Vec<u8>, bytes: &[u8]) -> Result<(), AllocError>
+    ensures added { OnOk result (there.new.items ≡ there.old.items ++ bytes.now) }
+    ensures unchanged { OnErr result (there.new.items ≡ there.old.items) }
+{
+    if bytes.len() >= LARGE {
+        there.reserve(bytes.len().saturating_add(END))?;
+    }
+    there.extend_from_slice(bytes)
 }

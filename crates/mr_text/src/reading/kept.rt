@@ -3,13 +3,16 @@ ghost use Rattle.std.specs.Prelude.{◌≡◌, ◌≢◌, ◌+◌, ◌≤◌, �
 ghost use Rattle.mr_text.specs.Limits.{MAX_BLOCK};
 
 use crate::block::Block;
-use crate::limits::{FIXED_BUFFER, LARGE_BLOCK, MAX_BLOCK, MAX_LINE};
+use crate::limits::{LARGE_BLOCK, MAX_BLOCK, MAX_LINE};
 use std::alloc::{AllocError, Global};
 use std::marker::Model;
 use std::mem;
 
 /// The most room that is kept where no large block is on its way: a line's, with its end.
 const MOST_ROOM: usize = MAX_LINE + 2;
+
+/// The most room behind a large block for what comes with its last piece.
+const MOST_BEHIND: usize = 65_536;
 
 /// The bytes of a stream that came and weren't read yet.
 ///
@@ -161,8 +164,8 @@ impl KeptBytes {
         self.awaited = if count < LARGE_BLOCK { 0 } else { count + 2 };
     }
 
-    /// Makes room for a piece of a large block: twice the room that there was, but no more than the block and its end take, or
-    /// than the piece needs.
+    /// Makes room for a piece of a large block, where there isn't enough: twice the room that there was, but no more than the block and
+    /// what may come behind it take, or than the piece needs.
     #[inline(always)]
     fn make_room(&mut self, count: usize) -> Result<(), AllocError>
         ensures { self.new ≡ self.old }
@@ -172,11 +175,12 @@ impl KeptBytes {
         }
         self.move_to_front();
         let needed = self.end.saturating_add(count);
-        if needed > self.awaited.saturating_add(FIXED_BUFFER) {
+        if needed <= self.room.capacity() {
             return Ok(());
         }
         let doubled = self.room.capacity().saturating_mul(2);
-        let room = needed.max(doubled.min(self.awaited));
+        let most = self.awaited.saturating_add(MOST_BEHIND);
+        let room = needed.max(doubled.min(most));
         self.room
             .reserve_exact(room.saturating_sub(self.room.len()))
     }
