@@ -1,14 +1,14 @@
 -- What the reader of requests answers and leaves at each end of its two ways: with a line before it, and with a block.
 use Rattle.std.proofs.Common.{◌≡◌, ℕ, ◌+◌, ◌≤◌, Bool, true, false, List, [], ◌++◌, length, take, drop, Option, Some, Result, Ok, Err, refl, sym, ◌∙◌, ap, subst, arith, cond, ℤ}
 use Rattle.std.proofs.Math.Seq.{drop-append_seam}
-use Rattle.std.proofs.lemmas.List.{nil_from_length, drop-drop, take-append-drop, length-take-le}
+use Rattle.std.proofs.lemmas.List.{append_assoc, nil_from_length, drop-drop, take-append-drop, length-take-le}
 use Rattle.mr_lines.specs.Words.{words_of}
 use Rattle.mr_text.specs.Limits.{MAX_BLOCK}
 use Rattle.mr_text.specs.Requests.{IsSetLine, HasReadLine, is_quit}
 use Rattle.mr_text.specs.Stream.{ReaderView, HoldsFew, skips_line}
 use Rattle.mr_text.specs.steps.BegunSet.{SetWords, IsBegun}
 use Rattle.mr_text.specs.steps.RequestNext.{IsNextRequest}
-use Rattle.mr_text.specs.steps.StreamView.{StreamView, reader_of}
+use Rattle.mr_text.specs.steps.StreamView.{StreamView, reader_of, with_read}
 use Rattle.mr_text.specs.steps.Waiting.{WaitIs}
 use Rattle.mr_text.specs.steps.Reading.{line_reading, command_line, block_reading, request_reading}
 use Rattle.mr_text.specs.steps.Reading.StretchReading.{Waits, Gives, Refused}
@@ -51,6 +51,24 @@ module _ (old : ReaderView) (stream : StreamView) (bytes : List ℕ) (still : ol
   kept_is =
       let none : length stream.front ≡ 0 = ap (λ v. v.begun) view ∙ nothing in
       seen ∙ ap (λ f. f ++ stream.unread) (sym (nil_from_length stream.front none)) ∙ ap (λ v. v.kept) view
+
+  front_is : stream.front ≡ []
+  front_is = nil_from_length stream.front (ap (λ v. v.begun) view ∙ nothing)
+
+  -- what was read then is what stands first
+  pub read_front : (size : ℕ) → (with_read size stream).front ≡ take size (reader_of stream).kept
+  read_front size =
+      ap (λ f. f ++ take size stream.unread) front_is ∙ sym (ap (λ f. take size (f ++ stream.unread)) front_is)
+
+  pub read_is : (size : ℕ) → size ≤ length bytes → reader_of (with_read size stream) ≡ record (reader_of stream) { begun = size }
+  read_is size within =
+      let fits : size ≤ length stream.unread = subst (λ b. size ≤ length b) seen within in
+      let kept : (stream.front ++ take size stream.unread) ++ drop size stream.unread ≡ stream.front ++ stream.unread =
+      append_assoc stream.front (take size stream.unread) (drop size stream.unread) ∙ ap (λ u. stream.front ++ u) (take-append-drop size stream.unread) in
+      let begun : length (stream.front ++ take size stream.unread) ≡ size =
+      ap (λ f. length (f ++ take size stream.unread)) front_is ∙ length-take-le size stream.unread fits in
+      ap {B = ReaderView} (λ k. record { kept = k; begun = length (stream.front ++ take size stream.unread); ended = stream.ended; closed = stream.closed }) kept
+      ∙ ap {B = ReaderView} (λ n. record { kept = stream.front ++ stream.unread; begun = n; ended = stream.ended; closed = stream.closed }) begun
 
   pub line_lacks : (said : Request) (size : ℕ) → request_reading bytes ≡ Gives said size → IsNextRequest old (reader_of stream) (Err OutOfMemory)
   line_lacks said size e = request_lacks old (reader_of stream) still said size (subst (λ s. request_reading s ≡ Gives said size) kept_is e) view

@@ -1,5 +1,7 @@
 //! Requests, out of a stream that comes in any pieces.
 ghost use Rattle.std.specs.Prelude.{◌≡◌, ◌+◌, ◌≤◌, ◌<◌, ℕ, List, [], true, false, drop, take, length, if◌then◌else◌, Some, None, Ok};
+ghost use Rattle.mr_text.specs.Key.{IsKey};
+ghost use Rattle.mr_text.specs.Limits.{MAX_BLOCK};
 ghost use Rattle.mr_text.specs.Requests.{SpellsRequest, RefusesRequest, SkipsLine, BegunAfter, is_quit};
 ghost use Rattle.mr_text.specs.Stream.{StandsFor, Becomes, NextIs, FeedIs, Holds, HoldsFew, skips_line};
 ghost use Rattle.mr_text.specs.steps.BegunSet.{IsBegun};
@@ -98,12 +100,26 @@ impl RequestReader {
         }
         if self.begun.is_some() {
             self.next_block()
+        } else if self.stream.held() == 0 {
+            self.await_line()
         } else {
             self.next_line()
         }
     }
 
-    /// The set whose line was read, once its block is whole.
+    /// What there is where no byte of a line came.
+    #[inline(always)]
+    fn await_line(&mut self) -> Result<Option<Request>, TextError>
+        requires going_on { self.old.closed ≡ false }
+        requires nothing { self.old.begun ≡ 0 }
+        requires empty { self.old.kept ≡ [] }
+        ensures { IsNextRequest self.old self.new result }
+    {
+        self.wait()
+    }
+
+    /// The set whose line was read, once its block is whole. It stays a call, as `keep_words` does.
+    #[inline(never)]
     fn next_block(&mut self) -> Result<Option<Request>, TextError>
         requires going_on { self.old.closed ≡ false }
         requires begun { 0 < self.old.begun }
@@ -161,8 +177,9 @@ impl RequestReader {
                     line_length,
                 },
             ) => {
-                let set = BegunSet::of(key, flags, exptime, block_length, noreply);
-                self.begin(set, line_length);
+                keep_words(&mut self.begun, key, flags, exptime, block_length, noreply);
+                self.stream.read(line_length);
+                self.stream.await_block(block_length);
                 self.wait()
             }
             Ok(Found::Nothing) => self.wait(),
@@ -170,21 +187,10 @@ impl RequestReader {
         }
     }
 
-    /// Keeps what the line of a set said, which has so many bytes, until its block is whole.
-    fn begin(&mut self, set: BegunSet, line_length: usize)
-        requires nothing { self.old.begun ≡ 0 }
-        requires within { line_length ≤ length self.old.kept }
-        requires line { IsBegun (Some set) (take line_length self.old.kept) }
-        ensures { self.new ≡ record self.old { begun = line_length } }
-    {
-        self.stream.read(line_length);
-        self.stream.await_block(set.block_length());
-        self.begun = Some(set);
-    }
-
     /// Gives a request away, and goes on behind so many bytes of those that weren't read.
     #[inline(always)]
     fn give(&mut self, request: Request, size: usize) -> Request
+        requires nothing { self.old.begun ≡ 0 }
         requires within { self.old.begun + size ≤ length self.old.kept }
         requires going_on { self.old.closed ≡ false }
         ensures request { result ≡ request }
@@ -196,7 +202,6 @@ impl RequestReader {
         } }
     {
         self.stream.give(size);
-        self.begun = None;
         if let Request::Quit = &request {
             self.stream.close();
         }
@@ -227,4 +232,28 @@ impl RequestReader {
         }
         refused.refusal
     }
+}
+
+/// Keeps what the line of a set said until its block is whole. It stays a call, since the room for its words would be cleared at each
+/// request else.
+#[inline(never)]
+fn keep_words(
+    begun: &mut Option<BegunSet>,
+    key: &[u8],
+    flags: u32,
+    exptime: i64,
+    block_length: usize,
+    noreply: bool,
+)
+    requires key { IsKey key.now }
+    requires block { block_length ≤ MAX_BLOCK }
+    ensures { begun.new ≡ Some (record {
+      key = key.now;
+      flags = flags;
+      exptime = exptime;
+      block_length = block_length;
+      noreply = noreply;
+    }) }
+{
+    *begun = Some(BegunSet::of(key, flags, exptime, block_length, noreply));
 }

@@ -1,6 +1,7 @@
 //! A reply that is read as it comes: its items so far, and what the line of the next one said.
-ghost use Rattle.std.specs.Prelude.{◌≡◌, ◌≢◌, ◌≤◌, ℕ, [], None, true, false, length};
-ghost use Rattle.mr_text.specs.Limits.{MAX_ITEMS};
+ghost use Rattle.std.specs.Prelude.{◌≡◌, ◌≢◌, ◌≤◌, ℕ, [], None, Some, true, false, length};
+ghost use Rattle.mr_text.specs.Key.{IsKey};
+ghost use Rattle.mr_text.specs.Limits.{MAX_BLOCK, MAX_ITEMS};
 ghost use Rattle.mr_text.specs.declared.error.TextError.{TextError};
 ghost use Rattle.mr_text.specs.steps.Reading.StretchReading.{Refused};
 ghost use Rattle.mr_text.specs.steps.ReplyReading.{items_reading};
@@ -88,6 +89,9 @@ impl UnfinishedReply {
         if self.has_begun() {
             return self.next_items();
         }
+        if self.stream.held() == 0 {
+            return self.stream.wait(false);
+        }
         match self.read_first_line() {
             Ok(FirstLine::Waits) => self.stream.wait(false),
             Ok(FirstLine::Item) => self.next_items(),
@@ -136,8 +140,9 @@ impl UnfinishedReply {
                     self.stream.give(length);
                     return Ok(FirstLine::Reply(Reply::Items(items)));
                 }
-                let said = BegunItem::of(key, flags, block_length);
-                self.begin(said, size);
+                keep_words(&mut self.said, key, flags, block_length);
+                self.stream.read(size);
+                self.stream.await_block(block_length);
                 Ok(FirstLine::Item)
             }
             Ok(Some((line, size))) => {
@@ -160,7 +165,8 @@ impl UnfinishedReply {
         self.said = Some(said);
     }
 
-    /// The reply whose first line was an item's.
+    /// The reply whose first line was an item's. It stays a call, as `keep_words` does.
+    #[inline(never)]
     fn next_items(&mut self) -> Result<Option<Reply>, TextError>
         requires progress { IsProgress self.old }
         requires going_on { self.old.stream.closed ≡ false }
@@ -302,4 +308,15 @@ impl UnfinishedReply {
         self.stream.give(size);
         ItemList::new(items)
     }
+}
+
+/// Keeps what the line of an item said until its block is whole. It stays a call, since the room for its words would be cleared at
+/// each reply else.
+#[inline(never)]
+fn keep_words(said: &mut Option<BegunItem>, key: &[u8], flags: u32, block_length: usize)
+    requires key { IsKey key.now }
+    requires block { block_length ≤ MAX_BLOCK }
+    ensures { said.new ≡ Some (record { key = key.now; flags = flags; block_length = block_length }) }
+{
+    *said = Some(BegunItem::of(key, flags, block_length));
 }

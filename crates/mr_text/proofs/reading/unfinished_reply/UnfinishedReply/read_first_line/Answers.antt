@@ -6,7 +6,7 @@ use Rattle.mr_text.specs.steps.Reading.{line_reading}
 use Rattle.mr_text.specs.steps.Reading.StretchReading.{Waits, Gives, Refused}
 use Rattle.mr_text.specs.steps.ReplyReading.{reply_reading}
 use Rattle.mr_text.specs.steps.ReplyProgress.{FirstLineIs, LineTaken}
-use Rattle.mr_text.specs.steps.StreamView.{StreamView, with_given}
+use Rattle.mr_text.specs.steps.StreamView.{StreamView, with_given, with_read}
 use Rattle.mr_text.specs.declared.error.TextError.TheVariants.{OutOfMemory}
 use Rattle.mr_text.specs.declared.reading.unfinished_reply.FirstLine.TheVariants as first
 use Rattle.mr_text.specs.declared.reply.Reply.TheVariants.{Items}
@@ -48,9 +48,12 @@ returns-in_default c =
     let h = (rw i.field-0-is at i.ensures) in
     let says : IsItemLine (take i.size c.as_slice.result.now) i.key.now i.flags i.block_length × (i.block_length ≤ MAX_BLOCK) = (rw i.field-0-0-0-is at h.0) in
     let there = subst (λ s. IsItemLine (take i.size s) i.key.now i.flags i.block_length) (c.as_slice.ensures ∙ ap (λ s. s.unread) c.line_end-end.ensures.same) says.0 in
-    let taken = subst (λ w. LineTaken old c.begin.new.self w i.size) c.of-said.ensures
-    (subst (λ s. LineTaken (record { stream = s; said = old.said; items = old.items }) c.begin.new.self c.of-said.result i.size) c.line_end-end.ensures.same c.begin.ensures) in
-    first_takes old c.requires.progress c.requires.going_on c.requires.nothing c.begin.new.self said i.size there says.1 taken
+    let taken : LineTaken old (record { stream = c.await_block.new.self; said = c.keep_words.new.said; items = old.items }) said i.size = record {
+      stream = c.await_block.ensures ∙ c.read.ensures ∙ ap (with_read i.size) c.line_end-end.ensures.same;
+      keeps = c.keep_words.ensures;
+      items = refl;
+    } in
+    first_takes old c.requires.progress c.requires.going_on c.requires.nothing (record { stream = c.await_block.new.self; said = c.keep_words.new.said; items = old.items }) said i.size there says.1 taken
 
 pub returns-in-Ok : goal.returns-in-Ok
 returns-in-Ok c =
