@@ -56,9 +56,13 @@ abbrev pub tells : ℕ → Option Reply → List Event
 tells client None = []
 tells client (Some reply) = Event.Tells client reply ∷ []
 
+-- what a client is told for this cause, which wants no answer or wants one
+abbrev pub denial_of : Bool → Cause → Option Reply
+denial_of silent cause = if silent then None else Some (ServerError cause)
+
 -- what the client of a request is told that isn't begun for this cause: nothing where it wants no answer
 abbrev pub denial : Request → Cause → Option Reply
-denial request cause = if is_silent request then None else Some (ServerError cause)
+denial request cause = denial_of (is_silent request) cause
 
 -- a request isn't begun for this cause, and its client is told
 abbrev pub denies : ℕ → Request → Cause → List Event

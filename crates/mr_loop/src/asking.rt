@@ -1,20 +1,21 @@
 //! What is begun of what a client sent.
 ghost use Rattle.std.specs.Prelude.{◌≡◌, ◌≢◌, true, false};
-ghost use Rattle.mr_loop.specs.Asking.{AsksOn, is_full};
+ghost use Rattle.mr_text.specs.declared.cause.Cause.TheVariants.{OutOfMemory};
+ghost use Rattle.mr_loop.specs.Asking.{AsksOn, denial_of, is_full};
 ghost use Rattle.mr_loop.specs.steps.Asking.{AnswersSo, AsksSo, IsSentOff, RefusesSo, asking};
 
 use crate::asker::Asker;
 use crate::clearing::first_full;
-use crate::front::{Begun, Front, denial};
+use crate::front::{Begun, Front, denial_of};
 use crate::inbox::{Fetched, Inbox, Input};
 use crate::link::Link;
 use crate::sending::{Scratch, send_all};
 use mr_counting::ClientCounts;
 use mr_history::OpId;
-use mr_node::session::reply_to_refusal;
+use mr_node::session::{is_silent, reply_to_refusal};
 use mr_proxy::{Issued, Leg};
 use mr_text::laws::{requests_leave_less, skipped_lines_leave_less};
-use mr_text::{Cause, Reply, Request, TextError};
+use mr_text::{Cause, Request, TextError};
 
 /// Why no more of what a client sent is begun.
 #[derive(Clone, Copy, Debug, PartialEq, Eq)]
@@ -44,9 +45,9 @@ fn send_off(
     asker: Asker,
     op: OpId,
     legs: &mut Vec<Leg>,
-    denial: Option<Reply>,
+    is_silent: bool,
 ) -> bool
-    ensures { IsSentOff asker front.old.core.routing op legs.old.items denial front.old links.old front.new links.new }
+    ensures { IsSentOff asker front.old.core.routing op legs.old.items (denial_of is_silent OutOfMemory) front.old links.old front.new links.new }
 {
     match send_all(links, scratch, front.core().routing(), asker, legs) {
         Ok(true) => true,
@@ -55,7 +56,7 @@ fn send_off(
             false
         }
         Err(_) => {
-            front.withdraw(asker.client, op, denial);
+            front.withdraw(asker.client, op, denial_of(is_silent, Cause::OutOfMemory));
             false
         }
     }
@@ -74,13 +75,13 @@ fn ask(
     requires room { is_full front.old.core ≡ false }
     ensures { AsksSo asker front.old links.old request result front.new links.new }
 {
-    let refused = denial(&request, Cause::OutOfMemory);
+    let is_silent = is_silent(&request);
     match front.issue(asker, request) {
         Begun::Later(request) => Err(request),
         Begun::Told => Ok(()),
         Begun::Issued(issued) => {
             let Issued { op, mut legs } = issued;
-            let _ = send_off(front, links, scratch, asker, op, &mut legs, refused);
+            let _ = send_off(front, links, scratch, asker, op, &mut legs, is_silent);
             front.give_legs_back(legs);
             Ok(())
         }
@@ -104,7 +105,8 @@ fn answer(
     }
 }
 
-/// Tells a client why its text is refused, if it is told.
+/// Tells a client why its text is refused, if it is told. It stays a call, since room for replies would be cleared at each request else.
+#[inline(never)]
 fn answer_refusal(front: &mut Front, asker: Asker, refusal: TextError) -> Result<(), (Pause, Input)>
     ensures { RefusesSo asker refusal front.old result front.new }
 {

@@ -3,7 +3,7 @@ ghost use Rattle.std.specs.Prelude.{◌≡◌, ◌≢◌, ◌<◌, ◌≤◌, tr
 ghost use Rattle.mr_proxy.specs.Issue.{next_op};
 ghost use Rattle.mr_proxy.specs.declared.step.Step.TheVariants.{GiveUp};
 ghost use Rattle.mr_text.specs.declared.cause.Cause.TheVariants.{ClockFault};
-ghost use Rattle.mr_loop.specs.Asking.{denial, is_behind, is_full, tells};
+ghost use Rattle.mr_loop.specs.Asking.{denial, denial_of, is_behind, is_full, tells};
 ghost use Rattle.mr_loop.specs.Events.{Event, after_all, after_event, changed, with_answer, fresh_front};
 ghost use Rattle.mr_loop.specs.LoopView.{output_in, is_idle_in, is_waiting_in};
 ghost use Rattle.mr_loop.specs.Returning.{taking};
@@ -71,7 +71,15 @@ fn cause_of(refusal: ProxyError) -> Cause
 pub(crate) fn denial(request: &Request, cause: Cause) -> Option<Reply>
     ensures { result ≡ denial request.now cause }
 {
-    if is_silent(request) {
+    denial_of(is_silent(request), cause)
+}
+
+/// The same where the request wants no answer, or where it wants one.
+#[inline(always)]
+pub(crate) fn denial_of(is_silent: bool, cause: Cause) -> Option<Reply>
+    ensures { result ≡ denial_of is_silent cause }
+{
+    if is_silent {
         None
     } else {
         Some(Reply::ServerError(cause))

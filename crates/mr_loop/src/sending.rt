@@ -1,6 +1,6 @@
 //! How the legs of a request go over their links: all of those whose link is up, or none.
 ghost use Rattle.std.specs.Prelude.{◌≡◌, ◌&&◌, ◌++◌, [], length, true, IfOk, OnOk, OnErr};
-ghost use Rattle.mr_loop.specs.Links.{all_sent, all_up, each_sent, is_get, is_up_at, sent_by, sent_over, travelling, travels_with, with_traveller};
+ghost use Rattle.mr_loop.specs.Links.{all_sent, all_up, each_sent, is_get, is_up_at, link_of, sent_by, sent_over, travelling, travels_with, with_traveller};
 ghost use Rattle.mr_loop.specs.steps.Sending.{each_up, mark_of, undone, undone_one};
 
 use crate::asker::Asker;
@@ -217,6 +217,42 @@ fn send_each(
     Ok(all)
 }
 
+/// The only leg of a request goes over its link, if that is up. Whether it is. For want of memory it doesn't go.
+#[inline(always)]
+fn send_only(
+    links: &mut [Link],
+    buffer: &mut FixedBuffer,
+    routing: &Routing,
+    sent: SentLeg,
+) -> Result<bool, AllocError>
+    ensures up { IfOk result (λ up. up ≡ is_up_at links.old (link_of routing.now sent.leg)) }
+    ensures sent { OnOk result (links.new ≡ sent_over (link_of routing.now sent.leg) sent links.old) }
+    ensures unchanged { OnErr result (links.new ≡ links.old) }
+{
+    let number = link_of(routing, sent.leg.sheet());
+    if number >= links.len() {
+        return Ok(false);
+    }
+    links[number].carry(buffer, sent)
+}
+
+/// Each of several legs goes out of the list and over its link, with those that travel with it, if that is up. Whether all are. For
+/// want of memory none goes.
+fn send_several(
+    links: &mut [Link],
+    scratch: &mut Scratch,
+    routing: &Routing,
+    asker: Asker,
+    legs: &mut Vec<Leg>,
+) -> Result<bool, AllocError>
+    ensures up { IfOk result (λ all. all ≡ all_up routing.now legs.old.items links.old) }
+    ensures sent { OnOk result (links.new ≡ all_sent asker routing.now legs.old.items links.old) }
+    ensures unchanged { OnErr result (links.new ≡ links.old) }
+{
+    put_together(&mut scratch.sents, &mut scratch.spares, asker, legs)?;
+    send_each(links, scratch, routing)
+}
+
 /// Each leg goes out of the list and over its link, with those that travel with it, if that is up. Whether all are. For want of
 /// memory none goes.
 pub(crate) fn send_all(
@@ -230,6 +266,17 @@ pub(crate) fn send_all(
     ensures sent { OnOk result (links.new ≡ all_sent asker routing.now legs.old.items links.old) }
     ensures unchanged { OnErr result (links.new ≡ links.old) }
 {
-    put_together(&mut scratch.sents, &mut scratch.spares, asker, legs)?;
-    send_each(links, scratch, routing)
+    if legs.len() != 1 {
+        return send_several(links, scratch, routing, asker, legs);
+    }
+    let alloc = *legs.allocator();
+    match legs.pop() {
+        Some(leg) => send_only(
+            links,
+            &mut scratch.buffer,
+            routing,
+            sent_by(alloc, asker, leg),
+        ),
+        None => Ok(true),
+    }
 }
