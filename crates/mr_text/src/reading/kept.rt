@@ -165,7 +165,7 @@ impl KeptBytes {
     }
 
     /// Makes room for a piece of a large block, where there isn't enough: twice the room that there was, but no more than the block and
-    /// what may come behind it take, or than the piece needs.
+    /// what may come behind it take. Where more comes than that, nobody asks for the block, and the room is made as it is for lines.
     #[inline(always)]
     fn make_room(&mut self, count: usize) -> Result<(), AllocError>
         ensures { self.new ≡ self.old }
@@ -175,11 +175,11 @@ impl KeptBytes {
         }
         self.move_to_front();
         let needed = self.end.saturating_add(count);
-        if needed <= self.room.capacity() {
+        let most = self.awaited.saturating_add(MOST_BEHIND);
+        if needed <= self.room.capacity() || most < needed {
             return Ok(());
         }
         let doubled = self.room.capacity().saturating_mul(2);
-        let most = self.awaited.saturating_add(MOST_BEHIND);
         let room = needed.max(doubled.min(most));
         self.room
             .reserve_exact(room.saturating_sub(self.room.len()))
