@@ -61,6 +61,19 @@ fn readers_hold_one_line_or_block_at_most(rt: HostRuntime) {
     }
 }
 
+/// Eight megabytes come on in small pieces behind a large block that nobody asks for. Were all that is held moved for each piece, this
+/// would take minutes.
+#[test]
+fn what_comes_on_behind_a_large_block_is_moved_a_few_times(rt: HostRuntime) {
+    let mut reader = RequestReader::new(rt.alloc());
+    let line = b"set k 5 0 16384\r\n";
+    count_is(&rt, 0, must(&rt, held_behind(&mut reader, line)), 0);
+    for _ in 0..131_072 {
+        must(&rt, reader.feed(&[b'v'; 64]));
+    }
+    count_is(&rt, 1, reader.held(), 8_388_608);
+}
+
 #[test]
 fn bytes_are_held_until_they_are_read(rt: HostRuntime) {
     let mut reader = RequestReader::new(rt.alloc());
