@@ -3,8 +3,8 @@ use Rattle.std.specs.Prelude.{ℕ, List, codes}
 
 -- the line that tells it
 abbrev pub told_version : List ℕ
-told_version = codes "migctl 0.15.0\n"
+told_version = codes "migctl 0.15.1\n"
 
 -- its number
 abbrev pub told_number : List ℕ
-told_number = codes "0.15.0"
+told_number = codes "0.15.1"

@@ -22,7 +22,7 @@ macro_rules! version {
 }
 
 /// The version of the program: the newest of the changelog. `told_version` in `specs` has the same number.
-pub const VERSION: Version = version!("0.15.0");
+pub const VERSION: Version = version!("0.15.1");
 
 /// The line that tells the version of the program.
 pub fn version_line() -> &'static str
