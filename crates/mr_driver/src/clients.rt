@@ -41,6 +41,8 @@ pub(crate) struct Clients {
     told: VecDeque<usize>,
     /// Some are held back, which was heard.
     are_held: bool,
+    /// Some asked since that was looked at.
+    have_asked: bool,
     tally: Arc<Tally, Global>,
 }
 
@@ -64,6 +66,7 @@ impl Clients {
             last_ticket: 0,
             told: VecDeque::new(alloc),
             are_held: false,
+            have_asked: false,
             tally,
         })
     }
@@ -83,6 +86,13 @@ impl Clients {
         self.are_held || !self.told.is_empty()
     }
 
+    /// Whether some asked since this was looked at.
+    pub(crate) fn take_asked(&mut self) -> bool {
+        let have_asked = self.have_asked;
+        self.have_asked = false;
+        have_asked
+    }
+
     /// Whether nobody comes any more, and all that came have left.
     pub(crate) fn are_over(&self) -> bool {
         self.tally.is_over()
@@ -94,6 +104,7 @@ impl Clients {
     }
 
     /// A client is there no more. What it asked is told to nobody.
+    #[inline(never)]
     fn drop_client<M: Machine>(&mut self, machine: &mut M, place: usize) {
         if self.seats.try_remove(place).is_some() {
             self.tally.remove();
@@ -138,6 +149,7 @@ impl Clients {
     }
 
     /// One more client, whose socket never waits. It is closed where there is no memory for it.
+    #[inline(never)]
     pub(crate) fn admit<R: Net + Clock, E: Hears, M: Machine>(
         &mut self,
         engine: &mut Engine<'_, R, E, M>,
@@ -187,6 +199,7 @@ impl Clients {
     }
 
     /// Those who were silent for too long are there no more.
+    #[inline(never)]
     pub(crate) fn sweep_all<R: Net + Clock, E: Hears, M: Machine>(
         &mut self,
         engine: &mut Engine<'_, R, E, M>,

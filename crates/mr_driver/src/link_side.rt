@@ -38,8 +38,13 @@ pub trait LinkSide<M: Drop>: Drop {
     /// What the time does to the links, and to what went over them.
     fn tick_all<R: Net + Clock, E: Hears>(&mut self, engine: &mut Engine<'_, R, E, M>);
 
-    /// Writes over each link what is there for it.
-    fn write_all<R: Net + Clock, E: Hears>(&mut self, engine: &mut Engine<'_, R, E, M>);
+    /// Writes over each link what is there for it, where that may be more than at the last time: some clients have asked, or a link takes
+    /// bytes again.
+    fn write_all<R: Net + Clock, E: Hears>(
+        &mut self,
+        engine: &mut Engine<'_, R, E, M>,
+        have_asked: bool,
+    );
 }
 
 /// No links at all.
@@ -78,5 +83,9 @@ impl<M: Drop> LinkSide<M> for NoLinks {
 
     fn tick_all<R: Net + Clock, E: Hears>(&mut self, _engine: &mut Engine<'_, R, E, M>) {}
 
-    fn write_all<R: Net + Clock, E: Hears>(&mut self, _engine: &mut Engine<'_, R, E, M>) {}
+    fn write_all<R: Net + Clock, E: Hears>(
+        &mut self,
+        _engine: &mut Engine<'_, R, E, M>,
+        _have_asked: bool,
+    ) {}
 }

@@ -31,6 +31,8 @@ pub struct Links {
     freed: VecDeque<usize>,
     /// Time does something to one of them.
     is_timed: bool,
+    /// One of them takes bytes again, and wasn't written to since.
+    takes_again: bool,
 }
 
 /// The number that the system has for what went wrong; 0 for none.
@@ -55,10 +57,12 @@ impl Links {
             ready,
             freed,
             is_timed: true,
+            takes_again: false,
         })
     }
 
     /// Dials the node of a link.
+    #[inline(never)]
     fn dial<R: Net, M: Linked>(
         &mut self,
         rt: &R,
@@ -132,6 +136,7 @@ impl Links {
     }
 
     /// The link to a node has broken.
+    #[inline(never)]
     fn break_off<R: Net + Clock, E: Hears, M: Linked>(
         &mut self,
         engine: &mut Engine<'_, R, E, M>,
@@ -147,6 +152,7 @@ impl Links {
     }
 
     /// What became of a node that was dialled.
+    #[inline(never)]
     fn answer_dial<R: Net + Clock, E: Hears, M: Linked>(
         &mut self,
         engine: &mut Engine<'_, R, E, M>,
@@ -350,7 +356,11 @@ impl Links {
         let Some(link) = self.links.get_mut(number) else {
             return;
         };
+        let was_blocked = link.flow.is_blocked;
         link.flow.note(signs);
+        if was_blocked && !link.flow.is_blocked {
+            self.takes_again = true;
+        }
         if link.progress.is_dialed() {
             self.answer_dial(engine, number);
         }
@@ -373,6 +383,7 @@ impl Links {
     }
 
     /// What the time does to the links, and to what went over them.
+    #[inline(never)]
     pub(crate) fn tick_all<R: Net + Clock, E: Hears, M: Linked>(
         &mut self,
         engine: &mut Engine<'_, R, E, M>,
@@ -438,7 +449,14 @@ impl LinkSide<ProxyLoop> for Links {
         Links::tick_all(self, engine);
     }
 
-    fn write_all<R: Net + Clock, E: Hears>(&mut self, engine: &mut Engine<'_, R, E, ProxyLoop>) {
-        Links::write_all(self, engine);
+    fn write_all<R: Net + Clock, E: Hears>(
+        &mut self,
+        engine: &mut Engine<'_, R, E, ProxyLoop>,
+        have_asked: bool,
+    ) {
+        if have_asked || self.takes_again {
+            self.takes_again = false;
+            Links::write_all(self, engine);
+        }
     }
 }

@@ -74,6 +74,10 @@ pub trait Machine: Drop + Send {
     fn is_waiting(&self, place: usize) -> bool
         requires { place < place_count self.now };
 
+    /// Whether there is something that a client is to be told: bytes, or what is there for it.
+    fn is_to_be_told(&self, place: usize) -> bool
+        requires { place < place_count self.now };
+
     /// The place of a client for whom there is something that wasn't asked for yet. None where there is none.
     fn next_touched(&mut self) -> Option<usize>;
 

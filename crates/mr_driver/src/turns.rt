@@ -102,6 +102,7 @@ impl<'a, R: Net + Clock, E: Hears, M: Machine> EventLoop<'a, R, E, M> {
     }
 
     /// Takes what other threads have told.
+    #[inline(never)]
     fn take_mail(&mut self)
     where
         R: Wait,
@@ -151,7 +152,8 @@ impl<'a, R: Net + Clock, E: Hears, M: Machine> EventLoop<'a, R, E, M> {
         self.tick();
         self.clients.go_on(&mut self.engine, &mut self.links);
         self.clients.serve_all(&mut self.engine, input);
-        self.links.write_all(&mut self.engine);
+        let have_asked = self.clients.take_asked();
+        self.links.write_all(&mut self.engine, have_asked);
         self.clients.tell_all(&mut self.engine);
         self.sweep();
         Ok(())

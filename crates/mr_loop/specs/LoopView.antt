@@ -17,7 +17,7 @@ use Rattle.mr_counting.specs.Counting.{one_more}
 use Rattle.mr_counting.specs.declared.proxy_counts.ProxyCounts.{ProxyCounts}
 use Rattle.mr_loop.specs.Counts.{no_link_counts, dial_counted}
 use Rattle.mr_loop.specs.Events.{FrontView, Event, after_all, after_event, fresh_front}
-use Rattle.mr_loop.specs.Turns.{fresh_client}
+use Rattle.mr_loop.specs.Turns.{fresh_client, is_first_ready}
 use Rattle.mr_loop.specs.Links.{down_link, up_link}
 use Rattle.mr_loop.specs.Inboxes.{fresh_inbox}
 use Rattle.mr_loop.specs.Returning.{TakesBytes, Breaks}
@@ -166,6 +166,11 @@ is_idle_in (Some client) = is_nothing client.turns && is_nothing client.out
 abbrev pub is_waiting_in : Option Client → Bool
 is_waiting_in None = false
 is_waiting_in (Some client) = is_nothing client.out && not (is_nothing client.turns)
+
+-- there is something that the client of a place is to be told: bytes, or what its first request came to
+abbrev pub is_to_be_told_in : Option Client → Bool
+is_to_be_told_in None = false
+is_to_be_told_in (Some client) = not (is_nothing client.out) || is_first_ready client.turns
 
 -- so many bytes were written to a client
 pub record ClientRead (client count : ℕ) (old new : LoopView) : Type 0 where

@@ -1,5 +1,5 @@
 -- The requests of one client in order, and what it is told of them.
-use Rattle.std.specs.Prelude.{ℕ, Bool, false, List, [], ◌∷◌, ◌++◌, Option, Some, None, position, slice_set, if◌then◌else◌}
+use Rattle.std.specs.Prelude.{ℕ, Bool, false, List, [], ◌∷◌, ◌++◌, Option, Some, None, is_some, position, slice_set, if◌then◌else◌}
 use Rattle.mr_text.specs.Canonical.{canonical_reply}
 use Rattle.mr_history.specs.OpIds.{is_same_op}
 use Rattle.mr_history.specs.declared.op_id.OpId.{OpId}
@@ -33,6 +33,11 @@ noted_in turns (Some at) answer = slice_set turns at (Answered answer)
 -- the answer stands at the turn of its request
 abbrev pub noted : AnswerView → List Turn → List Turn
 noted answer turns = noted_in turns (position (is_turn_of answer.op) turns) answer
+
+-- what the client is told of its first request is there
+abbrev pub is_first_ready : List Turn → Bool
+is_first_ready [] = false
+is_first_ready (turn ∷ turns) = is_some (text_of_turn turn)
 
 -- a turn's text before that of the later ones; none of them where this one has none
 abbrev pub text_before : Option (List ℕ) → List ℕ → List ℕ

@@ -5,7 +5,7 @@ ghost use Rattle.mr_proxy.specs.declared.step.Step.TheVariants.{GiveUp};
 ghost use Rattle.mr_text.specs.declared.cause.Cause.TheVariants.{ClockFault};
 ghost use Rattle.mr_loop.specs.Asking.{denial, denial_of, is_behind, is_full, tells};
 ghost use Rattle.mr_loop.specs.Events.{Event, after_all, after_event, changed, with_answer, fresh_front};
-ghost use Rattle.mr_loop.specs.LoopView.{output_in, is_idle_in, is_waiting_in};
+ghost use Rattle.mr_loop.specs.LoopView.{output_in, is_idle_in, is_waiting_in, is_to_be_told_in};
 ghost use Rattle.mr_loop.specs.Returning.{taking};
 ghost use Rattle.mr_loop.specs.Turns.{fresh_client};
 ghost use Rattle.mr_loop.specs.steps.Asking.{IssuesSo, IsWithdrawn, cause_of};
@@ -332,6 +332,16 @@ impl Front {
     {
         let client = &self.clients[client];
         client.out.len() == 0 && client.turns.len() > 0
+    }
+
+    /// Whether there is something that a client is to be told: bytes, or what its first request came to.
+    #[inline(always)]
+    pub(crate) fn is_to_be_told(&self, client: usize) -> bool
+        requires { client < length self.now.clients }
+        ensures { result ≡ is_to_be_told_in (slice_get self.now.clients client) }
+    {
+        let client = &self.clients[client];
+        client.out.len() > 0 || client.turns.is_first_ready()
     }
 
     /// So many bytes were written to a client.

@@ -3,7 +3,7 @@ ghost use Rattle.std.specs.Prelude.{◌≡◌, ◌<◌, ◌≤◌, ◌&&◌, len
 ghost use Rattle.mr_loop.specs.Events.{after_all};
 ghost use Rattle.mr_loop.specs.Counts.{no_link_counts};
 ghost use Rattle.mr_loop.specs.Links.{is_up_at, down_link};
-ghost use Rattle.mr_loop.specs.LoopView.{LinkBytes, LinkBreaks, LinkWrote, LinkComesUp, LinkDialed, ClientBytes, ClientEnds, ClientRead, fresh_loop, client_flushed, refreshed, after_coming, after_leaving, told_counts, with_place, after_tick, output_in, is_idle_in, is_waiting_in, link_output_in, link_counts_in, is_done_in, asker_of, IsAsked};
+ghost use Rattle.mr_loop.specs.LoopView.{LinkBytes, LinkBreaks, LinkWrote, LinkComesUp, LinkDialed, ClientBytes, ClientEnds, ClientRead, fresh_loop, client_flushed, refreshed, after_coming, after_leaving, told_counts, with_place, after_tick, output_in, is_idle_in, is_waiting_in, is_to_be_told_in, link_output_in, link_counts_in, is_done_in, asker_of, IsAsked};
 ghost use Rattle.mr_loop.specs.NoReading.{ClientBytesDenied, ClientEndDenied};
 ghost use Rattle.mr_loop.specs.Ticking.{ticked, ticks, given_up_at};
 
@@ -307,6 +307,14 @@ impl ProxyLoop {
         ensures { result ≡ is_waiting_in (slice_get self.now.front.clients client) }
     {
         self.front.is_waiting(client)
+    }
+
+    /// Whether there is something that a client is to be told: bytes, or what its first request came to.
+    pub fn is_to_be_told(&self, client: usize) -> bool
+        requires { client < length self.now.front.clients }
+        ensures { result ≡ is_to_be_told_in (slice_get self.now.front.clients client) }
+    {
+        self.front.is_to_be_told(client)
     }
 
     /// The place of a client for whom there is an answer that wasn't asked for yet, each as often as there is one; None

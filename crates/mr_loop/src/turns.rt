@@ -50,6 +50,7 @@ impl Turn {
     }
 
     /// Whether what the client is told of it is there.
+    #[inline(always)]
     pub fn is_ready(&self) -> bool
         ensures { result ≡ is_some (text_of_turn self.now) }
     {
@@ -84,7 +85,7 @@ impl Model for Turns {
 }
 
 impl Turns {
-    ghost use Rattle.mr_loop.specs.Turns.{noted, is_turn_of};
+    ghost use Rattle.mr_loop.specs.Turns.{noted, is_turn_of, is_first_ready};
     ghost use Rattle.mr_loop.specs.Held.{held_by_turn};
     ghost use Rattle.mr_loop.specs.steps.Denying.{denied};
 
@@ -191,6 +192,17 @@ impl Turns {
         ensures { option_copied result ≡ slice_get self.now 0 }
     {
         self.queue.front()
+    }
+
+    /// Whether what the client is told of the first request is there.
+    #[inline(always)]
+    pub fn is_first_ready(&self) -> bool
+        ensures { result ≡ is_first_ready self.now }
+    {
+        match self.front() {
+            Some(turn) => turn.is_ready(),
+            None => false,
+        }
     }
 
     /// The first request leaves.

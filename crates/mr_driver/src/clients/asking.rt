@@ -30,8 +30,8 @@ impl Clients {
         }
     }
 
-    /// How a client stands that asked. `held_before` requests had been held back until then: so it is known whether the one that is
-    /// held back now was tried in vain.
+    /// How a client stands that asked. It is told what is there, and leaves where it isn't read any more. `held_before` requests had been
+    /// held back until then: so it is known whether the one that is held back now was tried in vain.
     fn stand<R: Net + Clock, E: Hears, M: Machine>(
         &mut self,
         engine: &mut Engine<'_, R, E, M>,
@@ -52,7 +52,21 @@ impl Clients {
         if standing.is_held() && !standing.keeps_place(was, is_same) {
             self.hold(engine, place, standing);
         }
-        self.make_told(place);
+        if standing == Standing::Done
+            || (place < engine.machine.places() && engine.machine.is_to_be_told(place))
+        {
+            self.make_told(place);
+        }
+    }
+
+    /// A client asks, so that something may have to go over the links. Gives how many requests were held back until now, and what the
+    /// clock of phases reads.
+    fn begin<R: Net + Clock, E: Hears, M: Machine>(
+        &mut self,
+        engine: &mut Engine<'_, R, E, M>,
+    ) -> (u64, Option<u64>) {
+        self.have_asked = true;
+        (engine.machine.held_back(), engine.reading())
     }
 
     /// Bytes of a client, or none where it goes on with what it sent before. One for whom there is no memory is there no more.
@@ -62,8 +76,7 @@ impl Clients {
         place: usize,
         bytes: &[u8],
     ) {
-        let held_before = engine.machine.held_back();
-        let reading = engine.reading();
+        let (held_before, reading) = self.begin(engine);
         if place >= engine.machine.places() {
             return self.drop_client(&mut engine.machine, place);
         }
@@ -80,13 +93,13 @@ impl Clients {
     }
 
     /// A client sends no more.
+    #[inline(never)]
     fn end_input<R: Net + Clock, E: Hears, M: Machine>(
         &mut self,
         engine: &mut Engine<'_, R, E, M>,
         place: usize,
     ) {
-        let held_before = engine.machine.held_back();
-        let reading = engine.reading();
+        let (held_before, reading) = self.begin(engine);
         if place >= engine.machine.places() {
             return self.drop_client(&mut engine.machine, place);
         }

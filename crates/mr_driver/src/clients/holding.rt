@@ -76,6 +76,7 @@ impl Clients {
     }
 
     /// A client is held back, behind those who are. One for whom there is no place among them is there no more.
+    #[inline(never)]
     pub(super) fn hold<R: Net + Clock, E: Hears, M: Machine>(
         &mut self,
         engine: &mut Engine<'_, R, E, M>,
@@ -173,6 +174,7 @@ impl Clients {
     }
 
     /// Those who are held back go on, the first one first, as long as there is room.
+    #[inline(never)]
     fn try_all_held<R: Net + Clock, E: Hears, M: Machine>(
         &mut self,
         engine: &mut Engine<'_, R, E, M>,

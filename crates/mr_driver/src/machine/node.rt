@@ -1,7 +1,7 @@
 //! A node's loop as a machine that is driven: it answers at once, so that nothing but a client's own unread answers, or want of memory,
 //! holds that client back.
 ghost use Rattle.std.specs.Prelude.{◌≡◌, true, None, ◌<◌, ◌≤◌, length, slice_get, IfOk, OnOk, OnErr};
-ghost use Rattle.mr_loop.specs.node.NodeView.{NodeWrote, after_node_coming, after_node_leaving, is_finished_in, is_waiting_in, out_in, with_node_place};
+ghost use Rattle.mr_loop.specs.node.NodeView.{NodeWrote, after_node_coming, after_node_leaving, is_finished_in, is_to_be_told_in, is_waiting_in, out_in, with_node_place};
 ghost use Rattle.mr_driver.specs.Machines.{BytesServed, EndServed, pause_of};
 
 use crate::link_side::NoLinks;
@@ -118,6 +118,13 @@ impl<C: Cache + Drop + Send> Machine for NodeLoop<C> {
         ensures { result ≡ is_waiting_in (slice_get self.now.clients place) }
     {
         NodeLoop::is_waiting(self, place)
+    }
+
+    fn is_to_be_told(&self, place: usize) -> bool
+        requires { place < length self.now.clients }
+        ensures { result ≡ is_to_be_told_in (slice_get self.now.clients place) }
+    {
+        NodeLoop::is_to_be_told(self, place)
     }
 
     fn next_touched(&mut self) -> Option<usize>

@@ -1,6 +1,6 @@
 //! A proxy's loop as a machine that is driven.
 ghost use Rattle.std.specs.Prelude.{◌≡◌, ◌<◌, ◌≤◌, ◌&&◌, length, slice_get, IfOk, OnOk, OnErr};
-ghost use Rattle.mr_loop.specs.LoopView.{ClientRead, IsAsked, after_coming, after_leaving, client_flushed, is_done_in, is_idle_in, is_waiting_in, output_in, with_place};
+ghost use Rattle.mr_loop.specs.LoopView.{ClientRead, IsAsked, after_coming, after_leaving, client_flushed, is_done_in, is_idle_in, is_to_be_told_in, is_waiting_in, output_in, with_place};
 ghost use Rattle.mr_driver.specs.Machines.{BytesAsked, EndAsked, has_room_in};
 ghost use Rattle.mr_driver.specs.Reports.{TellsOf};
 
@@ -104,6 +104,13 @@ impl Machine for ProxyLoop {
         ensures { result ≡ is_waiting_in (slice_get self.now.front.clients place) }
     {
         ProxyLoop::is_waiting(self, place)
+    }
+
+    fn is_to_be_told(&self, place: usize) -> bool
+        requires { place < length self.now.front.clients }
+        ensures { result ≡ is_to_be_told_in (slice_get self.now.front.clients place) }
+    {
+        ProxyLoop::is_to_be_told(self, place)
     }
 
     fn next_touched(&mut self) -> Option<usize>

@@ -1,5 +1,5 @@
 -- A node's loop as contracts see it, and what each thing that happens does to it.
-use Rattle.std.specs.Prelude.{◌≡◌, ℕ, Bool, true, false, ◌&&◌, List, [], ◌∷◌, ◌++◌, drop, Option, Some, None, is_none, is_some, slice_get, slice_set}
+use Rattle.std.specs.Prelude.{◌≡◌, ℕ, Bool, true, false, ◌&&◌, ◌||◌, not, List, [], ◌∷◌, ◌++◌, drop, Option, Some, None, is_none, is_some, slice_get, slice_set}
 use Rattle.mr_counting.specs.Counting.{one_more}
 use Rattle.mr_loop.specs.declared.inbox.Inbox.{Inbox}
 use Rattle.mr_loop.specs.declared.node.client.NodeClient.{NodeClient}
@@ -98,3 +98,12 @@ is_waiting client = is_nothing client.out && is_some client.due
 abbrev pub is_waiting_in : Option NodeClient → Bool
 is_waiting_in None = false
 is_waiting_in (Some client) = is_waiting client
+
+-- there is something that the client is to be told: bytes, or what there was no memory to tell it
+abbrev pub is_to_be_told : NodeClient → Bool
+is_to_be_told client = not (is_nothing client.out) || is_some client.due
+
+-- so it is with the client of a place
+abbrev pub is_to_be_told_in : Option NodeClient → Bool
+is_to_be_told_in None = false
+is_to_be_told_in (Some client) = is_to_be_told client

@@ -2,7 +2,7 @@
 ghost use Rattle.std.specs.Prelude.{◌≡◌, ◌++◌, None, IsSome, OnOk, OnErr};
 ghost use Rattle.mr_text.specs.Canonical.{canonical_reply};
 ghost use Rattle.mr_loop.specs.node.Serving.{to_tell};
-ghost use Rattle.mr_loop.specs.node.NodeView.{fresh_node_client, is_finished, is_waiting};
+ghost use Rattle.mr_loop.specs.node.NodeView.{fresh_node_client, is_finished, is_waiting, is_to_be_told};
 
 use crate::inbox::Inbox;
 use crate::out_buffer::OutBuffer;
@@ -44,6 +44,13 @@ impl NodeClient {
         ensures { result ≡ is_waiting self.now }
     {
         self.out.len() == 0 && self.due.is_some()
+    }
+
+    /// Whether there is something that it is to be told: bytes, or what there was no memory to tell it.
+    pub(crate) fn is_to_be_told(&self) -> bool
+        ensures { result ≡ is_to_be_told self.now }
+    {
+        self.out.len() > 0 || self.due.is_some()
     }
 
     /// Tells it this behind the rest. Where there is no memory for its text, it is due.

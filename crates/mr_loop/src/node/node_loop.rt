@@ -1,7 +1,7 @@
 //! The loop of a node: what each thing that happens does to the cache and to the clients.
 ghost use Rattle.std.specs.Prelude.{◌≡◌, ◌<◌, ◌≤◌, length, slice_get, IfOk, OnOk, OnErr, MatchResult};
 ghost use Rattle.mr_loop.specs.node.Cache.{Does, clock_fails};
-ghost use Rattle.mr_loop.specs.node.NodeView.{NodeBytes, NodeEnds, NodeWrote, fresh_node, with_node_place, after_node_coming, after_node_leaving, out_in, is_finished_in, is_waiting_in};
+ghost use Rattle.mr_loop.specs.node.NodeView.{NodeBytes, NodeEnds, NodeWrote, fresh_node, with_node_place, after_node_coming, after_node_leaving, out_in, is_finished_in, is_waiting_in, is_to_be_told_in};
 
 use crate::node::cache::Cache;
 use crate::node::client::NodeClient;
@@ -225,5 +225,13 @@ impl<C: Cache> NodeLoop<C> {
         ensures { result ≡ is_waiting_in (slice_get self.now.clients client) }
     {
         self.clients[client].is_waiting()
+    }
+
+    /// Whether there is something that a client is to be told: bytes, or what there was no memory to tell it.
+    pub fn is_to_be_told(&self, client: usize) -> bool
+        requires { client < length self.now.clients }
+        ensures { result ≡ is_to_be_told_in (slice_get self.now.clients client) }
+    {
+        self.clients[client].is_to_be_told()
     }
 }

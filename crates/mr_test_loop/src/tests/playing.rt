@@ -31,6 +31,8 @@ pub(super) enum Step {
     IsFinished(usize, bool),
     /// Whether a client waits for answers, and took all that it was told.
     IsWaiting(usize, bool),
+    /// Whether there is something that a client is to be told.
+    IsToBeTold(usize, bool),
     /// A connection is made.
     Up(usize),
     /// A connection breaks.
@@ -132,6 +134,13 @@ fn is_waiting(rt: &impl Abort, proxy: &ProxyLoop, client: usize) -> bool {
     proxy.is_waiting(client)
 }
 
+fn is_to_be_told(rt: &impl Abort, proxy: &ProxyLoop, client: usize) -> bool {
+    if client >= proxy.places() {
+        rt.panic("no such place");
+    }
+    proxy.is_to_be_told(client)
+}
+
 fn comes_up(rt: &impl Abort, run: &mut Run, node: usize) {
     if node >= run.proxy.links() {
         rt.panic("no such link");
@@ -186,6 +195,12 @@ fn take(rt: &impl Abort, row: usize, run: &mut Run, step: Step) {
             is_so,
         ),
         Step::IsWaiting(client, is_so) => holds(rt, row, is_waiting(rt, &run.proxy, client), is_so),
+        Step::IsToBeTold(client, is_so) => holds(
+            rt,
+            row,
+            is_to_be_told(rt, &run.proxy, client),
+            is_so,
+        ),
         step => take_of_link(rt, row, run, step),
     }
 }

@@ -177,3 +177,35 @@ static WAITS: [Step; 13] = [
 fn client_waits_that_has_read_all(rt: HostRuntime) {
     let _ = play(&rt, rt.alloc(), 8, WIDE, &WAITS);
 }
+
+/// A client is to be told something where the first of its requests is answered, also by no text, or isn't begun; not where a later one is
+/// answered before it, or another client's is. It is so until it has read all.
+static TO_BE_TOLD: [Step; 22] = [
+    IsToBeTold(0, false),
+    Sends(0, b"get k\r\nget b\r\n", Pause::NeedsBytes),
+    IsToBeTold(0, false),
+    Says(0, b"END\r\n", LinkEnd::Whole),
+    IsToBeTold(0, false),
+    Says(1, b"END\r\n", LinkEnd::Whole),
+    IsToBeTold(0, true),
+    IsToBeTold(1, false),
+    Flushes(0),
+    IsToBeTold(0, true),
+    Told(0, b"END\r\nEND\r\n"),
+    IsToBeTold(0, false),
+    Sends(0, b"delete k noreply\r\n", Pause::NeedsBytes),
+    IsToBeTold(0, false),
+    Says(1, b"DELETED\r\n", LinkEnd::Whole),
+    IsToBeTold(0, true),
+    Flushes(0),
+    IsToBeTold(0, false),
+    Sends(0, b"incr k 1\r\n", Pause::NeedsBytes),
+    IsToBeTold(0, true),
+    Told(0, b"ERROR\r\n"),
+    IsToBeTold(0, false),
+];
+
+#[test]
+fn client_is_told_of_its_first_requests(rt: HostRuntime) {
+    let _ = play(&rt, rt.alloc(), 8, WIDE, &TO_BE_TOLD);
+}

@@ -29,6 +29,8 @@ pub(super) enum Step {
     IsFinished(usize, bool),
     /// Whether a client took all that it was told, and is owed more.
     IsWaiting(usize, bool),
+    /// Whether there is something that a client is to be told.
+    IsToBeTold(usize, bool),
 }
 
 /// A cache with the readings at which it was asked, one for each call.
@@ -156,6 +158,13 @@ fn is_waiting<C: Cache>(rt: &impl Abort, node: &NodeLoop<C>, client: usize) -> b
     node.is_waiting(client)
 }
 
+fn is_to_be_told<C: Cache>(rt: &impl Abort, node: &NodeLoop<C>, client: usize) -> bool {
+    if client >= node.places() {
+        rt.panic("no such place");
+    }
+    node.is_to_be_told(client)
+}
+
 /// Lets one thing happen, or looks at it. The reading from then on.
 fn take<C: Cache>(
     rt: &impl Abort,
@@ -179,6 +188,7 @@ fn take<C: Cache>(
         Step::Told(client, text) => is_told(rt, row, node, client, text),
         Step::IsFinished(client, is_so) => holds(rt, row, is_finished(rt, node, client), is_so),
         Step::IsWaiting(client, is_so) => holds(rt, row, is_waiting(rt, node, client), is_so),
+        Step::IsToBeTold(client, is_so) => holds(rt, row, is_to_be_told(rt, node, client), is_so),
     }
     reading
 }

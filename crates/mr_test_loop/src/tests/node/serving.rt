@@ -122,7 +122,7 @@ fn clients_share_the_cache_and_nothing_else(rt: HostRuntime) {
 }
 
 /// While more than the bound of its answers is unread, no further request of a client is served; the others are.
-static UNREAD: [Step; 13] = [
+static UNREAD: [Step; 16] = [
     Sends(
         0,
         b"get a\r\nget a\r\nget a\r\ndelete a\r\n",
@@ -132,8 +132,11 @@ static UNREAD: [Step; 13] = [
     Reads(101),
     Sends(0, b"", NodePause::NeedsReader),
     IsWaiting(0, false),
+    IsToBeTold(0, true),
     Told(0, b"END\r\nEND\r\n"),
     IsWaiting(0, false),
+    IsToBeTold(0, false),
+    IsToBeTold(1, true),
     Sends(0, b"", NodePause::NeedsReader),
     Told(0, b"VALUE a 0 1\r\nx\r\nEND\r\n"),
     Sends(0, b"qu", NodePause::NeedsReader),
